@@ -40,40 +40,40 @@ record AreSides (master slave : Side) : Type 0 where
   to_master : master ≡ other slave
 
 send_alternates : (master slave : Side) (digests : Bool) (source target user : List ℕ) (temp : Option (List ℕ))
-    (file : Option File) (verdict : Verdict) (immovable : Bool) (next : List Move) (rest : List Turn)
+    (file : Option File) (name : List ℕ) (verdict : Verdict) (immovable : Bool) (next : List Move) (rest : List Turn)
     → AreSides master slave → AreMasters master rest
-    → AreMasters master (send_exchange master slave digests source target user temp file verdict immovable next rest)
-send_alternates master slave digests source target user temp None verdict immovable next rest s h = h
-send_alternates master slave digests source target user temp (Some file) Never immovable next rest s h = record {
+    → AreMasters master (send_exchange master slave digests source target user temp file name verdict immovable next rest)
+send_alternates master slave digests source target user temp None name verdict immovable next rest s h = h
+send_alternates master slave digests source target user temp (Some file) name Never immovable next rest s h = record {
   begins = (refl, order.Send source target user temp file.mode, told_of digests (Some file), refl);
   alternate = (inl s.to_slave, (by_other (moving slave (the_answer answer.SendNever) (fail ∷ next)) master rest s.to_master h.begins, h.alternate));
 }
-send_alternates master slave digests source target user temp (Some file) Later immovable next rest s h = record {
+send_alternates master slave digests source target user temp (Some file) name Later immovable next rest s h = record {
   begins = (refl, order.Send source target user temp file.mode, told_of digests (Some file), refl);
   alternate = (inl s.to_slave, (by_other (moving slave (the_answer answer.SendLater) (pass ∷ next)) master rest s.to_master h.begins, h.alternate));
 }
-send_alternates master slave digests source target user temp (Some file) Yes false next rest s h = record {
+send_alternates master slave digests source target user temp (Some file) name Yes false next rest s h = record {
   begins = (refl, order.Send source target user temp file.mode, told_of digests (Some file), refl);
   alternate = (inl s.to_slave, (inl s.to_master, (inl s.to_slave, (by_other (moving slave (the_answer answer.DoneYes) (strike ∷ next)) master rest s.to_master h.begins, h.alternate))));
 }
-send_alternates master slave digests source target user temp (Some file) Yes true next rest s h = record {
+send_alternates master slave digests source target user temp (Some file) name Yes true next rest s h = record {
   begins = (refl, order.Send source target user temp file.mode, told_of digests (Some file), refl);
   alternate = (inl s.to_slave, (inl s.to_master, (inl s.to_slave, (by_other (moving slave (the_answer answer.DoneNever) (fail ∷ next)) master rest s.to_master h.begins, h.alternate))));
 }
 
-request_alternates : (master slave : Side) (digests : Bool) (source target user : List ℕ) (file : Option File) (immovable : Bool)
+request_alternates : (master slave : Side) (digests : Bool) (source target user : List ℕ) (file : Option File) (name : List ℕ) (immovable : Bool)
     (next : List Move) (rest : List Turn)
     → AreSides master slave → AreMasters master rest
-    → AreMasters master (request_exchange master slave digests source target user file immovable next rest)
-request_alternates master slave digests source target user None immovable next rest s h = record {
+    → AreMasters master (request_exchange master slave digests source target user file name immovable next rest)
+request_alternates master slave digests source target user None name immovable next rest s h = record {
   begins = (refl, order.Request source target user, None, refl);
   alternate = (inl s.to_slave, (by_other (moving slave (the_answer answer.GiveNever) (fail ∷ next)) master rest s.to_master h.begins, h.alternate));
 }
-request_alternates master slave digests source target user (Some file) false next rest s h = record {
+request_alternates master slave digests source target user (Some file) name false next rest s h = record {
   begins = (refl, order.Request source target user, None, refl);
   alternate = (inl s.to_slave, (inr (refl, with_file), (inl s.to_master, (by_same (plain master (the_answer answer.DoneYes)) rest (λ o told. after_done) h.begins, h.alternate))));
 }
-request_alternates master slave digests source target user (Some file) true next rest s h = record {
+request_alternates master slave digests source target user (Some file) name true next rest s h = record {
   begins = (refl, order.Request source target user, None, refl);
   alternate = (inl s.to_slave, (inr (refl, with_file), (inl s.to_master, (by_same (plain master (the_answer answer.DoneNever)) rest (λ o told. after_never) h.begins, h.alternate))));
 }
@@ -82,11 +82,11 @@ exchanges_alternate : (master slave : Side) (own others : Holdings) (jobs : List
     → AreSides master slave → AreMasters master rest → AreMasters master (exchanges master slave own others jobs rest)
 exchanges_alternate master slave own others [] rest s h = h
 exchanges_alternate master slave own others (job.Send source target user temp ∷ jobs) rest s h =
-    send_alternates master slave own.digests source target user temp (to_give own (fetched_by source temp)) (others.verdict target)
-    (others.immovable target) (choice own jobs).failing (exchanges master slave own others jobs rest) s
+    send_alternates master slave own.digests source target user temp (to_give own (fetched_by source temp)) (others.landing source target) (others.verdict (others.landing source target))
+    (others.immovable (others.landing source target)) (choice own jobs).failing (exchanges master slave own others jobs rest) s
     (exchanges_alternate master slave own others jobs rest s h)
 exchanges_alternate master slave own others (job.Request source target user ∷ jobs) rest s h =
-    request_alternates master slave others.digests source target user (to_give others source) (own.immovable target)
+    request_alternates master slave others.digests source target user (to_give others source) (own.landing source target) (own.immovable (own.landing source target))
     (choice own jobs).failing (exchanges master slave own others jobs rest) s
     (exchanges_alternate master slave own others jobs rest s h)
 

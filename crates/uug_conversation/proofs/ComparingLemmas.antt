@@ -9,7 +9,7 @@ use Rattle.uug_talk.specs.declared.error.BadText.{BadText}
 use Rattle.uug_talk.specs.declared.order.Order.{Order}
 use Rattle.uug_talk.specs.declared.order.Order.TheVariants as order
 use Rattle.uug_talk.specs.Answer.{answer_of}
-use Rattle.uug_talk.specs.Gathering.{Kind, OfCommand, OfFile, Gathering, limit_of}
+use Rattle.uug_talk.specs.Gathering.{Kind, OfFile, Gathering, limit_of}
 use Rattle.uug_talk.specs.Order.{order_of}
 use Rattle.uug_talk.specs.Unread.{refusal_of}
 use Rattle.uug_conversation.specs.declared.awaits.Awaits.{Awaits}
@@ -57,8 +57,8 @@ module _ (told : FileDigest) where
   file_of_fits : (h : Holdings) (jobs : List Job) (mode : ℕ) (bytes : List ℕ) (l : Lists) →
       AllFit told (on_file_of h jobs mode (Some told) bytes l).keeps
   file_of_fits h (job.Request source target user ∷ jobs) mode bytes l =
-      asked_fits h (file_verdict h target (Some told) bytes) (record { name = target; mode = mode; bytes = bytes }) l
-      (yes_fits h target bytes)
+      asked_fits h (file_verdict h (h.landing source target) (Some told) bytes) (record { name = h.landing source target; mode = mode; bytes = bytes }) l
+      (yes_fits h (h.landing source target) bytes)
   file_of_fits h _ mode bytes l = none_fits
 
   whole_fits : (h : Holdings) (w : Awaits) (bytes : List ℕ) (l : Lists) → told_awaited w ≡ Some told →
@@ -138,7 +138,7 @@ after_unread told _ _ l = tt
 
 after_order : (h : Holdings) (refusal : Option Answer) (told : Option FileDigest) (read : Result Order BadText) (l : Lists) →
     HasHeard told (on_order h refusal told read l).state.awaits
-after_order h refusal told (Ok (order.Send source target user temp mode)) l = after_send (send_verdict h target told) target mode told l
+after_order h refusal told (Ok (order.Send source target user temp mode)) l = after_send (send_verdict h (h.landing source target) told) (h.landing source target) mode told l
 after_order h refusal told (Ok (order.Request source target user)) l = after_request told h.digests (to_give h source) l
 after_order h refusal told (Ok order.HangUp) l =
     after_hang_up told h (choice h l.ahead).next (moved (choice h l.ahead).failing l)

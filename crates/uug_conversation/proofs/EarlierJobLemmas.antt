@@ -87,7 +87,7 @@ unread_behind x y _ _ l = refl
 
 order_behind : (x y : List Job) (h : Holdings) (refusal : Option Answer) (told : Option FileDigest) (read : Result Order BadText)
     (l : Lists) → on_order h refusal told read (behind x y l) ≡ reply_behind x y (on_order h refusal told read l)
-order_behind x y h refusal told (Ok (order.Send source target user temp mode)) l = send_behind x y (send_verdict h target told) target mode told l
+order_behind x y h refusal told (Ok (order.Send source target user temp mode)) l = send_behind x y (send_verdict h (h.landing source target) told) (h.landing source target) mode told l
 order_behind x y h refusal told (Ok (order.Request source target user)) l = request_behind x y h.digests (to_give h source) l
 order_behind x y h refusal told (Ok order.HangUp) l =
     ap (on_hang_up h (choice h l.ahead).next) (moved_behind x y (choice h l.ahead).failing l)
@@ -189,7 +189,7 @@ asked_file_behind x y h Later file l = goes_on_after x y h pass l (the_answer an
 file_of_behind : (x y : List Job) (h : Holdings) (jobs : List Job) (mode : ℕ) (told : Option FileDigest) (bytes : List ℕ) (l : Lists) →
     on_file_of h jobs mode told bytes (behind x y l) ≡ reply_behind x y (on_file_of h jobs mode told bytes l)
 file_of_behind x y h (job.Request source target user ∷ jobs) mode told bytes l =
-    asked_file_behind x y h (file_verdict h target told bytes) (record { name = target; mode = mode; bytes = bytes }) l
+    asked_file_behind x y h (file_verdict h (h.landing source target) told bytes) (record { name = h.landing source target; mode = mode; bytes = bytes }) l
 file_of_behind x y h _ mode told bytes l = refl
 
 file_behind : (x y : List Job) (h : Holdings) (awaited : Awaits) (bytes : List ℕ) (l : Lists) →

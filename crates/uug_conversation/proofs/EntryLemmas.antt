@@ -24,36 +24,36 @@ abbrev OfSilence : (Turn → Type 0) → Type 0
 OfSilence W = (t : Turn) → t.keeps ≡ [] → W t
 
 send_entries : (W : Turn → Type 0) → OfSilence W → (master slave : Side) (digests : Bool) (source target user : List ℕ) (temp : Option (List ℕ))
-    (file : Option File) (verdict : Verdict) (immovable : Bool) (next : List Move) (rest : List Turn)
-    → ((f : File) → file ≡ Some f → W (keeping master target f [])) → EachTurn W rest
-    → EachTurn W (send_exchange master slave digests source target user temp file verdict immovable next rest)
-send_entries W w master slave digests source target user temp None verdict immovable next rest h r = r
-send_entries W w master slave digests source target user temp (Some file) Never immovable next rest h r =
+    (file : Option File) (name : List ℕ) (verdict : Verdict) (immovable : Bool) (next : List Move) (rest : List Turn)
+    → ((f : File) → file ≡ Some f → W (keeping master name f [])) → EachTurn W rest
+    → EachTurn W (send_exchange master slave digests source target user temp file name verdict immovable next rest)
+send_entries W w master slave digests source target user temp None name verdict immovable next rest h r = r
+send_entries W w master slave digests source target user temp (Some file) name Never immovable next rest h r =
     (w _ refl, (w _ refl, r))
-send_entries W w master slave digests source target user temp (Some file) Later immovable next rest h r =
+send_entries W w master slave digests source target user temp (Some file) name Later immovable next rest h r =
     (w _ refl, (w _ refl, r))
-send_entries W w master slave digests source target user temp (Some file) Yes false next rest h r =
+send_entries W w master slave digests source target user temp (Some file) name Yes false next rest h r =
     (w _ refl, (w _ refl, (h file refl, (w _ refl, r))))
-send_entries W w master slave digests source target user temp (Some file) Yes true next rest h r =
+send_entries W w master slave digests source target user temp (Some file) name Yes true next rest h r =
     (w _ refl, (w _ refl, (w _ refl, (w _ refl, r))))
 
 request_entries : (W : Turn → Type 0) → OfSilence W → (master slave : Side) (digests : Bool) (source target user : List ℕ)
-    (file : Option File) (immovable : Bool) (next : List Move) (rest : List Turn)
-    → ((f : File) (moves : List Move) → file ≡ Some f → W (keeping slave target f moves)) → EachTurn W rest
-    → EachTurn W (request_exchange master slave digests source target user file immovable next rest)
-request_entries W w master slave digests source target user None immovable next rest h r =
+    (file : Option File) (name : List ℕ) (immovable : Bool) (next : List Move) (rest : List Turn)
+    → ((f : File) (moves : List Move) → file ≡ Some f → W (keeping slave name f moves)) → EachTurn W rest
+    → EachTurn W (request_exchange master slave digests source target user file name immovable next rest)
+request_entries W w master slave digests source target user None name immovable next rest h r =
     (w _ refl, (w _ refl, r))
-request_entries W w master slave digests source target user (Some file) false next rest h r =
+request_entries W w master slave digests source target user (Some file) name false next rest h r =
     (w _ refl, (w _ refl, (h file (strike ∷ next) refl, (w _ refl, r))))
-request_entries W w master slave digests source target user (Some file) true next rest h r =
+request_entries W w master slave digests source target user (Some file) name true next rest h r =
     (w _ refl, (w _ refl, (w _ refl, (w _ refl, r))))
 
 -- the turns in which the file of a job is kept have the fact
 abbrev OfJob : (W : Turn → Type 0) → (master slave : Side) → (own others : Holdings) → Job → Type 0
 OfJob W master slave own others (job.Send source target user temp) =
-    (f : File) → to_give own (fetched_by source temp) ≡ Some f → W (keeping master target f [])
+    (f : File) → to_give own (fetched_by source temp) ≡ Some f → W (keeping master (others.landing source target) f [])
 OfJob W master slave own others (job.Request source target user) =
-    (f : File) (moves : List Move) → to_give others source ≡ Some f → W (keeping slave target f moves)
+    (f : File) (moves : List Move) → to_give others source ≡ Some f → W (keeping slave (own.landing source target) f moves)
 
 exchanges_entries : (W : Turn → Type 0) → OfSilence W → (master slave : Side) (own others : Holdings) (jobs : List Job) (rest : List Turn)
     → All (OfJob W master slave own others) jobs → EachTurn W rest → EachTurn W (exchanges master slave own others jobs rest)
@@ -61,13 +61,13 @@ exchanges_entries W w master slave own others [] rest h r = r
 exchanges_entries W w master slave own others (job.Send source target user temp ∷ jobs) rest h r =
     let first = All-head (OfJob W master slave own others) (job.Send source target user temp) jobs h in
     let later = All-tail (OfJob W master slave own others) (job.Send source target user temp) jobs h in
-    send_entries W w master slave own.digests source target user temp (to_give own (fetched_by source temp)) (others.verdict target)
-    (others.immovable target) (choice own jobs).failing (exchanges master slave own others jobs rest) first
+    send_entries W w master slave own.digests source target user temp (to_give own (fetched_by source temp)) (others.landing source target) (others.verdict (others.landing source target))
+    (others.immovable (others.landing source target)) (choice own jobs).failing (exchanges master slave own others jobs rest) first
     (exchanges_entries W w master slave own others jobs rest later r)
 exchanges_entries W w master slave own others (job.Request source target user ∷ jobs) rest h r =
     let first = All-head (OfJob W master slave own others) (job.Request source target user) jobs h in
     let later = All-tail (OfJob W master slave own others) (job.Request source target user) jobs h in
-    request_entries W w master slave others.digests source target user (to_give others source) (own.immovable target)
+    request_entries W w master slave others.digests source target user (to_give others source) (own.landing source target) (own.immovable (own.landing source target))
     (choice own jobs).failing (exchanges master slave own others jobs rest) first
     (exchanges_entries W w master slave own others jobs rest later r)
 
@@ -76,19 +76,19 @@ exchanges_entries W w master slave own others (job.Request source target user �
 silent : (a b : Party) → OfSilence (KeepsWell a b)
 silent a b t e = subst (λ (ks : List Kept). All (IsWellKept a b t) ks) (sym e) (All-nil (IsWellKept a b t))
 
-one_kept : (a b : Party) (side : Side) (target : List ℕ) (file : File) (moves : List Move)
-    → IsAskedFor (party side a b) (party (other side) a b) (kept_as target file) → KeepsWell a b (keeping side target file moves)
-one_kept a b side target file moves h =
-    All-cons (IsWellKept a b (keeping side target file moves)) (kept_as target file) [] (record { said = refl; asked = h })
-    (All-nil (IsWellKept a b (keeping side target file moves)))
+one_kept : (a b : Party) (side : Side) (name : List ℕ) (file : File) (moves : List Move)
+    → IsAskedFor (party side a b) (party (other side) a b) (kept_as name file) → KeepsWell a b (keeping side name file moves)
+one_kept a b side name file moves h =
+    All-cons (IsWellKept a b (keeping side name file moves)) (kept_as name file) [] (record { said = refl; asked = h })
+    (All-nil (IsWellKept a b (keeping side name file moves)))
 
 caller_job : (a b : Party) (j : Job) → Contains a.jobs j → OfJob (KeepsWell a b) Caller Called a.holdings b.holdings j
-caller_job a b (job.Send source target user temp) c = λ f e. one_kept a b Caller target f [] (sent c e)
-caller_job a b (job.Request source target user) c = λ f moves e. one_kept a b Called target f moves (requested c e)
+caller_job a b (job.Send source target user temp) c = λ f e. one_kept a b Caller (b.holdings.landing source target) f [] (sent c e)
+caller_job a b (job.Request source target user) c = λ f moves e. one_kept a b Called (a.holdings.landing source target) f moves (requested c e)
 
 called_job : (a b : Party) (j : Job) → Contains b.jobs j → OfJob (KeepsWell a b) Called Caller b.holdings a.holdings j
-called_job a b (job.Send source target user temp) c = λ f e. one_kept a b Called target f [] (sent c e)
-called_job a b (job.Request source target user) c = λ f moves e. one_kept a b Caller target f moves (requested c e)
+called_job a b (job.Send source target user temp) c = λ f e. one_kept a b Called (a.holdings.landing source target) f [] (sent c e)
+called_job a b (job.Request source target user) c = λ f moves e. one_kept a b Caller (b.holdings.landing source target) f moves (requested c e)
 
 after_entries : (next : Option Order) (a b : Party) → EachTurn (KeepsWell a b) (after_hang_up next a b)
 after_entries None a b = (silent a b _ refl, (silent a b _ refl, tt))

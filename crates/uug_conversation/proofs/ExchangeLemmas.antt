@@ -56,33 +56,33 @@ module _ (measure_of : Side → Measure) (positive : (side : Side) → 0 < (meas
       (record { lists_moved = lists_so; kept = keeps_so }) fits
 
   -- a file that comes as it was told of is kept where it can be put in its place
-  verdict_is : (digests : Bool) (target : List ℕ) (file : File) (immovable : Bool) → h.immovable target ≡ immovable →
-      file_verdict h target (heard h.digests (told_of digests (Some file))) file.bytes ≡ outcome true immovable
-  verdict_is digests target file immovable e = ap₂ outcome (fits_given h.digests digests file) e
+  verdict_is : (digests : Bool) (name : List ℕ) (file : File) (immovable : Bool) → h.immovable name ≡ immovable →
+      file_verdict h name (heard h.digests (told_of digests (Some file))) file.bytes ≡ outcome true immovable
+  verdict_is digests name file immovable e = ap₂ outcome (fits_given h.digests digests file) e
 
   -- ---- Send, at the master's
 
   send_offered : (source target user : List ℕ) (temp : Option (List ℕ)) (file : File) →
-      to_give h (fetched_by source temp) ≡ Some file → (verdict : Verdict) (immovable : Bool) →
+      to_give h (fetched_by source temp) ≡ Some file → (name : List ℕ) (verdict : Verdict) (immovable : Bool) →
       (passed jobs struck failed : List Job) (ts : List Turn) →
-      EachTurn (λ t. IsReadBack t.said) (send_exchange me (other me) h.digests source target user temp (Some file) verdict immovable (choice h jobs).failing ts) →
+      EachTurn (λ t. IsReadBack t.said) (send_exchange me (other me) h.digests source target user temp (Some file) name verdict immovable (choice h jobs).failing ts) →
       Masters jobs ts →
       FitsReply (replies (lists passed (job.Send source target user temp ∷ jobs) struck failed) awaits.SendAnswer
       (the_order (order.Send source target user temp file.mode) (told_of h.digests (Some file)) ∷ []))
-      (send_exchange me (other me) h.digests source target user temp (Some file) verdict immovable (choice h jobs).failing ts)
-  send_offered source target user temp file e Never immovable passed jobs struck failed ts back rest =
+      (send_exchange me (other me) h.digests source target user temp (Some file) name verdict immovable (choice h jobs).failing ts)
+  send_offered source target user temp file e name Never immovable passed jobs struck failed ts back rest =
       let l = lists passed (job.Send source target user temp ∷ jobs) struck failed in
       say back.0
       (hear_text {r = goes_on h (moved_once fail l) []} back.1.0 refl (record { not_over = refl; not_bad = refl; not_parted = refl })
       refl refl refl
       (rest passed struck (failed ++ job.Send source target user temp ∷ [])))
-  send_offered source target user temp file e Later immovable passed jobs struck failed ts back rest =
+  send_offered source target user temp file e name Later immovable passed jobs struck failed ts back rest =
       let l = lists passed (job.Send source target user temp ∷ jobs) struck failed in
       say back.0
       (hear_text {r = goes_on h (moved_once pass l) []} back.1.0 refl (record { not_over = refl; not_bad = refl; not_parted = refl })
       refl refl refl
       (rest (passed ++ job.Send source target user temp ∷ []) struck failed))
-  send_offered source target user temp file e Yes false passed jobs struck failed ts back rest =
+  send_offered source target user temp file e name Yes false passed jobs struck failed ts back rest =
       let l = lists passed (job.Send source target user temp ∷ jobs) struck failed in
       say back.0
       (hear_text {r = replies l awaits.SentFileDone (the_file file.bytes ∷ [])} back.1.0 refl
@@ -92,7 +92,7 @@ module _ (measure_of : Side → Measure) (positive : (side : Side) → 0 < (meas
       (hear_text {r = goes_on h (moved_once strike l) []} back.1.1.1.0 refl (record { not_over = refl; not_bad = refl; not_parted = refl })
       refl refl refl
       (rest passed (struck ++ job.Send source target user temp ∷ []) failed))))
-  send_offered source target user temp file e Yes true passed jobs struck failed ts back rest =
+  send_offered source target user temp file e name Yes true passed jobs struck failed ts back rest =
       let l = lists passed (job.Send source target user temp ∷ jobs) struck failed in
       say back.0
       (hear_text {r = replies l awaits.SentFileDone (the_file file.bytes ∷ [])} back.1.0 refl
@@ -104,30 +104,31 @@ module _ (measure_of : Side → Measure) (positive : (side : Side) → 0 < (meas
       (rest passed struck (failed ++ job.Send source target user temp ∷ [])))))
 
   send_as_master : (source target user : List ℕ) (temp : Option (List ℕ)) (found : Option File) →
-      to_give h (fetched_by source temp) ≡ found → (verdict : Verdict) (immovable : Bool) →
+      to_give h (fetched_by source temp) ≡ found → (name : List ℕ) (verdict : Verdict) (immovable : Bool) →
       (passed jobs struck failed : List Job) (ts : List Turn) →
-      EachTurn (λ t. IsReadBack t.said) (send_exchange me (other me) h.digests source target user temp found verdict immovable (choice h jobs).failing ts) →
+      EachTurn (λ t. IsReadBack t.said) (send_exchange me (other me) h.digests source target user temp found name verdict immovable (choice h jobs).failing ts) →
       Masters jobs ts →
       FitsReply (chooses h (send_choice source target user temp found (choice h jobs))
       (lists passed (job.Send source target user temp ∷ jobs) struck failed) [])
-      (send_exchange me (other me) h.digests source target user temp found verdict immovable (choice h jobs).failing ts)
-  send_as_master source target user temp None e verdict immovable passed jobs struck failed ts back rest =
+      (send_exchange me (other me) h.digests source target user temp found name verdict immovable (choice h jobs).failing ts)
+  send_as_master source target user temp None e name verdict immovable passed jobs struck failed ts back rest =
       rest passed struck (failed ++ job.Send source target user temp ∷ [])
-  send_as_master source target user temp (Some file) e verdict immovable passed jobs struck failed ts back rest =
+  send_as_master source target user temp (Some file) e name verdict immovable passed jobs struck failed ts back rest =
       subst (λ z. FitsReply (replies (lists passed (job.Send source target user temp ∷ jobs) struck failed) awaits.SendAnswer
       (the_order (order.Send source target user temp file.mode) (told_of h.digests z) ∷ []))
-      (send_exchange me (other me) h.digests source target user temp (Some file) verdict immovable (choice h jobs).failing ts))
-      (sym e) (send_offered source target user temp file e verdict immovable passed jobs struck failed ts back rest)
+      (send_exchange me (other me) h.digests source target user temp (Some file) name verdict immovable (choice h jobs).failing ts))
+      (sym e) (send_offered source target user temp file e name verdict immovable passed jobs struck failed ts back rest)
 
   -- ---- Request, at the master's
 
-  request_as_master : (digests : Bool) (source target user : List ℕ) (found : Option File) (immovable : Bool) → h.immovable target ≡ immovable →
+  request_as_master : (digests : Bool) (source target user : List ℕ) (found : Option File) (immovable : Bool) →
+      h.immovable (h.landing source target) ≡ immovable →
       (passed jobs struck failed : List Job) (ts : List Turn) →
-      EachTurn (λ t. IsReadBack t.said) (request_exchange me (other me) digests source target user found immovable (choice h jobs).failing ts) →
+      EachTurn (λ t. IsReadBack t.said) (request_exchange me (other me) digests source target user found (h.landing source target) immovable (choice h jobs).failing ts) →
       Masters jobs ts →
       FitsReply (replies (lists passed (job.Request source target user ∷ jobs) struck failed) awaits.RequestAnswer
       (the_order (order.Request source target user) None ∷ []))
-      (request_exchange me (other me) digests source target user found immovable (choice h jobs).failing ts)
+      (request_exchange me (other me) digests source target user found (h.landing source target) immovable (choice h jobs).failing ts)
   request_as_master digests source target user None immovable e passed jobs struck failed ts back rest =
       let l = lists passed (job.Request source target user ∷ jobs) struck failed in
       say back.0
@@ -140,9 +141,9 @@ module _ (measure_of : Side → Measure) (positive : (side : Side) → 0 < (meas
       (hear_text {r = replies l (awaits.AskedFile file.mode (heard h.digests (told_of digests (Some file)))) []} back.1.0 refl
       (record { not_over = refl; not_bad = refl; not_parted = refl })
       (ap₂ (λ t a. on_request_answer h (heard h.digests t) a l) back.1.0.2 back.1.0.1) refl refl
-      (hear_text {r = keeps (kept_as target file) (goes_on h (moved_once strike l) (the_answer answer.DoneYes ∷ []))} back.1.1.0 refl
+      (hear_text {r = keeps (kept_as (h.landing source target) file) (goes_on h (moved_once strike l) (the_answer answer.DoneYes ∷ []))} back.1.1.0 refl
       (record { not_over = refl; not_bad = refl; not_parted = refl })
-      (ap (λ z. on_asked_file h z (kept_as target file) l) (verdict_is digests target file false e)) refl refl
+      (ap (λ z. on_asked_file h z (kept_as (h.landing source target) file) l) (verdict_is digests (h.landing source target) file false e)) refl refl
       (say back.1.1.1.0 (rest passed (struck ++ job.Request source target user ∷ []) failed))))
   request_as_master digests source target user (Some file) true e passed jobs struck failed ts back rest =
       let l = lists passed (job.Request source target user ∷ jobs) struck failed in
@@ -152,7 +153,7 @@ module _ (measure_of : Side → Measure) (positive : (side : Side) → 0 < (meas
       (ap₂ (λ t a. on_request_answer h (heard h.digests t) a l) back.1.0.2 back.1.0.1) refl refl
       (hear_text {r = goes_on h (moved_once fail l) (the_answer answer.DoneNever ∷ [])} back.1.1.0 refl
       (record { not_over = refl; not_bad = refl; not_parted = refl })
-      (ap (λ z. on_asked_file h z (kept_as target file) l) (verdict_is digests target file true e)) refl refl
+      (ap (λ z. on_asked_file h z (kept_as (h.landing source target) file) l) (verdict_is digests (h.landing source target) file true e)) refl refl
       (say back.1.1.1.0 (rest passed struck (failed ++ job.Request source target user ∷ [])))))
 
   -- ---- all jobs of a master, at its side
@@ -161,36 +162,37 @@ module _ (measure_of : Side → Measure) (positive : (side : Side) → 0 < (meas
       EachTurn (λ t. IsReadBack t.said) (exchange me (other me) h others j (choice h jobs).failing ts) →
       Masters jobs ts → Masters (j ∷ jobs) (exchange me (other me) h others j (choice h jobs).failing ts)
   job_as_master others (job.Send source target user temp) jobs ts back rest passed struck failed =
-      send_as_master source target user temp (to_give h (fetched_by source temp)) refl (others.verdict target)
-      (others.immovable target) passed jobs struck failed ts back rest
+      send_as_master source target user temp (to_give h (fetched_by source temp)) refl
+      (others.landing source target) (others.verdict (others.landing source target)) (others.immovable (others.landing source target)) passed jobs struck failed ts back rest
   job_as_master others (job.Request source target user) jobs ts back rest passed struck failed =
-      request_as_master others.digests source target user (to_give others source) (h.immovable target) refl passed jobs struck failed ts back rest
+      request_as_master others.digests source target user (to_give others source) (h.immovable (h.landing source target)) refl passed jobs struck failed ts back rest
 
   behind_send : (master slave : Side) (digests : Bool) (source target user : List ℕ) (temp : Option (List ℕ)) (found : Option File)
-      (verdict : Verdict) (immovable : Bool) (next : List Move) (ts : List Turn) →
-      EachTurn (λ t. IsReadBack t.said) (send_exchange master slave digests source target user temp found verdict immovable next ts) →
+      (name : List ℕ) (verdict : Verdict) (immovable : Bool) (next : List Move) (ts : List Turn) →
+      EachTurn (λ t. IsReadBack t.said) (send_exchange master slave digests source target user temp found name verdict immovable next ts) →
       EachTurn (λ t. IsReadBack t.said) ts
-  behind_send master slave digests source target user temp None verdict immovable next ts back = back
-  behind_send master slave digests source target user temp (Some file) Never immovable next ts back = back.1.1
-  behind_send master slave digests source target user temp (Some file) Later immovable next ts back = back.1.1
-  behind_send master slave digests source target user temp (Some file) Yes false next ts back = back.1.1.1.1
-  behind_send master slave digests source target user temp (Some file) Yes true next ts back = back.1.1.1.1
+  behind_send master slave digests source target user temp None name verdict immovable next ts back = back
+  behind_send master slave digests source target user temp (Some file) name Never immovable next ts back = back.1.1
+  behind_send master slave digests source target user temp (Some file) name Later immovable next ts back = back.1.1
+  behind_send master slave digests source target user temp (Some file) name Yes false next ts back = back.1.1.1.1
+  behind_send master slave digests source target user temp (Some file) name Yes true next ts back = back.1.1.1.1
 
   behind_request : (master slave : Side) (digests : Bool) (source target user : List ℕ) (found : Option File)
-      (immovable : Bool) (next : List Move) (ts : List Turn) →
-      EachTurn (λ t. IsReadBack t.said) (request_exchange master slave digests source target user found immovable next ts) →
+      (name : List ℕ) (immovable : Bool) (next : List Move) (ts : List Turn) →
+      EachTurn (λ t. IsReadBack t.said) (request_exchange master slave digests source target user found name immovable next ts) →
       EachTurn (λ t. IsReadBack t.said) ts
-  behind_request master slave digests source target user None immovable next ts back = back.1.1
-  behind_request master slave digests source target user (Some file) false next ts back = back.1.1.1.1
-  behind_request master slave digests source target user (Some file) true next ts back = back.1.1.1.1
+  behind_request master slave digests source target user None name immovable next ts back = back.1.1
+  behind_request master slave digests source target user (Some file) name false next ts back = back.1.1.1.1
+  behind_request master slave digests source target user (Some file) name true next ts back = back.1.1.1.1
 
   behind_exchange : (master slave : Side) (own others : Holdings) (j : Job) (next : List Move) (ts : List Turn) →
       EachTurn (λ t. IsReadBack t.said) (exchange master slave own others j next ts) → EachTurn (λ t. IsReadBack t.said) ts
   behind_exchange master slave own others (job.Send source target user temp) next ts back =
-      behind_send master slave own.digests source target user temp (to_give own (fetched_by source temp)) (others.verdict target)
-      (others.immovable target) next ts back
+      behind_send master slave own.digests source target user temp (to_give own (fetched_by source temp))
+      (others.landing source target) (others.verdict (others.landing source target)) (others.immovable (others.landing source target)) next ts back
   behind_exchange master slave own others (job.Request source target user) next ts back =
-      behind_request master slave others.digests source target user (to_give others source) (own.immovable target) next ts back
+      behind_request master slave others.digests source target user (to_give others source)
+      (own.landing source target) (own.immovable (own.landing source target)) next ts back
 
   pub behind_exchanges : (master slave : Side) (own others : Holdings) (jobs : List Job) (ts : List Turn) →
       EachTurn (λ t. IsReadBack t.said) (exchanges master slave own others jobs ts) → EachTurn (λ t. IsReadBack t.said) ts
@@ -218,70 +220,71 @@ module _ (measure_of : Side → Measure) (positive : (side : Side) → 0 < (meas
   -- ---- Send, at the slave's
 
   send_as_slave : (digests : Bool) (source target user : List ℕ) (temp : Option (List ℕ)) (found : Option File) →
-      (verdict : Verdict) → h.verdict target ≡ verdict → (immovable : Bool) → h.immovable target ≡ immovable →
+      (verdict : Verdict) → h.verdict (h.landing source target) ≡ verdict → (immovable : Bool) →
+      h.immovable (h.landing source target) ≡ immovable →
       (next : List Move) (l : Lists) (ts : List Turn) →
-      EachTurn (λ t. IsReadBack t.said) (send_exchange (other me) me digests source target user temp found verdict immovable next ts) →
+      EachTurn (λ t. IsReadBack t.said) (send_exchange (other me) me digests source target user temp found (h.landing source target) verdict immovable next ts) →
       Fits h measure_of me (between l awaits.Order) [] ts →
       Fits h measure_of me (between l awaits.Order) []
-      (send_exchange (other me) me digests source target user temp found verdict immovable next ts)
+      (send_exchange (other me) me digests source target user temp found (h.landing source target) verdict immovable next ts)
   send_as_slave digests source target user temp None verdict v immovable i next l ts back rest = rest
   send_as_slave digests source target user temp (Some file) Never v immovable i next l ts back rest =
       hear_text {r = replies l awaits.Order (the_answer answer.SendNever ∷ [])} back.0 refl
       (record { not_over = refl; not_bad = refl; not_parted = refl })
       (order_heard (order.Send source target user temp file.mode) (told_of digests (Some file)) l back.0
-      ∙ ap (λ z. on_send (unless_too_large (h.lenient && is_too_large (heard h.digests (told_of digests (Some file)))) z) target
+      ∙ ap (λ z. on_send (unless_too_large (h.lenient && is_too_large (heard h.digests (told_of digests (Some file)))) z) (h.landing source target)
       file.mode (heard h.digests (told_of digests (Some file))) l) v) refl refl
       (say back.1.0 rest)
   send_as_slave digests source target user temp (Some file) Later v immovable i next l ts back rest =
       hear_text {r = replies l awaits.Order (the_answer answer.SendLater ∷ [])} back.0 refl
       (record { not_over = refl; not_bad = refl; not_parted = refl })
       (order_heard (order.Send source target user temp file.mode) (told_of digests (Some file)) l back.0
-      ∙ ap (λ z. on_send (unless_too_large (h.lenient && is_too_large (heard h.digests (told_of digests (Some file)))) z) target
+      ∙ ap (λ z. on_send (unless_too_large (h.lenient && is_too_large (heard h.digests (told_of digests (Some file)))) z) (h.landing source target)
       file.mode (heard h.digests (told_of digests (Some file))) l) v) refl refl
       (say back.1.0 rest)
   send_as_slave digests source target user temp (Some file) Yes v false i next l ts back rest =
-      hear_text {r = replies l (awaits.SentFile target file.mode (heard h.digests (told_of digests (Some file)))) (the_answer answer.SendYes ∷ [])} back.0 refl
+      hear_text {r = replies l (awaits.SentFile (h.landing source target) file.mode (heard h.digests (told_of digests (Some file)))) (the_answer answer.SendYes ∷ [])} back.0 refl
       (record { not_over = refl; not_bad = refl; not_parted = refl })
       (order_heard (order.Send source target user temp file.mode) (told_of digests (Some file)) l back.0
-      ∙ ap₂ (λ b z. on_send (unless_too_large b z) target file.mode (heard h.digests (told_of digests (Some file))) l)
+      ∙ ap₂ (λ b z. on_send (unless_too_large b z) (h.landing source target) file.mode (heard h.digests (told_of digests (Some file))) l)
       (given_is_taken h.lenient h.digests digests file back.1.1.0) v) refl refl
       (say back.1.0
-      (hear_text {r = keeps (kept_as target file) (replies l awaits.Order (the_answer answer.DoneYes ∷ []))} back.1.1.0 refl
+      (hear_text {r = keeps (kept_as (h.landing source target) file) (replies l awaits.Order (the_answer answer.DoneYes ∷ []))} back.1.1.0 refl
       (record { not_over = refl; not_bad = refl; not_parted = refl })
-      (ap (λ z. on_sent_file z (kept_as target file) l) (verdict_is digests target file false i)) refl refl
+      (ap (λ z. on_sent_file z (kept_as (h.landing source target) file) l) (verdict_is digests (h.landing source target) file false i)) refl refl
       (say back.1.1.1.0 rest)))
   send_as_slave digests source target user temp (Some file) Yes v true i next l ts back rest =
-      hear_text {r = replies l (awaits.SentFile target file.mode (heard h.digests (told_of digests (Some file)))) (the_answer answer.SendYes ∷ [])} back.0 refl
+      hear_text {r = replies l (awaits.SentFile (h.landing source target) file.mode (heard h.digests (told_of digests (Some file)))) (the_answer answer.SendYes ∷ [])} back.0 refl
       (record { not_over = refl; not_bad = refl; not_parted = refl })
       (order_heard (order.Send source target user temp file.mode) (told_of digests (Some file)) l back.0
-      ∙ ap₂ (λ b z. on_send (unless_too_large b z) target file.mode (heard h.digests (told_of digests (Some file))) l)
+      ∙ ap₂ (λ b z. on_send (unless_too_large b z) (h.landing source target) file.mode (heard h.digests (told_of digests (Some file))) l)
       (given_is_taken h.lenient h.digests digests file back.1.1.0) v) refl refl
       (say back.1.0
       (hear_text {r = replies l awaits.Order (the_answer answer.DoneNever ∷ [])} back.1.1.0 refl
       (record { not_over = refl; not_bad = refl; not_parted = refl })
-      (ap (λ z. on_sent_file z (kept_as target file) l) (verdict_is digests target file true i)) refl refl
+      (ap (λ z. on_sent_file z (kept_as (h.landing source target) file) l) (verdict_is digests (h.landing source target) file true i)) refl refl
       (say back.1.1.1.0 rest)))
 
   -- ---- Request, at the slave's
 
-  request_as_slave : (source target user : List ℕ) (found : Option File) → to_give h source ≡ found → (immovable : Bool) →
+  request_as_slave : (source target user : List ℕ) (found : Option File) → to_give h source ≡ found → (name : List ℕ) (immovable : Bool) →
       (next : List Move) (l : Lists) (ts : List Turn) →
-      EachTurn (λ t. IsReadBack t.said) (request_exchange (other me) me h.digests source target user found immovable next ts) →
+      EachTurn (λ t. IsReadBack t.said) (request_exchange (other me) me h.digests source target user found name immovable next ts) →
       Fits h measure_of me (between l awaits.Order) [] ts →
-      Fits h measure_of me (between l awaits.Order) [] (request_exchange (other me) me h.digests source target user found immovable next ts)
-  request_as_slave source target user None e immovable next l ts back rest =
+      Fits h measure_of me (between l awaits.Order) [] (request_exchange (other me) me h.digests source target user found name immovable next ts)
+  request_as_slave source target user None e name immovable next l ts back rest =
       hear_text {r = replies l awaits.Order (the_answer answer.GiveNever ∷ [])} back.0 refl
       (record { not_over = refl; not_bad = refl; not_parted = refl })
       (order_heard (order.Request source target user) None l back.0 ∙ ap (λ f. on_request h.digests f l) e) refl refl
       (say back.1.0 rest)
-  request_as_slave source target user (Some file) e false next l ts back rest =
+  request_as_slave source target user (Some file) e name false next l ts back rest =
       hear_text {r = replies l awaits.GivenFileDone (the_giving file.mode (told_of h.digests (Some file)) ∷ the_file file.bytes ∷ [])} back.0 refl
       (record { not_over = refl; not_bad = refl; not_parted = refl })
       (order_heard (order.Request source target user) None l back.0 ∙ ap (λ f. on_request h.digests f l) e) refl refl
       (say back.1.0 (say back.1.1.0
       (hear_text {r = replies l awaits.Order []} back.1.1.1.0 refl
       (record { not_over = refl; not_bad = refl; not_parted = refl }) refl refl refl rest)))
-  request_as_slave source target user (Some file) e true next l ts back rest =
+  request_as_slave source target user (Some file) e name true next l ts back rest =
       hear_text {r = replies l awaits.GivenFileDone (the_giving file.mode (told_of h.digests (Some file)) ∷ the_file file.bytes ∷ [])} back.0 refl
       (record { not_over = refl; not_bad = refl; not_parted = refl })
       (order_heard (order.Request source target user) None l back.0 ∙ ap (λ f. on_request h.digests f l) e) refl refl
@@ -296,10 +299,11 @@ module _ (measure_of : Side → Measure) (positive : (side : Side) → 0 < (meas
       Fits h measure_of me (between l awaits.Order) [] ts →
       Fits h measure_of me (between l awaits.Order) [] (exchange (other me) me others h j next ts)
   job_as_slave others (job.Send source target user temp) next l ts back rest =
-      send_as_slave others.digests source target user temp (to_give others (fetched_by source temp)) (h.verdict target) refl
-      (h.immovable target) refl next l ts back rest
+      send_as_slave others.digests source target user temp (to_give others (fetched_by source temp)) (h.verdict (h.landing source target)) refl
+      (h.immovable (h.landing source target)) refl next l ts back rest
   job_as_slave others (job.Request source target user) next l ts back rest =
-      request_as_slave source target user (to_give h source) refl (others.immovable target) next l ts back rest
+      request_as_slave source target user (to_give h source) refl (others.landing source target)
+      (others.immovable (others.landing source target)) next l ts back rest
 
   pub as_slave : (others : Holdings) (jobs : List Job) (l : Lists) (ts : List Turn) →
       EachTurn (λ t. IsReadBack t.said) (exchanges (other me) me others h jobs ts) →

@@ -13,6 +13,7 @@ pub mod FactParties
 pub mod FirstLaw
 pub mod FitLemmas
 mod FrontLemmas
+mod LandingFacts
 mod LenientFacts
 mod LimitLemmas
 mod MachineFacts

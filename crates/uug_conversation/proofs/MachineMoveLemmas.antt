@@ -62,7 +62,7 @@ after_unread lenient refusal l = grind (arith, stays)
 
 after_order : (h : Holdings) (refusal : Option Answer) (told : Option FileDigest) (r : Result Order BadText) (l : Lists)
     → OnlyMoves l (on_order h refusal told r l).state.lists
-after_order h refusal told (Ok (order.Send source target user temp mode)) l = after_send (send_verdict h target told) target mode told l
+after_order h refusal told (Ok (order.Send source target user temp mode)) l = after_send (send_verdict h (h.landing source target) told) (h.landing source target) mode told l
 after_order h refusal told (Ok (order.Request source target user)) l = after_request h.digests (to_give h source) l
 after_order h refusal told (Ok order.HangUp) l = after_hang_up h (choice h l.ahead).next (choice h l.ahead).failing l
 after_order h refusal told (Err fault) l = after_unread h.lenient refusal l
@@ -180,7 +180,7 @@ after_file_of : (h : Holdings) (jobs : List Job) (mode : ℕ) (told : Option Fil
 after_file_of h [] mode told bytes l = stays l
 after_file_of h (job.Send source target user temp ∷ jobs) mode told bytes l = stays l
 after_file_of h (job.Request source target user ∷ jobs) mode told bytes l =
-    after_asked h (file_verdict h target told bytes) (record { name = target; mode = mode; bytes = bytes }) l
+    after_asked h (file_verdict h (h.landing source target) told bytes) (record { name = h.landing source target; mode = mode; bytes = bytes }) l
 
 after_file : (h : Holdings) (a : Awaits) (bytes : List ℕ) (l : Lists) → OnlyMoves l (on_file h a bytes l).state.lists
 after_file h (awaits.SentFile target mode told) bytes l =

@@ -47,38 +47,38 @@ if_spoken-append Called Caller xs ys = refl
 if_spoken-append Called Called xs ys = refl
 
 send_exchange_commands : (me master slave : Side) (digests : Bool) (source target user : List ℕ) (temp : Option (List ℕ))
-    (file : Option File) (verdict : Verdict) (immovable : Bool) (next : List Move) (rest : List Turn)
-    → commands_of me (send_exchange master slave digests source target user temp file verdict immovable next rest)
+    (file : Option File) (name : List ℕ) (verdict : Verdict) (immovable : Bool) (next : List Move) (rest : List Turn)
+    → commands_of me (send_exchange master slave digests source target user temp file name verdict immovable next rest)
     ≡ if_spoken me master (send_commands source target user temp file) ++ commands_of me rest
-send_exchange_commands me master slave digests source target user temp None verdict immovable next rest =
+send_exchange_commands me master slave digests source target user temp None name verdict immovable next rest =
     rw (if_spoken-nil me master) refl
-send_exchange_commands me master slave digests source target user temp (Some file) Never immovable next rest =
+send_exchange_commands me master slave digests source target user temp (Some file) name Never immovable next rest =
     rw (if_spoken-nil me slave) refl
-send_exchange_commands me master slave digests source target user temp (Some file) Later immovable next rest =
+send_exchange_commands me master slave digests source target user temp (Some file) name Later immovable next rest =
     rw (if_spoken-nil me slave) refl
-send_exchange_commands me master slave digests source target user temp (Some file) Yes false next rest =
+send_exchange_commands me master slave digests source target user temp (Some file) name Yes false next rest =
     rw (if_spoken-nil me slave, if_spoken-nil me master) refl
-send_exchange_commands me master slave digests source target user temp (Some file) Yes true next rest =
+send_exchange_commands me master slave digests source target user temp (Some file) name Yes true next rest =
     rw (if_spoken-nil me slave, if_spoken-nil me master) refl
 
-request_exchange_commands : (me master slave : Side) (digests : Bool) (source target user : List ℕ) (file : Option File) (immovable : Bool)
+request_exchange_commands : (me master slave : Side) (digests : Bool) (source target user : List ℕ) (file : Option File) (name : List ℕ) (immovable : Bool)
     (next : List Move) (rest : List Turn)
-    → commands_of me (request_exchange master slave digests source target user file immovable next rest)
+    → commands_of me (request_exchange master slave digests source target user file name immovable next rest)
     ≡ if_spoken me master (order.Request source target user ∷ []) ++ commands_of me rest
-request_exchange_commands me master slave digests source target user None immovable next rest =
+request_exchange_commands me master slave digests source target user None name immovable next rest =
     rw (if_spoken-nil me slave) refl
-request_exchange_commands me master slave digests source target user (Some file) false next rest =
+request_exchange_commands me master slave digests source target user (Some file) name false next rest =
     rw (if_spoken-nil me slave, if_spoken-nil me master) refl
-request_exchange_commands me master slave digests source target user (Some file) true next rest =
+request_exchange_commands me master slave digests source target user (Some file) name true next rest =
     rw (if_spoken-nil me slave, if_spoken-nil me master) refl
 
 exchange_commands : (me master slave : Side) (own others : Holdings) (j : Job) (next : List Move) (rest : List Turn)
     → commands_of me (exchange master slave own others j next rest) ≡ if_spoken me master (job_commands own j) ++ commands_of me rest
 exchange_commands me master slave own others (job.Send source target user temp) next rest =
     send_exchange_commands me master slave own.digests source target user temp
-    (to_give own (fetched_by source temp)) (others.verdict target) (others.immovable target) next rest
+    (to_give own (fetched_by source temp)) (others.landing source target) (others.verdict (others.landing source target)) (others.immovable (others.landing source target)) next rest
 exchange_commands me master slave own others (job.Request source target user) next rest =
-    request_exchange_commands me master slave others.digests source target user (to_give others source) (own.immovable target) next rest
+    request_exchange_commands me master slave others.digests source target user (to_give others source) (own.landing source target) (own.immovable (own.landing source target)) next rest
 
 exchanges_commands : (me master slave : Side) (own others : Holdings) (jobs : List Job) (rest : List Turn)
     → commands_of me (exchanges master slave own others jobs rest) ≡ if_spoken me master (offered own jobs) ++ commands_of me rest
@@ -116,31 +116,31 @@ called_commands a b =
 -- ---- answers to H
 
 send_exchange_answers : (master slave : Side) (digests : Bool) (source target user : List ℕ) (temp : Option (List ℕ))
-    (file : Option File) (verdict : Verdict) (immovable : Bool) (next : List Move) (rest : List Turn)
-    → hang_up_answers (send_exchange master slave digests source target user temp file verdict immovable next rest) ≡ hang_up_answers rest
-send_exchange_answers master slave digests source target user temp None verdict immovable next rest = refl
-send_exchange_answers master slave digests source target user temp (Some file) Never immovable next rest = refl
-send_exchange_answers master slave digests source target user temp (Some file) Later immovable next rest = refl
-send_exchange_answers master slave digests source target user temp (Some file) Yes false next rest = refl
-send_exchange_answers master slave digests source target user temp (Some file) Yes true next rest = refl
+    (file : Option File) (name : List ℕ) (verdict : Verdict) (immovable : Bool) (next : List Move) (rest : List Turn)
+    → hang_up_answers (send_exchange master slave digests source target user temp file name verdict immovable next rest) ≡ hang_up_answers rest
+send_exchange_answers master slave digests source target user temp None name verdict immovable next rest = refl
+send_exchange_answers master slave digests source target user temp (Some file) name Never immovable next rest = refl
+send_exchange_answers master slave digests source target user temp (Some file) name Later immovable next rest = refl
+send_exchange_answers master slave digests source target user temp (Some file) name Yes false next rest = refl
+send_exchange_answers master slave digests source target user temp (Some file) name Yes true next rest = refl
 
-request_exchange_answers : (master slave : Side) (digests : Bool) (source target user : List ℕ) (file : Option File) (immovable : Bool)
+request_exchange_answers : (master slave : Side) (digests : Bool) (source target user : List ℕ) (file : Option File) (name : List ℕ) (immovable : Bool)
     (next : List Move) (rest : List Turn)
-    → hang_up_answers (request_exchange master slave digests source target user file immovable next rest) ≡ hang_up_answers rest
-request_exchange_answers master slave digests source target user None immovable next rest = refl
-request_exchange_answers master slave digests source target user (Some file) false next rest = refl
-request_exchange_answers master slave digests source target user (Some file) true next rest = refl
+    → hang_up_answers (request_exchange master slave digests source target user file name immovable next rest) ≡ hang_up_answers rest
+request_exchange_answers master slave digests source target user None name immovable next rest = refl
+request_exchange_answers master slave digests source target user (Some file) name false next rest = refl
+request_exchange_answers master slave digests source target user (Some file) name true next rest = refl
 
 exchanges_answers : (master slave : Side) (own others : Holdings) (jobs : List Job) (rest : List Turn)
     → hang_up_answers (exchanges master slave own others jobs rest) ≡ hang_up_answers rest
 exchanges_answers master slave own others [] rest = refl
 exchanges_answers master slave own others (job.Send source target user temp ∷ jobs) rest =
     send_exchange_answers master slave own.digests source target user temp
-    (to_give own (fetched_by source temp)) (others.verdict target) (others.immovable target) (choice own jobs).failing
+    (to_give own (fetched_by source temp)) (others.landing source target) (others.verdict (others.landing source target)) (others.immovable (others.landing source target)) (choice own jobs).failing
     (exchanges master slave own others jobs rest)
     ∙ exchanges_answers master slave own others jobs rest
 exchanges_answers master slave own others (job.Request source target user ∷ jobs) rest =
-    request_exchange_answers master slave others.digests source target user (to_give others source) (own.immovable target) (choice own jobs).failing
+    request_exchange_answers master slave others.digests source target user (to_give others source) (own.landing source target) (own.immovable (own.landing source target)) (choice own jobs).failing
     (exchanges master slave own others jobs rest)
     ∙ exchanges_answers master slave own others jobs rest
 

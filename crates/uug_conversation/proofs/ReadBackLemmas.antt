@@ -93,26 +93,26 @@ giving_back mode (Some told) m sized = (
 
 send_back : (master slave : Side) (digests : Bool) (source target user : List ℕ) (temp : Option (List ℕ)) (own : Holdings)
     (found : Option File) → to_give own (fetched_by source temp) ≡ found → AreModes own →
-    AreNames source target user × IsCopy temp → (verdict : Verdict) (immovable : Bool) (next : List Move) (rest : List Turn) →
+    AreNames source target user × IsCopy temp → (name : List ℕ) (verdict : Verdict) (immovable : Bool) (next : List Move) (rest : List Turn) →
     EachTurn (λ t. IsReadBack t.said) rest →
-    EachTurn (λ t. IsReadBack t.said) (send_exchange master slave digests source target user temp found verdict immovable next rest)
-send_back master slave digests source target user temp own None e m n verdict immovable next rest r = r
-send_back master slave digests source target user temp own (Some file) e m n Never immovable next rest r = (
+    EachTurn (λ t. IsReadBack t.said) (send_exchange master slave digests source target user temp found name verdict immovable next rest)
+send_back master slave digests source target user temp own None e m n name verdict immovable next rest r = r
+send_back master slave digests source target user temp own (Some file) e m n name Never immovable next rest r = (
   telling_back (order.Send source target user temp file.mode) (told_of digests (Some file)) n
       (given_mode own (fetched_by source temp) file m e) tt (told_is_sized digests file (given_fits own (fetched_by source temp) file e)),
   (answer_back answer.SendNever tt, r),
 )
-send_back master slave digests source target user temp own (Some file) e m n Later immovable next rest r = (
+send_back master slave digests source target user temp own (Some file) e m n name Later immovable next rest r = (
   telling_back (order.Send source target user temp file.mode) (told_of digests (Some file)) n
       (given_mode own (fetched_by source temp) file m e) tt (told_is_sized digests file (given_fits own (fetched_by source temp) file e)),
   (answer_back answer.SendLater tt, r),
 )
-send_back master slave digests source target user temp own (Some file) e m n Yes false next rest r = (
+send_back master slave digests source target user temp own (Some file) e m n name Yes false next rest r = (
   telling_back (order.Send source target user temp file.mode) (told_of digests (Some file)) n
       (given_mode own (fetched_by source temp) file m e) tt (told_is_sized digests file (given_fits own (fetched_by source temp) file e)),
   (answer_back answer.SendYes tt, (given_fits own (fetched_by source temp) file e, (answer_back answer.DoneYes tt, r))),
 )
-send_back master slave digests source target user temp own (Some file) e m n Yes true next rest r = (
+send_back master slave digests source target user temp own (Some file) e m n name Yes true next rest r = (
   telling_back (order.Send source target user temp file.mode) (told_of digests (Some file)) n
       (given_mode own (fetched_by source temp) file m e) tt (told_is_sized digests file (given_fits own (fetched_by source temp) file e)),
   (answer_back answer.SendYes tt, (given_fits own (fetched_by source temp) file e, (answer_back answer.DoneNever tt, r))),
@@ -120,12 +120,12 @@ send_back master slave digests source target user temp own (Some file) e m n Yes
 
 request_back : (master slave : Side) (digests : Bool) (source target user : List ℕ) (others : Holdings)
     (found : Option File) → to_give others source ≡ found → AreModes others →
-    AreNames source target user → (immovable : Bool) (next : List Move) (rest : List Turn) →
+    AreNames source target user → (name : List ℕ) (immovable : Bool) (next : List Move) (rest : List Turn) →
     EachTurn (λ t. IsReadBack t.said) rest →
-    EachTurn (λ t. IsReadBack t.said) (request_exchange master slave digests source target user found immovable next rest)
-request_back master slave digests source target user others None e m n immovable next rest r =
+    EachTurn (λ t. IsReadBack t.said) (request_exchange master slave digests source target user found name immovable next rest)
+request_back master slave digests source target user others None e m n name immovable next rest r =
     (order_back (order.Request source target user) n tt, (answer_back answer.GiveNever tt, r))
-request_back master slave digests source target user others (Some file) e m n false next rest r = (
+request_back master slave digests source target user others (Some file) e m n name false next rest r = (
   order_back (order.Request source target user) n tt,
   (
     giving_back file.mode (told_of digests (Some file)) (given_mode others source file m e)
@@ -133,7 +133,7 @@ request_back master slave digests source target user others (Some file) e m n fa
     (given_fits others source file e, (answer_back answer.DoneYes tt, r)),
   ),
 )
-request_back master slave digests source target user others (Some file) e m n true next rest r = (
+request_back master slave digests source target user others (Some file) e m n name true next rest r = (
   order_back (order.Request source target user) n tt,
   (
     giving_back file.mode (told_of digests (Some file)) (given_mode others source file m e)
@@ -147,9 +147,9 @@ exchange_back : (master slave : Side) (own others : Holdings) → AreModes own �
     EachTurn (λ t. IsReadBack t.said) (exchange master slave own others j next rest)
 exchange_back master slave own others m k (job.Send source target user temp) n next rest r =
     send_back master slave own.digests source target user temp own (to_give own (fetched_by source temp)) refl m n
-    (others.verdict target) (others.immovable target) next rest r
+    (others.landing source target) (others.verdict (others.landing source target)) (others.immovable (others.landing source target)) next rest r
 exchange_back master slave own others m k (job.Request source target user) n next rest r =
-    request_back master slave others.digests source target user others (to_give others source) refl k n (own.immovable target) next rest r
+    request_back master slave others.digests source target user others (to_give others source) refl k n (own.landing source target) (own.immovable (own.landing source target)) next rest r
 
 exchanges_back : (master slave : Side) (own others : Holdings) → AreModes own → AreModes others →
     (jobs : List Job) → All HasNames jobs → (rest : List Turn) → EachTurn (λ t. IsReadBack t.said) rest →

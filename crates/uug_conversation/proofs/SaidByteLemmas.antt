@@ -246,34 +246,34 @@ given_bytes h name file holds is = all_bytes file.bytes (holds name file ((given
 
 send_bytes : (master slave : Side) (digests : Bool) (source target user : List ℕ) (temp : Option (List ℕ)) (own : Holdings)
     (found : Option File) → to_give own (fetched_by source temp) ≡ found → HoldsBytes own →
-    AreNames source target user × IsCopy temp → (verdict : Verdict) (immovable : Bool) (next : List Move) (rest : List Turn) →
+    AreNames source target user × IsCopy temp → (name : List ℕ) (verdict : Verdict) (immovable : Bool) (next : List Move) (rest : List Turn) →
     TurnsAreBytes rest →
-    TurnsAreBytes (send_exchange master slave digests source target user temp found verdict immovable next rest)
-send_bytes master slave digests source target user temp own None is holds names verdict immovable next rest all = all
-send_bytes master slave digests source target user temp own (Some file) is holds names Never immovable next rest all =
+    TurnsAreBytes (send_exchange master slave digests source target user temp found name verdict immovable next rest)
+send_bytes master slave digests source target user temp own None is holds names name verdict immovable next rest all = all
+send_bytes master slave digests source target user temp own (Some file) is holds names name Never immovable next rest all =
     (order_said_bytes (order.Send source target user temp file.mode) (told_of digests (Some file)) names (told_has_bytes digests file), (answer_bytes answer.SendNever, all))
-send_bytes master slave digests source target user temp own (Some file) is holds names Later immovable next rest all =
+send_bytes master slave digests source target user temp own (Some file) is holds names name Later immovable next rest all =
     (order_said_bytes (order.Send source target user temp file.mode) (told_of digests (Some file)) names (told_has_bytes digests file), (answer_bytes answer.SendLater, all))
-send_bytes master slave digests source target user temp own (Some file) is holds names Yes false next rest all = (
+send_bytes master slave digests source target user temp own (Some file) is holds names name Yes false next rest all = (
   order_said_bytes (order.Send source target user temp file.mode) (told_of digests (Some file)) names (told_has_bytes digests file),
   (answer_bytes answer.SendYes, (given_bytes own (fetched_by source temp) file holds is, (answer_bytes answer.DoneYes, all))),
 )
-send_bytes master slave digests source target user temp own (Some file) is holds names Yes true next rest all = (
+send_bytes master slave digests source target user temp own (Some file) is holds names name Yes true next rest all = (
   order_said_bytes (order.Send source target user temp file.mode) (told_of digests (Some file)) names (told_has_bytes digests file),
   (answer_bytes answer.SendYes, (given_bytes own (fetched_by source temp) file holds is, (answer_bytes answer.DoneNever, all))),
 )
 
 request_bytes : (master slave : Side) (digests : Bool) (source target user : List ℕ) (others : Holdings) (found : Option File) →
-    to_give others source ≡ found → HoldsBytes others → AreNames source target user → (immovable : Bool) (next : List Move)
+    to_give others source ≡ found → HoldsBytes others → AreNames source target user → (name : List ℕ) (immovable : Bool) (next : List Move)
     (rest : List Turn) → TurnsAreBytes rest →
-    TurnsAreBytes (request_exchange master slave digests source target user found immovable next rest)
-request_bytes master slave digests source target user others None is holds names immovable next rest all =
+    TurnsAreBytes (request_exchange master slave digests source target user found name immovable next rest)
+request_bytes master slave digests source target user others None is holds names name immovable next rest all =
     (order_bytes (order.Request source target user) names, (answer_bytes answer.GiveNever, all))
-request_bytes master slave digests source target user others (Some file) is holds names false next rest all = (
+request_bytes master slave digests source target user others (Some file) is holds names name false next rest all = (
   order_bytes (order.Request source target user) names,
   (giving_said_bytes file.mode (told_of digests (Some file)) (told_has_bytes digests file), (given_bytes others source file holds is, (answer_bytes answer.DoneYes, all))),
 )
-request_bytes master slave digests source target user others (Some file) is holds names true next rest all = (
+request_bytes master slave digests source target user others (Some file) is holds names name true next rest all = (
   order_bytes (order.Request source target user) names,
   (giving_said_bytes file.mode (told_of digests (Some file)) (told_has_bytes digests file), (given_bytes others source file holds is, (answer_bytes answer.DoneNever, all))),
 )
@@ -282,9 +282,9 @@ exchange_bytes : (master slave : Side) (own others : Holdings) → HoldsBytes ow
     (next : List Move) (rest : List Turn) → TurnsAreBytes rest → TurnsAreBytes (exchange master slave own others j next rest)
 exchange_bytes master slave own others holds theirs (job.Send source target user temp) names next rest all =
     send_bytes master slave own.digests source target user temp own (to_give own (fetched_by source temp)) refl holds names
-    (others.verdict target) (others.immovable target) next rest all
+    (others.landing source target) (others.verdict (others.landing source target)) (others.immovable (others.landing source target)) next rest all
 exchange_bytes master slave own others holds theirs (job.Request source target user) names next rest all =
-    request_bytes master slave others.digests source target user others (to_give others source) refl theirs names (own.immovable target) next rest
+    request_bytes master slave others.digests source target user others (to_give others source) refl theirs names (own.landing source target) (own.immovable (own.landing source target)) next rest
     all
 
 exchanges_bytes : (master slave : Side) (own others : Holdings) → HoldsBytes own → HoldsBytes others → (jobs : List Job) →

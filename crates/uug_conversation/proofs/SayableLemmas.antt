@@ -1,5 +1,5 @@
 -- Whatever one end's machine says can be written.
-use Rattle.std.proofs.Common.{◌≡◌, ◌≤◌, ℕ, Bool, true, false, List, [], ◌∷◌, ◌++◌, Option, Some, None, Result, Ok, Err, All, refl, subst, arith}
+use Rattle.std.proofs.Common.{◌≡◌, ◌≤◌, ℕ, Bool, true, List, [], ◌∷◌, ◌++◌, Option, Some, None, Result, Ok, Err, All, refl, subst, arith}
 use Rattle.std.proofs.lemmas.List.Elements.{All-nil, All-cons}
 use Rattle.uug_digest.specs.Digests.{told_by_answer, told_by_order}
 use Rattle.uug_digest.specs.declared.file_digest.FileDigest.{FileDigest}
@@ -114,7 +114,7 @@ module _ (h : Holdings) (modes : AreModes h) where
 
   taking_order : (refusal : Option Answer) (told : Option FileDigest) (read : Result Order BadText) (l : Lists) → IsWrittenBefore refusal →
       CanAllBeSaid (on_order h refusal told read l).says
-  taking_order refusal told (Ok (order.Send source target user temp mode)) l w = taking_send (send_verdict h target told) target mode told l
+  taking_order refusal told (Ok (order.Send source target user temp mode)) l w = taking_send (send_verdict h (h.landing source target) told) (h.landing source target) mode told l
   taking_order refusal told (Ok (order.Request source target user)) l w = taking_request source (to_give h source) l refl
   taking_order refusal told (Ok order.HangUp) l w =
       taking_hang_up (choice h l.ahead).next (moved (choice h l.ahead).failing l) (choice_has l.ahead)
@@ -195,7 +195,7 @@ module _ (h : Holdings) (modes : AreModes h) where
 
   file_of : (jobs : List Job) (mode : ℕ) (told : Option FileDigest) (bytes : List ℕ) (l : Lists) → CanAllBeSaid (on_file_of h jobs mode told bytes l).says
   file_of (job.Request source target user ∷ jobs) mode told bytes l =
-      asked_file (file_verdict h target told bytes) (record { name = target; mode = mode; bytes = bytes }) l
+      asked_file (file_verdict h (h.landing source target) told bytes) (record { name = h.landing source target; mode = mode; bytes = bytes }) l
   file_of _ mode told bytes l = tt
 
   taking_file : (awaited : Awaits) (bytes : List ℕ) (l : Lists) → CanAllBeSaid (on_file h awaited bytes l).says

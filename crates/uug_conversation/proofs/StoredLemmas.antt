@@ -84,8 +84,8 @@ Contains-tail first jobs job i = (suc i.0, omega (arith, i.1), i.2)
 
 abbrev Own : Ends → (ahead others_ahead : List Job) → Claim
 Own e ahead others_ahead moves others_moves kept others_kept =
-    OwnEntries e.own e.own_jobs (struck_by moves ahead) (struck_by others_moves others_ahead) others_kept ×
-    OwnEntries e.others e.others_jobs (struck_by others_moves others_ahead) (struck_by moves ahead) kept
+    OwnEntries e.own e.others e.own_jobs (struck_by moves ahead) (struck_by others_moves others_ahead) others_kept ×
+    OwnEntries e.others e.own e.others_jobs (struck_by others_moves others_ahead) (struck_by moves ahead) kept
 
 -- the same, behind moves of the master's jobs
 abbrev OwnBehind : Ends → (ahead others_ahead : List Job) → (front : List Move) → Claim
@@ -101,14 +101,14 @@ send_own : (measures : Side → Measure) (master : Side) (e : Ends) (jobs others
     HoldsOf measures master (OwnBehind e jobs others_ahead behind.failing) rest →
     HoldsOf measures master
     (OwnBehind e (job.Send source target user temp ∷ jobs) others_ahead (send_choice source target user temp offered behind).failing)
-    (send_exchange master (other master) e.own.digests source target user temp offered verdict immovable behind.failing rest)
+    (send_exchange master (other master) e.own.digests source target user temp offered (e.others.landing source target) verdict immovable behind.failing rest)
 send_own measures master e jobs ahead source target user temp None verdict immovable behind rest given inside more = more
 send_own measures master e jobs ahead source target user temp (Some file) Never immovable behind rest given inside more =
     master_says (none, none) (slave_says (none, none) more)
 send_own measures master e jobs ahead source target user temp (Some file) Later immovable behind rest given inside more =
     master_says (none, none) (slave_says (none, none) more)
 send_own measures master e jobs ahead source target user temp (Some file) Yes false behind rest given inside more =
-    let of_job : IsOfSendJob e.own e.own_jobs (kept_as target file) = record {
+    let of_job : IsOfSendJob e.own e.others e.own_jobs (kept_as (e.others.landing source target) file) = record {
       source = source;
       target = target;
       user = user;
@@ -125,18 +125,18 @@ send_own measures master e jobs ahead source target user temp (Some file) Yes tr
 
 -- no entry, and nothing struck
 nothing_own : (e : Ends) (struck : List Job) → struck ≡ [] →
-    OwnEntries e.own e.own_jobs struck [] [] × OwnEntries e.others e.others_jobs [] struck []
+    OwnEntries e.own e.others e.own_jobs struck [] [] × OwnEntries e.others e.own e.others_jobs [] struck []
 nothing_own e struck nothing =
-    subst (λ s. OwnEntries e.own e.own_jobs s [] [] × OwnEntries e.others e.others_jobs [] s []) (sym nothing) (none, none)
+    subst (λ s. OwnEntries e.own e.others e.own_jobs s [] [] × OwnEntries e.others e.own e.others_jobs [] s []) (sym nothing) (none, none)
 
 -- one asked for, and behind it nothing struck
 one_asked : (e : Ends) (source target user : List ℕ) (file : File) (struck : List Job) →
     to_give e.others source ≡ Some file → struck ≡ [] →
-    OwnEntries e.own e.own_jobs (job.Request source target user ∷ struck) [] [] ×
-    OwnEntries e.others e.others_jobs [] (job.Request source target user ∷ struck) (kept_as target file ∷ [])
+    OwnEntries e.own e.others e.own_jobs (job.Request source target user ∷ struck) [] [] ×
+    OwnEntries e.others e.own e.others_jobs [] (job.Request source target user ∷ struck) (kept_as (e.own.landing source target) file ∷ [])
 one_asked e source target user file struck given nothing =
-    subst (λ s. OwnEntries e.own e.own_jobs (job.Request source target user ∷ s) [] [] ×
-    OwnEntries e.others e.others_jobs [] (job.Request source target user ∷ s) (kept_as target file ∷ []))
+    subst (λ s. OwnEntries e.own e.others e.own_jobs (job.Request source target user ∷ s) [] [] ×
+    OwnEntries e.others e.own e.others_jobs [] (job.Request source target user ∷ s) (kept_as (e.own.landing source target) file ∷ []))
     (sym nothing) (giver_asked none, asked_for given none)
 
 request_own : (measures : Side → Measure) (master : Side) (e : Ends) (jobs others_ahead : List Job)
@@ -144,7 +144,7 @@ request_own : (measures : Side → Measure) (master : Side) (e : Ends) (jobs oth
     to_give e.others source ≡ offered → struck_by (next ++ []) jobs ≡ [] →
     HoldsOf measures master (OwnBehind e jobs others_ahead next) rest →
     HoldsOf measures master (OwnBehind e (job.Request source target user ∷ jobs) others_ahead [])
-    (request_exchange master (other master) e.others.digests source target user offered immovable next rest)
+    (request_exchange master (other master) e.others.digests source target user offered (e.own.landing source target) immovable next rest)
 request_own measures master e jobs ahead source target user None immovable next rest given nothing more =
     master_says (none, none) (slave_says (none, none) more)
 request_own measures master e jobs ahead source target user (Some file) false next rest given nothing more =
@@ -165,13 +165,13 @@ exchanges_own : (measures : Side → Measure) (master : Side) (e : Ends) (jobs o
 exchanges_own measures master e [] ahead rest inside more = more
 exchanges_own measures master e (job.Send source target user temp ∷ jobs) ahead rest inside more =
     send_own measures master e jobs ahead source target user temp (to_give e.own (fetched_by source temp))
-    (e.others.verdict target) (e.others.immovable target) (choice e.own jobs)
+    (e.others.verdict (e.others.landing source target)) (e.others.immovable (e.others.landing source target)) (choice e.own jobs)
     (exchanges master (other master) e.own e.others jobs rest) refl
     (inside (job.Send source target user temp) (Contains-head (job.Send source target user temp) jobs))
     (exchanges_own measures master e jobs ahead rest
     (λ j i. inside j (Contains-tail (job.Send source target user temp) jobs j i)) more)
 exchanges_own measures master e (job.Request source target user ∷ jobs) ahead rest inside more =
-    request_own measures master e jobs ahead source target user (to_give e.others source) (e.own.immovable target)
+    request_own measures master e jobs ahead source target user (to_give e.others source) (e.own.immovable (e.own.landing source target))
     (choice e.own jobs).failing (exchanges master (other master) e.own e.others jobs rest) refl
     (choice_strikes_nothing e.own jobs)
     (exchanges_own measures master e jobs ahead rest
@@ -187,8 +187,8 @@ called_ends a b = record { own = b.holdings; others = a.holdings; own_jobs = b.j
 
 -- the called end has chosen, and no more was taken
 chosen_own : (a b : Party) →
-    OwnEntries a.holdings a.jobs [] (struck_by ((choice b.holdings b.jobs).failing ++ []) b.jobs) [] ×
-    OwnEntries b.holdings b.jobs (struck_by ((choice b.holdings b.jobs).failing ++ []) b.jobs) [] []
+    OwnEntries a.holdings b.holdings a.jobs [] (struck_by ((choice b.holdings b.jobs).failing ++ []) b.jobs) [] ×
+    OwnEntries b.holdings a.holdings b.jobs (struck_by ((choice b.holdings b.jobs).failing ++ []) b.jobs) [] []
 chosen_own a b =
     let o = nothing_own (called_ends a b) (struck_by ((choice b.holdings b.jobs).failing ++ []) b.jobs)
     (choice_strikes_nothing b.holdings b.jobs) in
@@ -230,17 +230,17 @@ struck_of_called : (a b : Party) (k : ℕ) → (lists_after Called a b k).struck
 struck_of_called a b k = struck-moved (moves_after k (conversation_view Called a b)) [] b.jobs [] []
 
 pub called_store : (a b : Party) (j k : ℕ) → j ≤ floor k (conversation_view Called a b) → k ≤ floor j (conversation_view Caller a b) →
-    OwnEntries a.holdings a.jobs (lists_after Caller a b j).struck (lists_after Called a b k).struck
+    OwnEntries a.holdings b.holdings a.jobs (lists_after Caller a b j).struck (lists_after Called a b k).struck
     (kept_after k (conversation_view Called a b))
 called_store a b j k p q =
-    subst₂ (λ s t. OwnEntries a.holdings a.jobs s t (kept_after k (conversation_view Called a b)))
+    subst₂ (λ s t. OwnEntries a.holdings b.holdings a.jobs s t (kept_after k (conversation_view Called a b)))
     (sym (struck_of_caller a b j)) (sym (struck_of_called a b k)) ((conversation_own a b).always j k p q).0
 
 pub caller_store : (a b : Party) (j k : ℕ) → j ≤ floor k (conversation_view Called a b) → k ≤ floor j (conversation_view Caller a b) →
-    OwnEntries b.holdings b.jobs (lists_after Called a b k).struck (lists_after Caller a b j).struck
+    OwnEntries b.holdings a.holdings b.jobs (lists_after Called a b k).struck (lists_after Caller a b j).struck
     (kept_after j (conversation_view Caller a b))
 caller_store a b j k p q =
-    subst₂ (λ s t. OwnEntries b.holdings b.jobs t s (kept_after j (conversation_view Caller a b)))
+    subst₂ (λ s t. OwnEntries b.holdings a.holdings b.jobs t s (kept_after j (conversation_view Caller a b)))
     (sym (struck_of_caller a b j)) (sym (struck_of_called a b k)) ((conversation_own a b).always j k p q).1
 
 -- ---- at the start of a session

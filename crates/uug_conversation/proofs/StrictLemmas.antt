@@ -93,7 +93,7 @@ unread _ _ l = refl
 
 an_order : (h : Holdings) (refusal : Option Answer) (told : Option FileDigest) (read : Result Order BadText) (l : Lists)
     → DropsNone (on_order h refusal told read l)
-an_order h refusal told (Ok (order.Send source target user temp mode)) l = send (send_verdict h target told) target mode told l
+an_order h refusal told (Ok (order.Send source target user temp mode)) l = send (send_verdict h (h.landing source target) told) (h.landing source target) mode told l
 an_order h refusal told (Ok (order.Request source target user)) l = request h.digests (to_give h source) l
 an_order h refusal told (Ok order.HangUp) l = hang_up h (choice h l.ahead).next (moved (choice h l.ahead).failing l)
 an_order h refusal told (Err fault) l = unread h.lenient refusal l
@@ -173,7 +173,7 @@ asked_file h Later file l = going_on h (moved_once pass l) (the_answer answer.Do
 
 file_of : (h : Holdings) (jobs : List Job) (mode : ℕ) (told : Option FileDigest) (bytes : List ℕ) (l : Lists) → DropsNone (on_file_of h jobs mode told bytes l)
 file_of h (job.Request source target user ∷ jobs) mode told bytes l =
-    asked_file h (file_verdict h target told bytes) (record { name = target; mode = mode; bytes = bytes }) l
+    asked_file h (file_verdict h (h.landing source target) told bytes) (record { name = h.landing source target; mode = mode; bytes = bytes }) l
 file_of h _ mode told bytes l = refl
 
 a_file : (h : Holdings) (awaited : Awaits) (bytes : List ℕ) (l : Lists) → DropsNone (on_file h awaited bytes l)

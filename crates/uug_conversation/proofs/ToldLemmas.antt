@@ -1,5 +1,5 @@
 -- What an end makes of what it is told of a file.
-use Rattle.std.proofs.Common.{◌≡◌, ◌↔◌, ℕ, Bool, true, false, ◌≤◌, nat_lt, ◌==◌, ◌&&◌, List, length, Option, Some, None, IsTrue, bytes_eq, refl, ap, ap₂, arith}
+use Rattle.std.proofs.Common.{◌≡◌, ◌↔◌, ℕ, Bool, true, false, ◌≤◌, nat_lt, ◌==◌, ◌&&◌, List, length, Some, IsTrue, bytes_eq, refl, ap, ap₂, arith}
 use Rattle.std.proofs.lemmas.Bool.Decides.{Decides-and, Decides-eqb, Decides-like, nat_tests}
 use Rattle.std.specs.Bool.{Decides, one_answer}
 use Rattle.std.specs.Cmp.Lexicographic.{bytes_decides}

@@ -1,5 +1,5 @@
 -- Whatever comes, what an end tells is told of the files that its spool gives.
-use Rattle.std.proofs.Common.{◌≡◌, ℕ, nat_lt, Bool, true, false, List, [], ◌∷◌, length, Option, Some, None, Result, Ok, Err, refl}
+use Rattle.std.proofs.Common.{ℕ, nat_lt, Bool, true, false, List, ◌∷◌, length, Option, Some, None, Result, Ok, Err, refl}
 use Rattle.uug_digest.specs.Digests.{told_by_answer, told_by_order}
 use Rattle.uug_digest.specs.declared.file_digest.FileDigest.{FileDigest}
 use Rattle.uug_talk.specs.declared.answer.Answer.{Answer}
@@ -49,7 +49,7 @@ module _ (h : Holdings) where
 
   an_order : (refusal : Option Answer) (told : Option FileDigest) (read : Result Order BadText) (l : Lists) →
       IsTrue (on_order h refusal told read l)
-  an_order refusal told (Ok (order.Send source target user temp mode)) l = send (send_verdict h target told) target mode told l
+  an_order refusal told (Ok (order.Send source target user temp mode)) l = send (send_verdict h (h.landing source target) told) (h.landing source target) mode told l
   an_order refusal told (Ok (order.Request source target user)) l = request (to_give h source) l
   an_order refusal told (Ok order.HangUp) l = hang_up (choice h l.ahead).next (moved (choice h l.ahead).failing l)
   an_order refusal told (Err fault) l = unread h.lenient refusal l
@@ -129,7 +129,7 @@ module _ (h : Holdings) where
 
   file_of : (jobs : List Job) (mode : ℕ) (told : Option FileDigest) (bytes : List ℕ) (l : Lists) → IsTrue (on_file_of h jobs mode told bytes l)
   file_of (job.Request source target user ∷ jobs) mode told bytes l =
-      asked_file (file_verdict h target told bytes) (record { name = target; mode = mode; bytes = bytes }) l
+      asked_file (file_verdict h (h.landing source target) told bytes) (record { name = h.landing source target; mode = mode; bytes = bytes }) l
   file_of _ mode told bytes l = tt
 
   a_file : (awaited : Awaits) (bytes : List ℕ) (l : Lists) → IsTrue (on_file h awaited bytes l)

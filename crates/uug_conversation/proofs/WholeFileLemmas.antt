@@ -35,18 +35,18 @@ done_with h w bytes l file =
     keeping (kept_on (awaited_verdict h file bytes) (kept_file file.name file.mode bytes)) (on_kept h w (awaited_verdict h file bytes) l)
 
 asked_of : (h : Holdings) (jobs : List Job) (mode : ℕ) (told : Option FileDigest) (bytes : List ℕ) (l : Lists) (file : FileAwaited) →
-    file_of_first jobs mode told ≡ Some file →
+    file_of_first h jobs mode told ≡ Some file →
     on_file_of h jobs mode told bytes l ≡ done_with h (awaits.AskedFile mode told) bytes l file
 asked_of h [] mode told bytes l file e = absurd cc
 asked_of h (job.Send source target user temp ∷ jobs) mode told bytes l file e = absurd cc
 asked_of h (job.Request source target user ∷ jobs) mode told bytes l file e =
-    let made : FileAwaited = record { name = target; mode = mode; told = told } in
+    let made : FileAwaited = record { name = h.landing source target; mode = mode; told = told } in
     let same : made ≡ file = cc in
-    subst (λ f. on_asked_file h (file_verdict h target told bytes) (kept_file target mode bytes) l
+    subst (λ f. on_asked_file h (file_verdict h (h.landing source target) told bytes) (kept_file (h.landing source target) mode bytes) l
     ≡ done_with h (awaits.AskedFile mode told) bytes l f)
-    same (asked_is h mode told (file_verdict h target told bytes) (kept_file target mode bytes) l)
+    same (asked_is h mode told (file_verdict h (h.landing source target) told bytes) (kept_file (h.landing source target) mode bytes) l)
 
-on_file_is : (h : Holdings) (w : Awaits) (bytes : List ℕ) (l : Lists) (file : FileAwaited) → file_awaited w l.ahead ≡ Some file →
+on_file_is : (h : Holdings) (w : Awaits) (bytes : List ℕ) (l : Lists) (file : FileAwaited) → file_awaited h w l.ahead ≡ Some file →
     on_file h w bytes l ≡ done_with h w bytes l file
 on_file_is h (awaits.SentFile target mode told) bytes l file e =
     let made : FileAwaited = record { name = target; mode = mode; told = told } in
@@ -63,7 +63,7 @@ pub record Replies (h : Holdings) (w : Awaits) (bytes : List ℕ) (old new : Lis
   pub kept : after ≡ before ++ (on_file h w bytes old).keeps
 
 kept_by : (h : Holdings) (w : Awaits) (bytes : List ℕ) (old new : Lists) (found : Option FileAwaited) (verdict : Verdict) (r : Reaction)
-    (before after : List Kept) → file_awaited w old.ahead ≡ found → IsKept h found bytes (Some verdict) before after →
+    (before after : List Kept) → file_awaited h w old.ahead ≡ found → IsKept h found bytes (Some verdict) before after →
     on_kept h w verdict old ≡ reply_of h new r [] → Replies h w bytes old new r before after
 kept_by h w bytes old new None verdict r before after e k o = absurd k
 kept_by h w bytes old new (Some file) verdict r before after e k o =
@@ -76,18 +76,18 @@ kept_by h w bytes old new (Some file) verdict r before after e k o =
     }
 
 pub when_kept : (h : Holdings) (w : Awaits) (bytes : List ℕ) (old new : Lists) (verdict : Verdict) (r : Reaction)
-    (before after : List Kept) → IsKept h (file_awaited w old.ahead) bytes (Some verdict) before after →
+    (before after : List Kept) → IsKept h (file_awaited h w old.ahead) bytes (Some verdict) before after →
     on_kept h w verdict old ≡ reply_of h new r [] → Replies h w bytes old new r before after
 when_kept h w bytes old new verdict r before after k o =
-    kept_by h w bytes old new (file_awaited w old.ahead) verdict r before after refl k o
+    kept_by h w bytes old new (file_awaited h w old.ahead) verdict r before after refl k o
 
 -- the same, by what was told of the file, and by the holdings that are the same
 pub when_told : (h h_after : Holdings) (w : Awaits) (bytes : List ℕ) (old new : Lists) (told : Option Verdict) (verdict : Verdict) (r : Reaction)
-    (before after : List Kept) → IsKept h (file_awaited w old.ahead) bytes told before after → told ≡ Some verdict →
+    (before after : List Kept) → IsKept h (file_awaited h w old.ahead) bytes told before after → told ≡ Some verdict →
     h_after ≡ h → on_kept h_after w verdict old ≡ reply_of h_after new r [] → Replies h w bytes old new r before after
 when_told h h_after w bytes old new told verdict r before after k t e o =
     when_kept h w bytes old new verdict r before after
-    (subst (λ z. IsKept h (file_awaited w old.ahead) bytes z before after) t k)
+    (subst (λ z. IsKept h (file_awaited h w old.ahead) bytes z before after) t k)
     (subst (λ z. on_kept z w verdict old ≡ reply_of z new r []) e o)
 
 -- ---- no file is awaited that could be kept
@@ -96,12 +96,12 @@ abbrev KeepsNone : Reply → Type 0
 KeepsNone r = r.keeps ≡ []
 
 none_of_first : (h : Holdings) (jobs : List Job) (mode : ℕ) (told : Option FileDigest) (bytes : List ℕ) (l : Lists) →
-    file_of_first jobs mode told ≡ None → on_file_of h jobs mode told bytes l ≡ out_of_turn l
+    file_of_first h jobs mode told ≡ None → on_file_of h jobs mode told bytes l ≡ out_of_turn l
 none_of_first h [] mode told bytes l e = refl
 none_of_first h (job.Send source target user temp ∷ jobs) mode told bytes l e = refl
 none_of_first h (job.Request source target user ∷ jobs) mode told bytes l e = absurd cc
 
-none_is : (h : Holdings) (w : Awaits) (bytes : List ℕ) (l : Lists) → file_awaited w l.ahead ≡ None →
+none_is : (h : Holdings) (w : Awaits) (bytes : List ℕ) (l : Lists) → file_awaited h w l.ahead ≡ None →
     on_file h w bytes l ≡ on_none_kept h w l
 none_is h (awaits.SentFile target mode told) bytes l e = absurd cc
 none_is h (awaits.AskedFile mode told) bytes l e = none_of_first h l.ahead mode told bytes l e
@@ -115,7 +115,7 @@ none_kept_keeps h awaits.DroppedAskedFile l = refl
 none_kept_keeps h _ l = refl
 
 unkept_by : (h : Holdings) (w : Awaits) (bytes : List ℕ) (old new : Lists) (found : Option FileAwaited) (r : Reaction)
-    (before after : List Kept) → file_awaited w old.ahead ≡ found → IsKept h found bytes None before after →
+    (before after : List Kept) → file_awaited h w old.ahead ≡ found → IsKept h found bytes None before after →
     on_none_kept h w old ≡ reply_of h new r [] → Replies h w bytes old new r before after
 unkept_by h w bytes old new None r before after e k o =
     let is = none_is h w bytes old e in
@@ -128,9 +128,9 @@ unkept_by h w bytes old new (Some file) r before after e k o = absurd k
 
 -- the same, by what was told of the file, and by the holdings that are the same
 pub when_none : (h h_after : Holdings) (w : Awaits) (bytes : List ℕ) (old new : Lists) (told : Option Verdict) (r : Reaction)
-    (before after : List Kept) → IsKept h (file_awaited w old.ahead) bytes told before after → told ≡ None →
+    (before after : List Kept) → IsKept h (file_awaited h w old.ahead) bytes told before after → told ≡ None →
     h_after ≡ h → on_none_kept h_after w old ≡ reply_of h_after new r [] → Replies h w bytes old new r before after
 when_none h h_after w bytes old new told r before after k t e o =
-    unkept_by h w bytes old new (file_awaited w old.ahead) r before after refl
-    (subst (λ z. IsKept h (file_awaited w old.ahead) bytes z before after) t k)
+    unkept_by h w bytes old new (file_awaited h w old.ahead) r before after refl
+    (subst (λ z. IsKept h (file_awaited h w old.ahead) bytes z before after) t k)
     (subst (λ z. on_none_kept z w old ≡ reply_of z new r []) e o)

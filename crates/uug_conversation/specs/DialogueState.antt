@@ -73,7 +73,7 @@ is_kept_now h g (Some file) =
     (g.whole && nat_le (length g.bytes) (limit_of g.kind)) && is_yes (awaited_verdict h file g.bytes)
 
 abbrev pub asks_spool : Holdings → State → (message : List ℕ) → Bool
-asks_spool h s message = is_kept_now h (gathered_with s message) (file_awaited s.awaits s.lists.ahead)
+asks_spool h s message = is_kept_now h (gathered_with s message) (file_awaited h s.awaits s.lists.ahead)
 
 -- the link has come up, with messages cut so
 abbrev pub opened_with : Side → Holdings → Measure → DialogueState → DialogueState

@@ -7,15 +7,15 @@ use Rattle.uug_conversation.specs.Party.{Party}
 use Rattle.uug_conversation.specs.Turns.{other, the_file, Turn}
 use Rattle.uug_conversation.specs.View.{party}
 
--- the entry is what a job asked for: under the job's target, with mode and bytes of the file that the giver's holdings
--- give, a Send job being the giver's and a Request job the keeper's
+-- the entry is what a job asked for: under the name where it lands at the keeper, with mode and bytes of the file that the
+-- giver's holdings give, a Send job being the giver's and a Request job the keeper's
 pub data IsAskedFor (giver keeper : Party) : Kept → Type 0 where
   sent : {source target user : List ℕ} {temp : Option (List ℕ)} {file : File}
       → Contains giver.jobs (job.Send source target user temp) → to_give giver.holdings (fetched_by source temp) ≡ Some file
-      → IsAskedFor giver keeper (kept_as target file)
+      → IsAskedFor giver keeper (kept_as (keeper.holdings.landing source target) file)
   requested : {source target user : List ℕ} {file : File}
       → Contains keeper.jobs (job.Request source target user) → to_give giver.holdings source ≡ Some file
-      → IsAskedFor giver keeper (kept_as target file)
+      → IsAskedFor giver keeper (kept_as (keeper.holdings.landing source target) file)
 
 -- what the hearer of a turn keeps is the file that is said in it, which a job asked for
 pub record IsWellKept (a b : Party) (t : Turn) (k : Kept) : Type 0 where

@@ -14,55 +14,56 @@ use Rattle.uug_conversation.specs.Told.{told_of}
 use Rattle.uug_conversation.specs.Turns.{the_order, the_answer, the_giving, the_file, Turn, plain, moving}
 use Rattle.uug_conversation.specs.declared.side.Side.{Side}
 
--- the hearer keeps the file that it was given
-abbrev pub keeping : Side → (target : List ℕ) → File → List Move → Turn
-keeping speaker target file moves =
-    record { speaker = speaker; said = the_file file.bytes; moves = moves; keeps = kept_as target file ∷ [] }
+-- the hearer keeps the file that it was given, under this name
+abbrev pub keeping : Side → (name : List ℕ) → File → List Move → Turn
+keeping speaker name file moves =
+    record { speaker = speaker; said = the_file file.bytes; moves = moves; keeps = kept_as name file ∷ [] }
 
--- ---- Send, by whether the master tells digests, by its file, and by what the slave's spool says of the target: its verdict, and
--- whether a file can't be put in its place there
+-- ---- Send, by whether the master tells digests, by its file, and by what the slave's spool says: the name under which it keeps
+-- the file, its verdict on that, and whether a file can't be put in its place there
 
 abbrev pub send_exchange : (master slave : Side) → (digests : Bool) → (source target user : List ℕ) (temp : Option (List ℕ))
-    → Option File → Verdict → (immovable : Bool) → (next : List Move) → (rest : List Turn) → List Turn
+    → Option File → (name : List ℕ) → Verdict → (immovable : Bool) → (next : List Move) → (rest : List Turn) → List Turn
 -- no file: no turn
-send_exchange master slave digests source target user temp None verdict immovable next rest = rest
+send_exchange master slave digests source target user temp None name verdict immovable next rest = rest
 -- S; SN2: failed
-send_exchange master slave digests source target user temp (Some file) Never immovable next rest =
+send_exchange master slave digests source target user temp (Some file) name Never immovable next rest =
     plain master (the_order (order.Send source target user temp file.mode) (told_of digests (Some file))) ∷
     moving slave (the_answer answer.SendNever) (fail ∷ next) ∷ rest
 -- S; SN4: pending
-send_exchange master slave digests source target user temp (Some file) Later immovable next rest =
+send_exchange master slave digests source target user temp (Some file) name Later immovable next rest =
     plain master (the_order (order.Send source target user temp file.mode) (told_of digests (Some file))) ∷
     moving slave (the_answer answer.SendLater) (pass ∷ next) ∷ rest
 -- S; SY; file; CY: struck
-send_exchange master slave digests source target user temp (Some file) Yes false next rest =
+send_exchange master slave digests source target user temp (Some file) name Yes false next rest =
     plain master (the_order (order.Send source target user temp file.mode) (told_of digests (Some file))) ∷
     plain slave (the_answer answer.SendYes) ∷
-    keeping master target file [] ∷
+    keeping master name file [] ∷
     moving slave (the_answer answer.DoneYes) (strike ∷ next) ∷ rest
 -- S; SY; file; CN5: failed
-send_exchange master slave digests source target user temp (Some file) Yes true next rest =
+send_exchange master slave digests source target user temp (Some file) name Yes true next rest =
     plain master (the_order (order.Send source target user temp file.mode) (told_of digests (Some file))) ∷
     plain slave (the_answer answer.SendYes) ∷
     plain master (the_file file.bytes) ∷
     moving slave (the_answer answer.DoneNever) (fail ∷ next) ∷ rest
 
--- ---- Request, by whether the slave tells digests, by its file, and by whether a file can't be put in the target's place at the master
+-- ---- Request, by whether the slave tells digests, by its file, and by what the master's spool says: the name under which it keeps
+-- the file, and whether a file can't be put in its place there
 
 abbrev pub request_exchange : (master slave : Side) → (digests : Bool) → (source target user : List ℕ)
-    → Option File → (immovable : Bool) → (next : List Move) → (rest : List Turn) → List Turn
+    → Option File → (name : List ℕ) → (immovable : Bool) → (next : List Move) → (rest : List Turn) → List Turn
 -- R; RN2: failed
-request_exchange master slave digests source target user None immovable next rest =
+request_exchange master slave digests source target user None name immovable next rest =
     plain master (the_order (order.Request source target user) None) ∷
     moving slave (the_answer answer.GiveNever) (fail ∷ next) ∷ rest
 -- R; RY; file; CY: struck
-request_exchange master slave digests source target user (Some file) false next rest =
+request_exchange master slave digests source target user (Some file) name false next rest =
     plain master (the_order (order.Request source target user) None) ∷
     plain slave (the_giving file.mode (told_of digests (Some file))) ∷
-    keeping slave target file (strike ∷ next) ∷
+    keeping slave name file (strike ∷ next) ∷
     plain master (the_answer answer.DoneYes) ∷ rest
 -- R; RY; file; CN5: failed
-request_exchange master slave digests source target user (Some file) true next rest =
+request_exchange master slave digests source target user (Some file) name true next rest =
     plain master (the_order (order.Request source target user) None) ∷
     plain slave (the_giving file.mode (told_of digests (Some file))) ∷
     moving slave (the_file file.bytes) (fail ∷ next) ∷
@@ -72,6 +73,8 @@ request_exchange master slave digests source target user (Some file) true next r
 abbrev pub exchange : (master slave : Side) → (own others : Holdings) → Job → (next : List Move) → (rest : List Turn) → List Turn
 exchange master slave own others (job.Send source target user temp) next rest =
     send_exchange master slave own.digests source target user temp
-    (to_give own (fetched_by source temp)) (others.verdict target) (others.immovable target) next rest
+    (to_give own (fetched_by source temp)) (others.landing source target) (others.verdict (others.landing source target))
+    (others.immovable (others.landing source target)) next rest
 exchange master slave own others (job.Request source target user) next rest =
-    request_exchange master slave others.digests source target user (to_give others source) (own.immovable target) next rest
+    request_exchange master slave others.digests source target user (to_give others source) (own.landing source target)
+    (own.immovable (own.landing source target)) next rest

@@ -23,6 +23,8 @@ pub record Holdings : Type 0 where
   pub verdict : List ℕ → Verdict
   -- whether a file of this name can't be put in its place
   pub immovable : List ℕ → Bool
+  -- under which name a file of this name is kept that is sent to this one
+  pub landing : (source target : List ℕ) → List ℕ
   -- whether the end refuses what it can't read, and goes on
   pub lenient : Bool
   -- whether it tells digests of its files, and compares those that it is told

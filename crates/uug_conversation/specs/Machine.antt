@@ -74,7 +74,7 @@ goes_on h l before = chooses h (choice h l.ahead) l before
 
 -- ---- a slave takes a command
 
--- S, by the verdict on its target
+-- S, by the name under which its file is kept, and the verdict on that
 abbrev pub on_send : Verdict → (target : List ℕ) → (mode : ℕ) → (told : Option FileDigest) → Lists → Reply
 on_send Yes target mode told l = replies l (awaits.SentFile target mode told) (the_answer answer.SendYes ∷ [])
 on_send Never target mode told l = replies l awaits.Order (the_answer answer.SendNever ∷ [])
@@ -105,7 +105,8 @@ on_unread _ _ l = out_of_turn l
 
 -- a command, by what refuses it and what it tells of its file
 abbrev pub on_order : Holdings → (refusal : Option Answer) → (told : Option FileDigest) → Result Order BadText → Lists → Reply
-on_order h refusal told (Ok (order.Send source target user temp mode)) l = on_send (send_verdict h target told) target mode told l
+on_order h refusal told (Ok (order.Send source target user temp mode)) l =
+    on_send (send_verdict h (h.landing source target) told) (h.landing source target) mode told l
 on_order h refusal told (Ok (order.Request source target user)) l = on_request h.digests (to_give h source) l
 on_order h refusal told (Ok order.HangUp) l = on_choice h (choice h l.ahead) l
 on_order h refusal told (Err fault) l = on_unread h.lenient refusal l
@@ -213,10 +214,11 @@ on_asked_file h Yes file l = keeps file (goes_on h (moved_once strike l) (the_an
 on_asked_file h Never file l = goes_on h (moved_once fail l) (the_answer answer.DoneNever ∷ [])
 on_asked_file h Later file l = goes_on h (moved_once pass l) (the_answer answer.DoneLater ∷ [])
 
--- it is that of the job in front
+-- it is that of the job in front, and is kept where that lands
 abbrev pub on_file_of : Holdings → List Job → (mode : ℕ) → (told : Option FileDigest) → (bytes : List ℕ) → Lists → Reply
 on_file_of h (job.Request source target user ∷ jobs) mode told bytes l =
-    on_asked_file h (file_verdict h target told bytes) (record { name = target; mode = mode; bytes = bytes }) l
+    on_asked_file h (file_verdict h (h.landing source target) told bytes)
+    (record { name = h.landing source target; mode = mode; bytes = bytes }) l
 on_file_of h _ mode told bytes l = out_of_turn l
 
 abbrev pub on_file : Holdings → Awaits → List ℕ → Lists → Reply

@@ -40,11 +40,13 @@ abbrev pub verdict_on : (denied postponed : List (List ℕ)) → List ℕ → Ve
 verdict_on denied postponed name =
     if has_name denied name then Never else (if has_name postponed name then Later else Yes)
 
+-- a file is kept under the name to which it is sent
 abbrev pub holdings_of : MemoryHoldings → Holdings
 holdings_of m = record {
   file = first_named m.files;
   verdict = verdict_on m.denied m.postponed;
   immovable = has_name m.immovable;
+  landing = λ source target. target;
   lenient = m.lenient;
   digests = m.digests;
 }

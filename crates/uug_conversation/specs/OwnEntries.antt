@@ -1,13 +1,13 @@
 -- Whose the entries of a store are (this project's profile). The giver is the end whose files they are, and the store is
--- that of the other end, the receiver.
+-- that of the other end, the receiver; the receiver's holdings say under which name a file is kept there.
 use Rattle.std.specs.Prelude.{◌≡◌, ℕ, List, [], ◌∷◌, Contains, Option, Some, None, slice_get}
 use Rattle.uug_conversation.specs.declared.job.Job.{Job}
 use Rattle.uug_conversation.specs.declared.job.Job.TheVariants as job
 use Rattle.uug_conversation.specs.Choice.{fetched_by}
 use Rattle.uug_conversation.specs.Holdings.{File, Kept, Holdings, to_give, kept_as}
 
--- the entry has the target of one of these Send jobs, and the mode and bytes of its file, which may be sent
-pub record IsOfSendJob (h : Holdings) (jobs : List Job) (entry : Kept) : Type 0 where
+-- the entry has the name where one of these Send jobs lands, and the mode and bytes of its file, which may be sent
+pub record IsOfSendJob (h others : Holdings) (jobs : List Job) (entry : Kept) : Type 0 where
   pub source : List ℕ
   pub target : List ℕ
   pub user : List ℕ
@@ -15,31 +15,33 @@ pub record IsOfSendJob (h : Holdings) (jobs : List Job) (entry : Kept) : Type 0 
   pub file : File
   pub is_job : Contains jobs (job.Send source target user temp)
   pub is_given : to_give h (fetched_by source temp) ≡ Some file
-  pub is_entry : entry ≡ kept_as target file
+  pub is_entry : entry ≡ kept_as (others.landing source target) file
 
--- The struck jobs of the giver, which has these holdings and had these jobs to do, and those of the receiver, with the
--- entries of the receiver's store, each list in its order. Each struck Send job of the giver and each struck Request job
--- of the receiver takes one entry for itself: its target, and the mode and bytes of its file. The others have theirs in
--- the giver's store. An entry that no struck job takes is of a Send job of the giver.
-pub data OwnEntries (h : Holdings) (jobs : List Job) : (givers receivers : List Job) → (entries : List Kept) → Type 0 where
-  none : OwnEntries h jobs [] [] []
+-- The struck jobs of the giver, which has the first holdings and had these jobs to do, and those of the receiver, which has
+-- the others, with the entries of the receiver's store, each list in its order. Each struck Send job of the giver and each
+-- struck Request job of the receiver takes one entry for itself: the name where it lands there, and the mode and bytes of
+-- its file. The others have theirs in the giver's store. An entry that no struck job takes is of a Send job of the giver.
+pub data OwnEntries (h others : Holdings) (jobs : List Job) : (givers receivers : List Job) → (entries : List Kept) → Type 0 where
+  none : OwnEntries h others jobs [] [] []
   -- an entry that no struck job takes: its job may still be struck in this session, or have its file stored anew in a
   -- later one
-  not_struck : {g r : List Job} {e : List Kept} {entry : Kept} → IsOfSendJob h jobs entry →
-      OwnEntries h jobs g r e → OwnEntries h jobs g r (entry ∷ e)
+  not_struck : {g r : List Job} {e : List Kept} {entry : Kept} → IsOfSendJob h others jobs entry →
+      OwnEntries h others jobs g r e → OwnEntries h others jobs g r (entry ∷ e)
   -- a struck Send job of the giver, with its entry
   sent : {g r : List Job} {e : List Kept} {source target user : List ℕ} {temp : Option (List ℕ)} {file : File} →
       to_give h (fetched_by source temp) ≡ Some file →
-      OwnEntries h jobs g r e → OwnEntries h jobs (job.Send source target user temp ∷ g) r (kept_as target file ∷ e)
+      OwnEntries h others jobs g r e → OwnEntries h others jobs (job.Send source target user temp ∷ g) r
+      (kept_as (others.landing source target) file ∷ e)
   -- a struck Request job of the receiver, with its entry
   asked_for : {g r : List Job} {e : List Kept} {source target user : List ℕ} {file : File} →
       to_give h source ≡ Some file →
-      OwnEntries h jobs g r e → OwnEntries h jobs g (job.Request source target user ∷ r) (kept_as target file ∷ e)
+      OwnEntries h others jobs g r e → OwnEntries h others jobs g (job.Request source target user ∷ r)
+      (kept_as (others.landing source target) file ∷ e)
   -- a struck job whose entry is in the giver's store
   giver_asked : {g r : List Job} {e : List Kept} {source target user : List ℕ} →
-      OwnEntries h jobs g r e → OwnEntries h jobs (job.Request source target user ∷ g) r e
+      OwnEntries h others jobs g r e → OwnEntries h others jobs (job.Request source target user ∷ g) r e
   receiver_sent : {g r : List Job} {e : List Kept} {source target user : List ℕ} {temp : Option (List ℕ)} →
-      OwnEntries h jobs g r e → OwnEntries h jobs g (job.Send source target user temp ∷ r) e
+      OwnEntries h others jobs g r e → OwnEntries h others jobs g (job.Send source target user temp ∷ r) e
 
 -- ---- the same by places
 
@@ -53,26 +55,27 @@ pub record Brought : Type 0 where
   pub source : List ℕ
   pub target : List ℕ
 
-abbrev pub brought_by_send : Option Job → Option Brought
-brought_by_send (Some (job.Send source target user temp)) =
-    Some (record { source = fetched_by source temp; target = target })
-brought_by_send _ = None
+abbrev pub brought_by_send : (others : Holdings) → Option Job → Option Brought
+brought_by_send others (Some (job.Send source target user temp)) =
+    Some (record { source = fetched_by source temp; target = others.landing source target })
+brought_by_send others _ = None
 
-abbrev pub brought_by_request : Option Job → Option Brought
-brought_by_request (Some (job.Request source target user)) = Some (record { source = source; target = target })
-brought_by_request _ = None
+abbrev pub brought_by_request : (others : Holdings) → Option Job → Option Brought
+brought_by_request others (Some (job.Request source target user)) =
+    Some (record { source = source; target = others.landing source target })
+brought_by_request others _ = None
 
 -- a Send job of the giver and a Request job of the receiver brought one; no other job did
-abbrev pub brought : (givers receivers : List Job) → Struck → Option Brought
-brought givers receivers (by_giver i) = brought_by_send (slice_get givers i)
-brought givers receivers (by_receiver i) = brought_by_request (slice_get receivers i)
+abbrev pub brought : (others : Holdings) → (givers receivers : List Job) → Struck → Option Brought
+brought others givers receivers (by_giver i) = brought_by_send others (slice_get givers i)
+brought others givers receivers (by_receiver i) = brought_by_request others (slice_get receivers i)
 
--- Each struck job that brought a file has an entry of its own: its target, and the mode and bytes of the file that the
--- giver's holdings give. Different jobs have different entries.
-pub record HasOwnEntries (h : Holdings) (givers receivers : List Job) (entries : List Kept) : Type 0 where
+-- Each struck job that brought a file has an entry of its own: the name where it lands by the receiver's holdings, and the mode
+-- and bytes of the file that the giver's holdings give. Different jobs have different entries.
+pub record HasOwnEntries (h others : Holdings) (givers receivers : List Job) (entries : List Kept) : Type 0 where
   -- where the entry of a struck job stands
   pub place : Struck → ℕ
-  pub entry : (job : Struck) (b : Brought) → brought givers receivers job ≡ Some b →
+  pub entry : (job : Struck) (b : Brought) → brought others givers receivers job ≡ Some b →
       (file : File) × (to_give h b.source ≡ Some file) × (slice_get entries (place job) ≡ Some (kept_as b.target file))
-  pub own : (job other : Struck) (b c : Brought) → brought givers receivers job ≡ Some b →
-      brought givers receivers other ≡ Some c → place job ≡ place other → job ≡ other
+  pub own : (job other : Struck) (b c : Brought) → brought others givers receivers job ≡ Some b →
+      brought others givers receivers other ≡ Some c → place job ≡ place other → job ≡ other

@@ -81,14 +81,15 @@ pub record FileAwaited : Type 0 where
   pub mode : ℕ
   pub told : Option FileDigest
 
-abbrev pub file_of_first : List Job → (mode : ℕ) → (told : Option FileDigest) → Option FileAwaited
-file_of_first (job.Request source target user ∷ jobs) mode told = Some (record { name = target; mode = mode; told = told })
-file_of_first _ mode told = None
+abbrev pub file_of_first : Holdings → List Job → (mode : ℕ) → (told : Option FileDigest) → Option FileAwaited
+file_of_first h (job.Request source target user ∷ jobs) mode told =
+    Some (record { name = h.landing source target; mode = mode; told = told })
+file_of_first h _ mode told = None
 
-abbrev pub file_awaited : Awaits → List Job → Option FileAwaited
-file_awaited (awaits.SentFile target mode told) jobs = Some (record { name = target; mode = mode; told = told })
-file_awaited (awaits.AskedFile mode told) jobs = file_of_first jobs mode told
-file_awaited _ jobs = None
+abbrev pub file_awaited : Holdings → Awaits → List Job → Option FileAwaited
+file_awaited h (awaits.SentFile target mode told) jobs = Some (record { name = target; mode = mode; told = told })
+file_awaited h (awaits.AskedFile mode told) jobs = file_of_first h jobs mode told
+file_awaited h _ jobs = None
 
 -- whether that file is kept, where it has these bytes
 abbrev pub awaited_verdict : Holdings → FileAwaited → (bytes : List ℕ) → Verdict

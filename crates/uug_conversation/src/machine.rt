@@ -111,7 +111,14 @@ fn on_order<A: Allocator, S: Spool>(
     ensures mode { IfOk order.now (λ o. HasMode o) → HasModeInRange result.awaits }
 {
     match order {
-        Ok(Order::Send { target, mode, .. }) => on_send(spool, *target, *mode, told),
+        Ok(
+            Order::Send {
+                source,
+                target,
+                mode,
+                ..
+            },
+        ) => on_send(spool, spool.landing(source, target), *mode, told),
         Ok(Order::Request { source, .. }) => on_request(spool, *source),
         Ok(Order::HangUp) => on_hang_up(spool, choose(queue, spool)),
         Err(_) => on_unread(spool, refusal),

@@ -122,6 +122,10 @@ impl<A: Allocator + Copy> Spool for MemorySpool<A> {
         }
     }
 
+    fn landing(&self, _source: &Name, target: &Name) -> Name {
+        *target
+    }
+
     fn fetch(&self, name: &Name) -> Option<FileView<'_>> {
         first_named(self.files.as_slice(), name)
     }

@@ -42,6 +42,10 @@ pub trait Spool {
     fn may_keep(&self, name: &Name) -> Verdict
         ensures { result ≡ (holdings self.now).verdict name.now };
 
+    /// Under which name a file of this name is kept that is sent to this one.
+    fn landing(&self, source: &Name, target: &Name) -> Name
+        ensures { result ≡ (holdings self.now).landing source.now target.now };
+
     /// The file of this name, if there is one.
     fn fetch(&self, name: &Name) -> Option<FileView<'_>>
         ensures { shown_file result ≡ (holdings self.now).file name.now };

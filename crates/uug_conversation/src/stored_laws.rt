@@ -14,35 +14,35 @@ ghost use Rattle.uug_conversation.specs.View.{conversation_view, floor, kept_aft
 pub fn struck_jobs_have_own_entries()
     ensures called_store { (a b : Party) (j k : ℕ)
         → j ≤ floor k (conversation_view Called a b) → k ≤ floor j (conversation_view Caller a b)
-        → OwnEntries a.holdings a.jobs (lists_after Caller a b j).struck
+        → OwnEntries a.holdings b.holdings a.jobs (lists_after Caller a b j).struck
         (lists_after Called a b k).struck
         (kept_after k (conversation_view Called a b)) }
     ensures caller_store { (a b : Party) (j k : ℕ)
         → j ≤ floor k (conversation_view Called a b) → k ≤ floor j (conversation_view Caller a b)
-        → OwnEntries b.holdings b.jobs (lists_after Called a b k).struck
+        → OwnEntries b.holdings a.holdings b.jobs (lists_after Called a b k).struck
         (lists_after Caller a b j).struck
         (kept_after j (conversation_view Caller a b)) }
 {}
 
 /// The same by places: a function gives each struck job the place of its entry, another one for each job.
 pub fn own_entries_have_places()
-    ensures { (h : Holdings) (jobs givers receivers : List Job) (entries : List Kept)
-        → OwnEntries h jobs givers receivers entries → HasOwnEntries h givers receivers entries }
+    ensures { (h others : Holdings) (jobs givers receivers : List Job) (entries : List Kept)
+        → OwnEntries h others jobs givers receivers entries → HasOwnEntries h others givers receivers entries }
 {}
 
 /// Own entries of several sessions, each with jobs of its own to do, are own entries of all of them.
 pub fn own_entries_of_sessions()
-    ensures joined { (h : Holdings)
+    ensures joined { (h others : Holdings)
         (jobs later_jobs givers receivers later_givers later_receivers : List Job)
         (entries later_entries : List Kept)
-        → OwnEntries h jobs givers receivers entries
-        → OwnEntries h later_jobs later_givers later_receivers later_entries
-        → OwnEntries h (jobs ++ later_jobs) (givers ++ later_givers) (receivers ++ later_receivers)
+        → OwnEntries h others jobs givers receivers entries
+        → OwnEntries h others later_jobs later_givers later_receivers later_entries
+        → OwnEntries h others (jobs ++ later_jobs) (givers ++ later_givers) (receivers ++ later_receivers)
         (entries ++ later_entries) }
     // Of the giver's jobs it matters only that those with an entry are among them.
-    ensures more_jobs { (h : Holdings) (jobs more givers receivers : List Job) (entries : List Kept)
+    ensures more_jobs { (h others : Holdings) (jobs more givers receivers : List Job) (entries : List Kept)
         → ((job : Job) → Contains jobs job → Contains more job)
-        → OwnEntries h jobs givers receivers entries → OwnEntries h more givers receivers entries }
+        → OwnEntries h others jobs givers receivers entries → OwnEntries h others more givers receivers entries }
 {}
 
 /// Before anything of the other end was taken, no job is struck and no file stored.

@@ -81,11 +81,13 @@ fn keep_awaited<A: Allocator, S: Spool>(
     requires { HasModeInRange awaits.now }
     ensures holdings { S.holdings spool.new ≡ S.holdings spool.old }
     ensures kept { IfOk result (λ verdict.
-        IsKept (S.holdings spool.old) (file_awaited awaits.now queue.now.ahead) bytes.now
+        IsKept (S.holdings spool.old)
+        (file_awaited (S.holdings spool.old) awaits.now queue.now.ahead) bytes.now
         verdict (S.kept spool.old) (S.kept spool.new)) }
     ensures err { OnErr result (S.kept spool.new ≡ S.kept spool.old) }
     ensures only { OnErr result
-        (MayBeKept (S.holdings spool.old) (file_awaited awaits.now queue.now.ahead) bytes.now) }
+        (MayBeKept (S.holdings spool.old)
+        (file_awaited (S.holdings spool.old) awaits.now queue.now.ahead) bytes.now) }
     ensures stands { result ≢ Err FileFault.Device → S.faults spool.new ≡ S.faults spool.old }
     ensures device { result ≡ Err FileFault.Device
         → (S.faults spool.old < S.faults spool.new) ⊎ (S.faults spool.old ≡ u64.MAX) }
@@ -96,8 +98,9 @@ fn keep_awaited<A: Allocator, S: Spool>(
             Ok(Some(keep(spool, target, *mode, told, bytes)?))
         }
         Awaits::AskedFile { mode, told } => match queue.first() {
-            Some(Job::Request { target, .. }) => {
-                Ok(Some(keep(spool, target, *mode, told, bytes)?))
+            Some(Job::Request { source, target, .. }) => {
+                let name = spool.landing(source, target);
+                Ok(Some(keep(spool, &name, *mode, told, bytes)?))
             }
             _ => Ok(None),
         },
@@ -188,7 +191,8 @@ pub(crate) fn on_file<A: Allocator, S: Spool>(
     ensures none_kept { OnErr result (S.kept spool.new ≡ S.kept spool.old) }
     // The spool was asked only where a file is awaited that this one fits, and that can be put in its place.
     ensures only { OnErr result
-        (MayBeKept (S.holdings spool.old) (file_awaited awaits queue.old.ahead) bytes.now) }
+        (MayBeKept (S.holdings spool.old)
+        (file_awaited (S.holdings spool.old) awaits queue.old.ahead) bytes.now) }
     ensures stands { result ≢ Err FileFault.Device → S.faults spool.new ≡ S.faults spool.old }
     ensures device { result ≡ Err FileFault.Device
         → (S.faults spool.old < S.faults spool.new) ⊎ (S.faults spool.old ≡ u64.MAX) }

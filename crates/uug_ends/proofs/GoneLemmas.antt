@@ -51,10 +51,10 @@ gone_is_struck which before now same gone =
 
 -- ---- the entry of a struck job
 
-entry_of : (h : Holdings) (givers receivers : List Job) (entries : List Kept) → HasOwnEntries h givers receivers entries →
-    (job : Struck) (source target : List ℕ) → brought givers receivers job ≡ Some (record { source = source; target = target }) →
+entry_of : (h others : Holdings) (givers receivers : List Job) (entries : List Kept) → HasOwnEntries h others givers receivers entries →
+    (job : Struck) (source target : List ℕ) → brought others givers receivers job ≡ Some (record { source = source; target = target }) →
     WasKept h source target entries
-entry_of h givers receivers entries own struck source target brings =
+entry_of h others givers receivers entries own struck source target brings =
     let entry = own.entry struck (record { source = source; target = target }) brings in
     record {
       file = entry.0;
@@ -62,19 +62,19 @@ entry_of h givers receivers entries own struck source target brings =
       is_kept = is_there entries (kept_as target entry.0) (own.place struck) entry.2;
     }
 
-sent_kept : (h : Holdings) (givers receivers : List Job) (entries : List Kept) (source target user : List ℕ) (temp : Option (List ℕ)) →
-    HasOwnEntries h givers receivers entries → Contains givers (job.Send source target user temp) →
-    WasKept h (fetched_by source temp) target entries
-sent_kept h givers receivers entries source target user temp own has =
+sent_kept : (h others : Holdings) (givers receivers : List Job) (entries : List Kept) (source target user : List ℕ) (temp : Option (List ℕ)) →
+    HasOwnEntries h others givers receivers entries → Contains givers (job.Send source target user temp) →
+    WasKept h (fetched_by source temp) (others.landing source target) entries
+sent_kept h others givers receivers entries source target user temp own has =
     let at_i = there_at givers (job.Send source target user temp) has in
-    entry_of h givers receivers entries own (by_giver at_i.0) (fetched_by source temp) target (ap brought_by_send at_i.1)
+    entry_of h others givers receivers entries own (by_giver at_i.0) (fetched_by source temp) (others.landing source target) (ap (brought_by_send others) at_i.1)
 
-asked_kept : (h : Holdings) (givers receivers : List Job) (entries : List Kept) (source target user : List ℕ) →
-    HasOwnEntries h givers receivers entries → Contains receivers (job.Request source target user) →
-    WasKept h source target entries
-asked_kept h givers receivers entries source target user own has =
+asked_kept : (h others : Holdings) (givers receivers : List Job) (entries : List Kept) (source target user : List ℕ) →
+    HasOwnEntries h others givers receivers entries → Contains receivers (job.Request source target user) →
+    WasKept h source (others.landing source target) entries
+asked_kept h others givers receivers entries source target user own has =
     let at_i = there_at receivers (job.Request source target user) has in
-    entry_of h givers receivers entries own (by_receiver at_i.0) source target (ap brought_by_request at_i.1)
+    entry_of h others givers receivers entries own (by_receiver at_i.0) source (others.landing source target) (ap (brought_by_request others) at_i.1)
 
 -- ---- a node's jobs
 
@@ -98,18 +98,18 @@ module _ (ends : AtBoth EndBeginning) (order : List EventAt) (kept : AtBoth (Lis
       IsGone which (at side ends).lists (lists_of (at side nodes)) →
       FileWasKept (holdings_at ends) (kept_by_both ends kept) side which
   gone_was_kept Caller (job.Send source target user temp) fresh gone =
-      sent_kept ends.at_caller.holdings (struck_at ends nodes Caller) (struck_at ends nodes Called) (kept_at ends kept Called)
+      sent_kept ends.at_caller.holdings ends.at_called.holdings (struck_at ends nodes Caller) (struck_at ends nodes Called) (kept_at ends kept Called)
       source target user temp (nodes_keep ends order kept nodes sound none have Caller)
       (gone_struck Caller (job.Send source target user temp) fresh gone)
   gone_was_kept Called (job.Send source target user temp) fresh gone =
-      sent_kept ends.at_called.holdings (struck_at ends nodes Called) (struck_at ends nodes Caller) (kept_at ends kept Caller)
+      sent_kept ends.at_called.holdings ends.at_caller.holdings (struck_at ends nodes Called) (struck_at ends nodes Caller) (kept_at ends kept Caller)
       source target user temp (nodes_keep ends order kept nodes sound none have Called)
       (gone_struck Called (job.Send source target user temp) fresh gone)
   gone_was_kept Caller (job.Request source target user) fresh gone =
-      asked_kept ends.at_called.holdings (struck_at ends nodes Called) (struck_at ends nodes Caller) (kept_at ends kept Caller)
+      asked_kept ends.at_called.holdings ends.at_caller.holdings (struck_at ends nodes Called) (struck_at ends nodes Caller) (kept_at ends kept Caller)
       source target user (nodes_keep ends order kept nodes sound none have Called)
       (gone_struck Caller (job.Request source target user) fresh gone)
   gone_was_kept Called (job.Request source target user) fresh gone =
-      asked_kept ends.at_caller.holdings (struck_at ends nodes Caller) (struck_at ends nodes Called) (kept_at ends kept Called)
+      asked_kept ends.at_caller.holdings ends.at_called.holdings (struck_at ends nodes Caller) (struck_at ends nodes Called) (kept_at ends kept Called)
       source target user (nodes_keep ends order kept nodes sound none have Caller)
       (gone_struck Called (job.Request source target user) fresh gone)

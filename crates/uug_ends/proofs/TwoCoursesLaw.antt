@@ -1,5 +1,5 @@
 -- Two ends keep their promises: both, told step by step by an order of their events, stay joined.
-use Rattle.std.proofs.Common.{◌≡◌, inl, inr, ℕ, suc, ◌+◌, ◌≤◌, List, [], ◌∷◌, ◌++◌, length, take, refl, sym, ap, subst, ◌∙◌, arith}
+use Rattle.std.proofs.Common.{◌≡◌, inl, inr, ℕ, suc, ◌+◌, ◌≤◌, List, [], ◌∷◌, ◌++◌, length, take, refl, sym, ap, subst, subst₂, ◌∙◌, arith}
 use Rattle.std.proofs.lemmas.Nat.{pow_pos}
 use Rattle.uug_link.specs.Terms.{IsWindow}
 use Rattle.uug_link.specs.TwoLinks.{IsFrontOf}
@@ -233,26 +233,27 @@ module _ (setup : SetupValue) (brought : AtBoth Belongings) (sound : IsSoundSess
       since_is (at side brought).kept (stored_in (parties setup brought) side n.count) c.state.keeper.kept n.stands.stored
 
   own : (giver : Side) (c d : EndCourse) → (at giver (parties setup brought)).holdings ≡ (at giver setup).holdings →
+      (at (other giver) (parties setup brought)).holdings ≡ (at (other giver) setup).holdings →
       (here : Counted setup brought giver c) (there : Counted setup brought (other giver) d) →
       here.count ≤ floor there.count (view_at (parties setup brought) (other giver)) →
       there.count ≤ floor here.count (view_at (parties setup brought) giver) →
-      HasOwnEntries (at giver setup).holdings (struck_since giver c) (struck_since (other giver) d) (stored_since (other giver) d)
-  own giver c d same here there near far =
+      HasOwnEntries (at giver setup).holdings (at (other giver) setup).holdings (struck_since giver c) (struck_since (other giver) d) (stored_since (other giver) d)
+  own giver c d same same_there here there near far =
       let p = parties setup brought in
       let gs = struck_in p giver here.count in
       let rs = struck_in p (other giver) there.count in
       let es = stored_in p (other giver) there.count in
-      subst (λ xs. HasOwnEntries (at giver setup).holdings xs (struck_since (other giver) d) (stored_since (other giver) d)) (sym (struck_is giver c here))
-      (subst (λ xs. HasOwnEntries (at giver setup).holdings gs xs (stored_since (other giver) d)) (sym (struck_is (other giver) d there))
-      (subst (λ xs. HasOwnEntries (at giver setup).holdings gs rs xs) (sym (stored_is (other giver) d there))
-      (subst (λ (h : Holdings). HasOwnEntries h gs rs es) same
-      (by_places (at giver p).holdings (at giver p).jobs gs rs es (session_own p giver here.count there.count near far)))))
+      subst (λ xs. HasOwnEntries (at giver setup).holdings (at (other giver) setup).holdings xs (struck_since (other giver) d) (stored_since (other giver) d)) (sym (struck_is giver c here))
+      (subst (λ xs. HasOwnEntries (at giver setup).holdings (at (other giver) setup).holdings gs xs (stored_since (other giver) d)) (sym (struck_is (other giver) d there))
+      (subst (λ xs. HasOwnEntries (at giver setup).holdings (at (other giver) setup).holdings gs rs xs) (sym (stored_is (other giver) d there))
+      (subst₂ (λ (h others : Holdings). HasOwnEntries h others gs rs es) same same_there
+      (by_places (at giver p).holdings (at (other giver) p).holdings (at giver p).jobs gs rs es (session_own p giver here.count there.count near far)))))
 
 -- ---- the law
 
 pub record AreKept (ends : AtBoth EndBeginning) (both : AtBoth EndCourse) : Type 0 where
   pub front : (side : Side) → IsFrontOf (at side both).taken (messages_sent (at (other side) both).emitted)
-  pub stored : (giver : Side) → HasOwnEntries (at giver ends).holdings
+  pub stored : (giver : Side) → HasOwnEntries (at giver ends).holdings (at (other giver) ends).holdings
       (since (at giver ends).lists.struck (at giver both).state.keeper.machine.lists.struck)
       (since (at (other giver) ends).lists.struck (at (other giver) both).state.keeper.machine.lists.struck)
       (since (at (other giver) ends).kept (at (other giver) both).state.keeper.kept)
@@ -287,16 +288,16 @@ kept ends sound both j = record {
   fronts Caller = front (setup_of ends) (brought_of ends) s Caller both.at_caller both.at_called j
   fronts Called = front (setup_of ends) (brought_of ends) s Called both.at_called both.at_caller back
 
-  stored : (giver : Side) → HasOwnEntries (at giver ends).holdings
+  stored : (giver : Side) → HasOwnEntries (at giver ends).holdings (at (other giver) ends).holdings
       (since (at giver ends).lists.struck (at giver both).state.keeper.machine.lists.struck)
       (since (at (other giver) ends).lists.struck (at (other giver) both).state.keeper.machine.lists.struck)
       (since (at (other giver) ends).kept (at (other giver) both).state.keeper.kept)
   stored Caller =
-      own (setup_of ends) (brought_of ends) s Caller both.at_caller both.at_called refl here there
+      own (setup_of ends) (brought_of ends) s Caller both.at_caller both.at_called refl refl here there
       (to_floor (setup_of ends) (brought_of ends) s Caller both.at_caller both.at_called j here there)
       (to_floor (setup_of ends) (brought_of ends) s Called both.at_called both.at_caller back there here)
   stored Called =
-      own (setup_of ends) (brought_of ends) s Called both.at_called both.at_caller refl there here
+      own (setup_of ends) (brought_of ends) s Called both.at_called both.at_caller refl refl there here
       (to_floor (setup_of ends) (brought_of ends) s Called both.at_called both.at_caller back there here)
       (to_floor (setup_of ends) (brought_of ends) s Caller both.at_caller both.at_called j here there)
 
@@ -317,7 +318,7 @@ kept ends sound both j = record {
 pub two_keep : (ends : AtBoth EndBeginning) (order : List EventAt) → AreSound ends → NoneIsFooled ends order → KeepsPromises ends order
 two_keep ends order sound none = record {
   front = λ side. both_sides (λ s c d. IsFrontOf c.taken (messages_sent d.emitted)) side (are.front side);
-  stored = λ giver. both_sides (λ s c d. HasOwnEntries (at s ends).holdings
+  stored = λ giver. both_sides (λ s c d. HasOwnEntries (at s ends).holdings (at (other s) ends).holdings
       (since (at s ends).lists.struck c.state.keeper.machine.lists.struck)
       (since (at (other s) ends).lists.struck d.state.keeper.machine.lists.struck)
       (since (at (other s) ends).kept d.state.keeper.kept)) giver (are.stored giver);

@@ -41,16 +41,17 @@ module _ (ends : AtBoth EndBeginning) (order : List EventAt) (kept : AtBoth (Lis
       ∙ run_state side b (at side kept) (at side nodes) (have.runs side)
 
   pub nodes_keep : AreSound ends → NoneIsFooled ends order → HaveRun ends order kept nodes → (giver : Side) →
-      HasOwnEntries (at giver ends).holdings (struck_at ends nodes giver) (struck_at ends nodes (other giver))
-      (kept_at ends kept (other giver))
+      HasOwnEntries (at giver ends).holdings (at (other giver) ends).holdings (struck_at ends nodes giver)
+      (struck_at ends nodes (other giver)) (kept_at ends kept (other giver))
   nodes_keep sound none have giver =
       let keeps : KeepsPromises ends order = two_keep ends order sound none in
       let near : Stands ends order kept nodes giver = nodes_stand have giver in
       let far : Stands ends order kept nodes (other giver) = nodes_stand have (other giver) in
       let h : Holdings = (at giver ends).holdings in
-      subst (λ (e : EndState DialogueState). HasOwnEntries h (since (at giver ends).lists.struck e.keeper.machine.lists.struck)
+      let others : Holdings = (at (other giver) ends).holdings in
+      subst (λ (e : EndState DialogueState). HasOwnEntries h others (since (at giver ends).lists.struck e.keeper.machine.lists.struck)
       (struck_at ends nodes (other giver)) (kept_at ends kept (other giver))) near
-      (subst (λ (e : EndState DialogueState). HasOwnEntries h
+      (subst (λ (e : EndState DialogueState). HasOwnEntries h others
       (since (at giver ends).lists.struck (course_at ends order giver).state.keeper.machine.lists.struck)
       (since (at (other giver) ends).lists.struck e.keeper.machine.lists.struck)
       (since (at (other giver) ends).kept e.keeper.kept)) far (keeps.stored giver))

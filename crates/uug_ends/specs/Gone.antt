@@ -15,16 +15,17 @@ pub record IsGone (which : Job) (before now : Lists) : Type 0 where
   pub not_pending : Contains (pending now) which → ⊥
   pub not_failed : Contains now.failed which → ⊥
 
--- the file that the giver has under its name stands among the files that were kept, as this target
-pub record WasKept (h : Holdings) (name target : List ℕ) (kept : List Kept) : Type 0 where
+-- the file that the giver has under its name stands among the files that were kept, under the name where it lands
+pub record WasKept (h : Holdings) (name landing : List ℕ) (kept : List Kept) : Type 0 where
   pub file : File
   pub is_given : to_give h name ≡ Some file
-  pub is_kept : Contains kept (kept_as target file)
+  pub is_kept : Contains kept (kept_as landing file)
 
 -- The file of a job of the end on the side, whole: what it sends, in what the other end's spool has kept; what it asks for,
--- in what its own has kept. The one end's holdings give it, and the other's spool keeps it.
+-- in what its own has kept. The one end's holdings give it, and the other's spool keeps it, under the name that its own
+-- holdings say.
 abbrev pub FileWasKept : AtBoth Holdings → (kept : AtBoth (List Kept)) → Side → Job → Type 0
 FileWasKept holdings kept side (job.Send source target user temp) =
-    WasKept (at side holdings) (fetched_by source temp) target (at (other side) kept)
+    WasKept (at side holdings) (fetched_by source temp) ((at (other side) holdings).landing source target) (at (other side) kept)
 FileWasKept holdings kept side (job.Request source target user) =
-    WasKept (at (other side) holdings) source target (at side kept)
+    WasKept (at (other side) holdings) source ((at side holdings).landing source target) (at side kept)

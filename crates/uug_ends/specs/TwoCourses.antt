@@ -54,10 +54,10 @@ pub record KeepsPromises (ends : AtBoth EndBeginning) (order : List EventAt) : T
   -- what each end has taken are the first messages that the other has sent
   pub front : (side : Side) → IsFrontOf (course_at ends order side).taken
       (messages_sent (course_at ends order (other side)).emitted)
-  -- each struck job whose file came from the giver has an entry of its own among those stored at the other end: its target,
-  -- and the mode and bytes that the giver's spool has
-  pub stored : (giver : Side) → HasOwnEntries (at giver ends).holdings (struck_by ends order giver)
-      (struck_by ends order (other giver)) (stored_by ends order (other giver))
+  -- each struck job whose file came from the giver has an entry of its own among those stored at the other end: the name where
+  -- it lands there, and the mode and bytes that the giver's spool has
+  pub stored : (giver : Side) → HasOwnEntries (at giver ends).holdings (at (other giver) ends).holdings
+      (struck_by ends order giver) (struck_by ends order (other giver)) (stored_by ends order (other giver))
   -- what was struck and kept before stays in front
   pub struck_before : (side : Side) → (course_at ends order side).state.keeper.machine.lists.struck
       ≡ (at side ends).lists.struck ++ struck_by ends order side

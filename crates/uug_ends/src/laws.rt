@@ -29,13 +29,14 @@ pub fn two_nodes_keep_their_promises()
     ensures stored { (ends : AtBoth EndBeginning) (order : List EventAt) (kept : AtBoth (List Kept))
         (nodes : AtBoth NodeState) → AreSound ends → NoneIsFooled ends order
         → HaveRun ends order kept nodes → (giver : Side)
-        → HasOwnEntries (at giver ends).holdings (struck_at ends nodes giver)
-        (struck_at ends nodes (other giver)) (kept_at ends kept (other giver)) }
+        → HasOwnEntries (at giver ends).holdings (at (other giver) ends).holdings
+        (struck_at ends nodes giver) (struck_at ends nodes (other giver))
+        (kept_at ends kept (other giver)) }
 {}
 
-/// A job that is gone from an end's pending jobs, and did not fail, has its file, whole, under its target among those that the
-/// other end's spool has kept in the session, and a Request its own: where none of its jobs was struck before, and in some
-/// order of what happened at both ends neither was fooled.
+/// A job that is gone from an end's pending jobs, and did not fail, has its file, whole, among those that the other end's spool
+/// has kept in the session, and a Request its own, under the name where it lands there: where none of its jobs was struck
+/// before, and in some order of what happened at both ends neither was fooled.
 pub fn the_file_of_a_job_that_is_gone_was_kept()
     ensures { (ends : AtBoth EndBeginning) (order : List EventAt) (kept : AtBoth (List Kept))
         (nodes : AtBoth NodeState) → AreSound ends → NoneIsFooled ends order

@@ -1,5 +1,6 @@
 -- Names whose place in a folder is known, so that a wrong definition does not check.
 use Rattle.std.proofs.Common.{◌≡◌, ℕ, Bool, true, false, List, [], ◌∷◌, codes, Option, Some, None, refl}
+use Rattle.std.specs.Path.{rsplit_once}
 use Rattle.std.specs.Str.{bytes_eq}
 use Rattle.uug_folder.specs.Folders.{folder_holdings}
 use Rattle.uug_conversation.specs.Holdings.{File, Holdings, kept_file}
@@ -100,3 +101,35 @@ record AreBarred : Type 0 where
 
 barred : AreBarred
 barred = record { plain = refl; public = refl; other = refl; hidden = refl; deep = refl; nameless = refl }
+
+abbrev landing : List ℕ → List ℕ → List ℕ
+landing source target = (local_holdings false false (folder_holdings (λ name. false) [])).landing source target
+
+record AreLanded : Type 0 where
+  plain : landing (codes "/srv/f") (codes "y") ≡ codes "y"
+  public : landing (codes "/srv/f") (codes "~/y") ≡ codes "~/y"
+  root : landing (codes "/srv/f") (codes "/y") ≡ codes "/y"
+  into_public : landing (codes "/srv/f") (codes "~/") ≡ codes "f"
+  into_root : landing (codes "~/a/b/f") (codes "/") ≡ codes "f"
+  plain_source : landing (codes "f") (codes "~/") ≡ codes "f"
+  tilde : landing (codes "/srv/f") (codes "~") ≡ codes "~"
+  deep : landing (codes "/srv/f") (codes "~/a/") ≡ codes "~/a/"
+  nameless : landing (codes "/srv/") (codes "~/") ≡ codes "~/"
+  hidden : verdict (landing (codes "/srv/.f") (codes "~/")) ≡ Never
+  up : verdict (landing (codes "/srv/..") (codes "~/")) ≡ Never
+
+landed : AreLanded
+unfolding rsplit_once
+landed = record {
+  plain = refl;
+  public = refl;
+  root = refl;
+  into_public = refl;
+  into_root = refl;
+  plain_source = refl;
+  tilde = refl;
+  deep = refl;
+  nameless = refl;
+  hidden = refl;
+  up = refl;
+}

@@ -35,13 +35,14 @@ begins_with_dot (b ∷ _) = eqb b 46
 abbrev pub is_hidden : List ℕ → Bool
 is_hidden name = if list_any (λ b. eqb b 47) name then true else begins_with_dot name
 
--- hidden names are never taken, and can't be put in their place, as those that the folder bars; the end is not lenient,
--- and tells no digests
+-- hidden names are never taken, and can't be put in their place, as those that the folder bars; a file is kept under the name to
+-- which it is sent; the end is not lenient, and tells no digests
 abbrev pub folder_holdings : (barred : List ℕ → Bool) → List Kept → Holdings
 folder_holdings barred files = record {
   file = first_named files;
   verdict = λ name. if is_hidden name then Never else Yes;
   immovable = λ name. if is_hidden name then true else barred name;
+  landing = λ source target. target;
   lenient = false;
   digests = false;
 }

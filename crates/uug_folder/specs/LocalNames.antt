@@ -1,6 +1,8 @@
 -- Under which name a folder keeps a file that a real system names (this project's profile).
 use Rattle.std.specs.Prelude.{◌≡◌, ℕ, Bool, true, List, [], ◌∷◌, drop, codes, nat_eq, Option, Some, None, map, if◌then◌else◌}
 use Rattle.std.specs.List.{starts_with}
+use Rattle.std.specs.Option.{option_map_or}
+use Rattle.std.specs.Path.{rsplit_once, slash}
 use Rattle.uug_conversation.specs.Holdings.{File, Holdings, Kept, kept_file}
 use Rattle.uug_conversation.specs.MemoryHoldings.{kept_of}
 use Rattle.uug_conversation.specs.declared.verdict.Verdict.{Verdict}
@@ -40,6 +42,20 @@ abbrev pub immovable_by : Holdings → Option (List ℕ) → Bool
 immovable_by h None = true
 immovable_by h (Some name) = h.immovable name
 
+-- what stands behind the last slash of a name
+abbrev pub last_part : List ℕ → List ℕ
+last_part name = option_map_or (λ parts. parts.1) (rsplit_once slash name) name
+
+-- by what stands behind the root in the target, and by the name that the source's last part is, if it is one
+abbrev pub landing_by : (behind : List ℕ) → (part : Option (List ℕ)) → (target : List ℕ) → List ℕ
+landing_by [] (Some part) target = part
+landing_by [] None target = target
+landing_by (b ∷ behind) part target = target
+
+-- A file that is sent to the public folder itself, or to the root, lands there under the last part of its own name.
+abbrev pub local_landing : (source target : List ℕ) → List ℕ
+local_landing source target = landing_by (behind_root target) (name_of (last_part source)) target
+
 -- A file is given and taken as the folder gives and takes its name there; so none whose name there has a slash left, or a
 -- dot in front.
 abbrev pub local_holdings : (lenient digests : Bool) → Holdings → Holdings
@@ -47,6 +63,7 @@ local_holdings lenient digests h = record {
   file = λ name. file_by h (local_source name);
   verdict = λ name. verdict_by h (local_name name);
   immovable = λ name. immovable_by h (local_name name);
+  landing = local_landing;
   lenient = lenient;
   digests = digests;
 }

@@ -25,7 +25,7 @@ why_not_got Later = NotGiven
 -- by what the end's own spool gives and takes
 abbrev pub why_failed : Holdings → Job → WhyFailed
 why_failed own (Send source target user temp) = why_not_sent (to_give own (fetched_by source temp))
-why_failed own (Request source target user) = why_not_got (own.verdict target)
+why_failed own (Request source target user) = why_not_got (own.verdict (own.landing source target))
 
 -- ---- as it is written
 

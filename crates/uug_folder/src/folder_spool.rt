@@ -94,6 +94,10 @@ impl<F: Folder, A: Allocator + Copy> Spool for FolderSpool<F, A> {
         }
     }
 
+    fn landing(&self, _source: &Name, target: &Name) -> Name {
+        *target
+    }
+
     fn fetch(&self, name: &Name) -> Option<FileView<'_>> {
         self.fetch_by(name.as_bytes())
     }

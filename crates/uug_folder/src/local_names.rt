@@ -3,7 +3,7 @@ ghost use Rattle.uug_folder.specs.Folders.{folder_holdings};
 ghost use Rattle.uug_conversation.specs.MemoryHoldings.{kept_of};
 ghost use Rattle.uug_conversation.specs.Code.StoredModes.{modes_in_range};
 ghost use Rattle.uug_folder.specs.Code.LocalModes.{local_modes};
-ghost use Rattle.uug_folder.specs.LocalNames.{StandUnder, behind_root, holdings_here, kept_here, local_name, local_source};
+ghost use Rattle.uug_folder.specs.LocalNames.{StandUnder, behind_root, holdings_here, kept_here, last_part, local_landing, local_name, local_source};
 
 use crate::folder::Folder;
 use crate::folder_spool::{FolderSpool, is_hidden};
@@ -13,7 +13,8 @@ use uug_session::{FileView, KeepFault, Spool, Verdict};
 use uug_talk::Name;
 
 /// The spool over a folder, for another end that names files as real systems do: `~/x` and `/x` are `x` in the folder,
-/// and no other path is taken or given, nor a name with a dot in front. A clause sees the files in the folder, and the names under which those that were kept
+/// and no other path is taken or given, nor a name with a dot in front; a file that is sent to `~/` or `/` goes into the folder
+/// under the last part of its own name. A clause sees the files in the folder, and the names under which those that were kept
 /// came.
 #[derive(Drop)]
 pub struct LocalNames<F: Folder, A: Allocator> {
@@ -95,6 +96,10 @@ impl<F: Folder, A: Allocator + Copy> Spool for LocalNames<F, A> {
         }
     }
 
+    fn landing(&self, source: &Name, target: &Name) -> Name {
+        local_landing(source, target)
+    }
+
     fn fetch(&self, name: &Name) -> Option<FileView<'_>> {
         self.files.fetch_by(source_bytes(name)?)
     }
@@ -157,6 +162,27 @@ fn source_bytes(name: &Name) -> Option<&[u8]>
         return None;
     }
     Some(local)
+}
+
+/// Under which name a file is kept: one that is sent to the public folder itself, or to the root, under the last part of its own
+/// name.
+fn local_landing(source: &Name, target: &Name) -> Name
+    ensures { result ≡ local_landing source.now target.now }
+{
+    match behind_root(target.as_bytes()) {
+        [] => Name::new(last_part(source.as_str()).as_bytes()).unwrap_or(*target),
+        _ => *target,
+    }
+}
+
+/// What stands behind the last slash of a name.
+fn last_part(name: &str) -> &str
+    ensures { result.now ≡ last_part name.now }
+{
+    match name.rsplit_once('/') {
+        Some((_, part)) => part,
+        None => name,
+    }
 }
 
 /// A name without what says that it is in the public folder or the root of a system.

@@ -74,7 +74,9 @@ pub fn why_failed<S: Spool>(spool: &S, job: &Job) -> WhyFailed
             Some(_) => WhyFailed::Refused,
             None => WhyFailed::NoFile,
         },
-        Job::Request { target, .. } => why_not_got(spool.may_keep(target)),
+        Job::Request { source, target, .. } => {
+            why_not_got(spool.may_keep(&spool.landing(source, target)))
+        }
     }
 }
 

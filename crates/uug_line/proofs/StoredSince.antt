@@ -1,6 +1,6 @@
 -- What the ends of a run have, session by session: jobs struck since the set-up have entries of their own in what was
 -- stored since then.
-use Rattle.std.proofs.Common.{◌≡◌, inl, inr, ℕ, ◌≤◌, Bool, true, false, List, [], ◌++◌, length, drop, All, refl, sym, ap, subst, ◌∙◌, append_assoc, append-nil, arith, Option}
+use Rattle.std.proofs.Common.{◌≡◌, inl, inr, ℕ, ◌≤◌, Bool, true, false, List, [], ◌++◌, length, drop, All, refl, sym, ap, subst, subst₂, ◌∙◌, append_assoc, append-nil, arith, Option}
 use Rattle.std.proofs.lemmas.List.{length-append}
 use Rattle.std.proofs.Math.Seq.{drop-append_seam}
 use Rattle.uug_conversation.specs.Turns.{other}
@@ -39,7 +39,7 @@ stored_in parties side taken = kept_after taken (view_at parties side)
 
 pub session_own : (parties : AtBoth Party) (giver : Side) (own others : ℕ) →
     own ≤ floor others (view_at parties (other giver)) → others ≤ floor own (view_at parties giver) →
-    OwnEntries (at giver parties).holdings (at giver parties).jobs (struck_in parties giver own)
+    OwnEntries (at giver parties).holdings (at (other giver) parties).holdings (at giver parties).jobs (struck_in parties giver own)
     (struck_in parties (other giver) others) (stored_in parties (other giver) others)
 session_own parties Caller own others p q = called_store parties.at_caller parties.at_called own others p q
 session_own parties Called own others p q = caller_store parties.at_caller parties.at_called others own q p
@@ -93,7 +93,7 @@ pub record OwnSince (setup : SetupValue) (now : AtBoth Belongings) (giver : Side
   pub givers_are : (at giver now).lists.struck ≡ (at giver setup).belongings.lists.struck ++ givers
   pub receivers_are : (at (other giver) now).lists.struck ≡ (at (other giver) setup).belongings.lists.struck ++ receivers
   pub entries_are : (at (other giver) now).kept ≡ (at (other giver) setup).belongings.kept ++ entries
-  pub own : OwnEntries (at giver setup).holdings jobs givers receivers entries
+  pub own : OwnEntries (at giver setup).holdings (at (other giver) setup).holdings jobs givers receivers entries
 
 abbrev pub set_up : SetupValue → AtBoth Belongings
 set_up setup = at_each (λ side. renewed (at side setup).belongings)
@@ -122,7 +122,7 @@ own_more : (setup : SetupValue) (brought now : AtBoth Belongings) (giver : Side)
     (at (other giver) now).lists.struck
     ≡ (at (other giver) brought).lists.struck ++ struck_in (parties setup brought) (other giver) others →
     (at (other giver) now).kept ≡ (at (other giver) brought).kept ++ stored_in (parties setup brought) (other giver) others →
-    OwnEntries (at giver setup).holdings (at giver (parties setup brought)).jobs (struck_in (parties setup brought) giver own)
+    OwnEntries (at giver setup).holdings (at (other giver) setup).holdings (at giver (parties setup brought)).jobs (struck_in (parties setup brought) giver own)
     (struck_in (parties setup brought) (other giver) others) (stored_in (parties setup brought) (other giver) others) →
     OwnSince setup now giver
 own_more setup brought now giver own others before g r k here =
@@ -141,7 +141,7 @@ own_more setup brought now giver own others before g r k here =
           (at (other giver) now).lists.struck (at (other giver) brought).lists.struck r before.receivers_are;
       entries_are = more_behind (at (other giver) setup).belongings.kept before.entries es
           (at (other giver) now).kept (at (other giver) brought).kept k before.entries_are;
-      own = of_sessions (at giver setup).holdings before.jobs (at giver p).jobs before.givers before.receivers gs rs
+      own = of_sessions (at giver setup).holdings (at (other giver) setup).holdings before.jobs (at giver p).jobs before.givers before.receivers gs rs
           before.entries es before.own here;
     }
 
@@ -184,18 +184,19 @@ module _ (setup : SetupValue) (brought : AtBoth Belongings) (sound : IsSoundSess
       omega (arith, all_steps.to_floor (other side) f e far, ap length front.1, length-append e.log.taken front.0)
 
   own_now : (giver : Side) (now : AtBoth Belongings) (e f : LineEndState DialogueState) → (at giver (parties setup brought)).holdings ≡ (at giver setup).holdings →
+      (at (other giver) (parties setup brought)).holdings ≡ (at (other giver) setup).holdings →
       (at giver now ≡ has giver e) → (at (other giver) now ≡ has (other giver) f) →
       EndsJoined setup brought giver e f → EndsJoined setup brought (other giver) f e →
       length f.log.taken ≤ floor (length e.log.taken) (view_at (parties setup brought) giver) →
       OwnSince setup brought giver → OwnSince setup now giver
-  own_now giver now e f same near_has far_has near far behind before =
+  own_now giver now e f same same_there near_has far_has near far behind before =
       own_more setup brought now giver (length e.log.taken) (length f.log.taken) before
       (ap (λ (b : Belongings). b.lists.struck) near_has ∙ struck_now giver e f near)
       (ap (λ (b : Belongings). b.lists.struck) far_has ∙ struck_now (other giver) f e far)
       (ap (λ (b : Belongings). b.kept) far_has ∙ stored_now (other giver) f e far)
-      (subst (λ h. OwnEntries h (at giver (parties setup brought)).jobs (struck_in (parties setup brought) giver (length e.log.taken))
+      (subst₂ (λ h others. OwnEntries h others (at giver (parties setup brought)).jobs (struck_in (parties setup brought) giver (length e.log.taken))
       (struck_in (parties setup brought) (other giver) (length f.log.taken)) (stored_in (parties setup brought) (other giver) (length f.log.taken)))
-      same
+      same same_there
       (session_own (parties setup brought) giver (length e.log.taken) (length f.log.taken) (to_floor giver e f near far) behind))
 
   -- of both ends
@@ -204,15 +205,15 @@ module _ (setup : SetupValue) (brought : AtBoth Belongings) (sound : IsSoundSess
       OwnSince setup brought giver → OwnSince setup now giver
   own_of_both Caller now e f near near_has far_has before =
       let far = all_steps.turned Caller e f near in
-      own_now Caller now e f refl near_has far_has near far (to_floor Called f e far near) before
+      own_now Caller now e f refl refl near_has far_has near far (to_floor Called f e far near) before
   own_of_both Called now e f near near_has far_has before =
       let far = all_steps.turned Caller e f near in
-      own_now Called now f e refl far_has near_has far near (to_floor Caller e f near far) before
+      own_now Called now f e refl refl far_has near_has far near (to_floor Caller e f near far) before
 
 -- ---- by places, as the headline has it
 
 pub record OwnPlaces (setup : SetupValue) (now : AtBoth Belongings) (giver : Side) : Type 0 where
-  pub places : HasOwnEntries (at giver setup).holdings
+  pub places : HasOwnEntries (at giver setup).holdings (at (other giver) setup).holdings
       (since (at giver setup).belongings.lists.struck (at giver now).lists.struck)
       (since (at (other giver) setup).belongings.lists.struck (at (other giver) now).lists.struck)
       (since (at (other giver) setup).belongings.kept (at (other giver) now).kept)
@@ -231,19 +232,22 @@ pub own_places : (setup : SetupValue) (now : AtBoth Belongings) (giver : Side) �
     OwnPlaces setup now giver
 own_places setup now giver own = record {
   places =
-      subst (λ gs. HasOwnEntries h gs rs es)
+      subst (λ gs. HasOwnEntries h others gs rs es)
       (sym (since_is (at giver setup).belongings.lists.struck own.givers (at giver now).lists.struck own.givers_are))
-      (subst (λ xs. HasOwnEntries h own.givers xs es)
+      (subst (λ xs. HasOwnEntries h others own.givers xs es)
       (sym (since_is (at (other giver) setup).belongings.lists.struck own.receivers (at (other giver) now).lists.struck own.receivers_are))
-      (subst (λ xs. HasOwnEntries h own.givers own.receivers xs)
+      (subst (λ xs. HasOwnEntries h others own.givers own.receivers xs)
       (sym (since_is (at (other giver) setup).belongings.kept own.entries (at (other giver) now).kept own.entries_are))
-      (by_places h own.jobs own.givers own.receivers own.entries own.own)));
+      (by_places h others own.jobs own.givers own.receivers own.entries own.own)));
   struck = front_stays (at giver setup).belongings.lists.struck own.givers (at giver now).lists.struck own.givers_are;
   stored = front_stays (at (other giver) setup).belongings.kept own.entries (at (other giver) now).kept own.entries_are;
 }
   where
     h : Holdings
     h = (at giver setup).holdings
+
+    others : Holdings
+    others = (at (other giver) setup).holdings
 
     rs : List Job
     rs = since (at (other giver) setup).belongings.lists.struck (at (other giver) now).lists.struck

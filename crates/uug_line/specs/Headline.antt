@@ -50,9 +50,10 @@ pub record StaysInFront {P : Type 0} (setup : SetupValue) (report : ToldReport P
   pub stored : (at side report.belongings).kept ≡ (at side setup).belongings.kept ++ stored_since setup report side
 
 -- Each job struck since the set-up whose file came from the end on the side, the giver, has an entry of its own among
--- those stored at the other end since then: its target, and the mode and bytes that the giver's spool has. As this holds
--- after all events, it holds after each: a job is struck only after its file was stored.
+-- those stored at the other end since then: the name where it lands there, its target in a set-up of the program, and the
+-- mode and bytes that the giver's spool has. As this holds after all events, it holds after each: a job is struck only after
+-- its file was stored.
 abbrev pub StruckWereStored : {P : Type 0} → SetupValue → ToldReport P → (giver : Side) → Type 0
 StruckWereStored setup report giver =
-    HasOwnEntries (at giver setup).holdings (struck_since setup report giver) (struck_since setup report (other giver))
-    (stored_since setup report (other giver))
+    HasOwnEntries (at giver setup).holdings (at (other giver) setup).holdings (struck_since setup report giver)
+    (struck_since setup report (other giver)) (stored_since setup report (other giver))

@@ -45,7 +45,7 @@ quiet h kept kept_after failure bytes before after entries identity own struck s
   goes_on = λ more said later.
       same more said later
       ∙ ap (λ (s : List Emitted). takes_piece (node_taker h before.engine.identity) more (hearer_of h kept_after s later after)) (sym (append-nil said));
-  requests = same_then (struck_jobs before) (struck_jobs after) kept kept_after struck stored;
+  requests = same_then h (struck_jobs before) (struck_jobs after) kept kept_after struck stored;
 }
 
 pub stays : (h : Holdings) (kept : List Kept) (failure : Type 0) (n : NodeState) → GoesOn h kept kept failure [] n n
@@ -77,7 +77,7 @@ joined h kept later_kept last_kept failure bytes others a b c first second = rec
       ∙ first.goes_on (others ++ more) said (second.course.failures ++ later)
       ∙ behind more (said ++ first.course.emitted) later
       ∙ ap (λ (s : List Emitted). takes_piece t more (hearer_of h last_kept s later c)) (append_assoc said first.course.emitted second.course.emitted);
-  requests = then_keeps (struck_jobs a) (struck_jobs b) (struck_jobs c) kept later_kept last_kept first.requests second.requests;
+  requests = then_keeps h (struck_jobs a) (struck_jobs b) (struck_jobs c) kept later_kept last_kept first.requests second.requests;
 } where
   t : Receiver NodeEnd
   t = node_taker h a.engine.identity

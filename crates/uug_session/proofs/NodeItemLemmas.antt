@@ -188,7 +188,7 @@ module _ (h : Holdings) where
         (leads_behind s e texts packets item kept did.device_failed is shows more said later)
         (ap (λ (x : EndState DialogueState). record { state = x; emitted = said ++ effect.emitted; failures = later }) did.does.end)
         (left_behind s e texts packets item kept kept_after did.device_failed after shows did.left did.does);
-    requests = subst (λ (x : EndState DialogueState). KeepsWhatItAskedFor (struck_jobs n) x.keeper.machine.lists.struck kept x.keeper.kept)
+    requests = subst (λ (x : EndState DialogueState). KeepsWhatItAskedFor h (struck_jobs n) x.keeper.machine.lists.struck kept x.keeper.kept)
         (sym did.does.end) (event_keeps h kept (event_of did.device_failed item) n.engine);
   } where
     n : NodeState

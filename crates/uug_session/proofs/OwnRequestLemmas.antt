@@ -38,8 +38,8 @@ use Rattle.uug_session.proofs.KeeperLemmas.{piece_keeps, step_keeps, talk_in}
 
 -- ---- from one time to a later one
 
-pub nothing_new : (struck : List Job) (kept : List Kept) → KeepsWhatItAskedFor struck struck kept kept
-nothing_new struck kept = record {
+pub nothing_new : (h : Holdings) (struck : List Job) (kept : List Kept) → KeepsWhatItAskedFor h struck struck kept kept
+nothing_new h struck kept = record {
   struck_since = [];
   kept_since = [];
   strikes = sym (append-nil struck);
@@ -47,24 +47,24 @@ nothing_new struck kept = record {
   own = none;
 }
 
-both_own : (s t : List Job) (k m : List Kept) → OwnRequestEntries s k → OwnRequestEntries t m → OwnRequestEntries (s ++ t) (k ++ m)
-both_own s t k m none later = later
-both_own s t k m (not_asked_for {s = s'} {e = e'} own) later = not_asked_for (both_own s' t e' m own later)
-both_own s t k m (asked_for {s = s'} {e = e'} named own) later = asked_for named (both_own s' t e' m own later)
-both_own s t k m (sent {s = s'} {e = e'} own) later = sent (both_own s' t e' m own later)
+both_own : (h : Holdings) (s t : List Job) (k m : List Kept) → OwnRequestEntries h s k → OwnRequestEntries h t m → OwnRequestEntries h (s ++ t) (k ++ m)
+both_own h s t k m none later = later
+both_own h s t k m (not_asked_for {s = s'} {e = e'} own) later = not_asked_for (both_own h s' t e' m own later)
+both_own h s t k m (asked_for {s = s'} {e = e'} named own) later = asked_for named (both_own h s' t e' m own later)
+both_own h s t k m (sent {s = s'} {e = e'} own) later = sent (both_own h s' t e' m own later)
 
-pub then_keeps : (s t u : List Job) (k l m : List Kept) → KeepsWhatItAskedFor s t k l → KeepsWhatItAskedFor t u l m → KeepsWhatItAskedFor s u k m
-then_keeps s t u k l m first second = record {
+pub then_keeps : (h : Holdings) (s t u : List Job) (k l m : List Kept) → KeepsWhatItAskedFor h s t k l → KeepsWhatItAskedFor h t u l m → KeepsWhatItAskedFor h s u k m
+then_keeps h s t u k l m first second = record {
   struck_since = first.struck_since ++ second.struck_since;
   kept_since = first.kept_since ++ second.kept_since;
   strikes = second.strikes ∙ ap (λ js. js ++ second.struck_since) first.strikes ∙ append_assoc s first.struck_since second.struck_since;
   keeps = second.keeps ∙ ap (λ es. es ++ second.kept_since) first.keeps ∙ append_assoc k first.kept_since second.kept_since;
-  own = both_own first.struck_since second.struck_since first.kept_since second.kept_since first.own second.own;
+  own = both_own h first.struck_since second.struck_since first.kept_since second.kept_since first.own second.own;
 }
 
 -- nothing was kept, and nothing was struck
-pub same_then : (s t : List Job) (k m : List Kept) → t ≡ s → m ≡ k → KeepsWhatItAskedFor s t k m
-same_then s t k m jobs entries = record {
+pub same_then : (h : Holdings) (s t : List Job) (k m : List Kept) → t ≡ s → m ≡ k → KeepsWhatItAskedFor h s t k m
+same_then h s t k m jobs entries = record {
   struck_since = [];
   kept_since = [];
   strikes = jobs ∙ sym (append-nil s);
@@ -95,14 +95,14 @@ chosen h l = choice_strikes_nothing h l.ahead l.passed l.struck l.failed
 -- ---- replies
 
 -- since these jobs were struck and nothing was kept
-abbrev KeepsIn : List Job → Reply → Type 0
-KeepsIn struck r = KeepsWhatItAskedFor struck r.state.lists.struck [] r.keeps
+abbrev KeepsIn : Holdings → List Job → Reply → Type 0
+KeepsIn h struck r = KeepsWhatItAskedFor h struck r.state.lists.struck [] r.keeps
 
-quiet : (struck : List Job) → KeepsWhatItAskedFor struck struck [] []
-quiet struck = nothing_new struck []
+quiet : (h : Holdings) (struck : List Job) → KeepsWhatItAskedFor h struck struck [] []
+quiet h struck = nothing_new h struck []
 
-chooses : (h : Holdings) (l : Lists) (before : List Said) → KeepsIn l.struck (goes_on h l before)
-chooses h l before = same_then l.struck (moved (choice h l.ahead).failing l).struck [] [] (chosen h l) refl
+chooses : (h : Holdings) (l : Lists) (before : List Said) → KeepsIn h l.struck (goes_on h l before)
+chooses h l before = same_then h l.struck (moved (choice h l.ahead).failing l).struck [] [] (chosen h l) refl
 
 pass_strikes_nothing : (jobs : List Job) (l : Lists) → (move_first pass jobs l).struck ≡ l.struck
 pass_strikes_nothing [] l = refl
@@ -112,63 +112,63 @@ fail_strikes_nothing : (jobs : List Job) (l : Lists) → (move_first fail jobs l
 fail_strikes_nothing [] l = refl
 fail_strikes_nothing (job ∷ jobs) l = refl
 
-passes : (h : Holdings) (l : Lists) (before : List Said) → KeepsIn l.struck (goes_on h (moved_once pass l) before)
-passes h l before = subst (λ s. KeepsIn s (goes_on h (moved_once pass l) before)) (pass_strikes_nothing l.ahead l) (chooses h (moved_once pass l) before)
+passes : (h : Holdings) (l : Lists) (before : List Said) → KeepsIn h l.struck (goes_on h (moved_once pass l) before)
+passes h l before = subst (λ s. KeepsIn h s (goes_on h (moved_once pass l) before)) (pass_strikes_nothing l.ahead l) (chooses h (moved_once pass l) before)
 
-fails : (h : Holdings) (l : Lists) (before : List Said) → KeepsIn l.struck (goes_on h (moved_once fail l) before)
-fails h l before = subst (λ s. KeepsIn s (goes_on h (moved_once fail l) before)) (fail_strikes_nothing l.ahead l) (chooses h (moved_once fail l) before)
+fails : (h : Holdings) (l : Lists) (before : List Said) → KeepsIn h l.struck (goes_on h (moved_once fail l) before)
+fails h l before = subst (λ s. KeepsIn h s (goes_on h (moved_once fail l) before)) (fail_strikes_nothing l.ahead l) (chooses h (moved_once fail l) before)
 
 -- ---- commands
 
-after_send : (v : Verdict) (target : List ℕ) (mode : ℕ) (told : Option FileDigest) (l : Lists) → KeepsIn l.struck (on_send v target mode told l)
-after_send Yes target mode told l = quiet l.struck
-after_send Never target mode told l = quiet l.struck
-after_send Later target mode told l = quiet l.struck
+after_send : (h : Holdings) (v : Verdict) (target : List ℕ) (mode : ℕ) (told : Option FileDigest) (l : Lists) → KeepsIn h l.struck (on_send v target mode told l)
+after_send h Yes target mode told l = quiet h l.struck
+after_send h Never target mode told l = quiet h l.struck
+after_send h Later target mode told l = quiet h l.struck
 
-after_request : (digests : Bool) (file : Option File) (l : Lists) → KeepsIn l.struck (on_request digests file l)
-after_request digests None l = quiet l.struck
-after_request digests (Some file) l = quiet l.struck
+after_request : (h : Holdings) (digests : Bool) (file : Option File) (l : Lists) → KeepsIn h l.struck (on_request digests file l)
+after_request h digests None l = quiet h l.struck
+after_request h digests (Some file) l = quiet h l.struck
 
-after_hang_up : (h : Holdings) (next : Option Order) (l after : Lists) → after.struck ≡ l.struck → KeepsIn l.struck (on_hang_up h next after)
-after_hang_up h None l after same = same_then l.struck after.struck [] [] same refl
-after_hang_up h (Some next) l after same = same_then l.struck after.struck [] [] same refl
+after_hang_up : (h : Holdings) (next : Option Order) (l after : Lists) → after.struck ≡ l.struck → KeepsIn h l.struck (on_hang_up h next after)
+after_hang_up h None l after same = same_then h l.struck after.struck [] [] same refl
+after_hang_up h (Some next) l after same = same_then h l.struck after.struck [] [] same refl
 
-after_unread : (lenient : Bool) (refusal : Option Answer) (l : Lists) → KeepsIn l.struck (on_unread lenient refusal l)
-after_unread true (Some refusal) l = quiet l.struck
-after_unread _ _ l = quiet l.struck
+after_unread : (h : Holdings) (lenient : Bool) (refusal : Option Answer) (l : Lists) → KeepsIn h l.struck (on_unread lenient refusal l)
+after_unread h true (Some refusal) l = quiet h l.struck
+after_unread h _ _ l = quiet h l.struck
 
 after_order : (h : Holdings) (refusal : Option Answer) (told : Option FileDigest) (r : Result Order BadText) (l : Lists)
-    → KeepsIn l.struck (on_order h refusal told r l)
-after_order h refusal told (Ok (order.Send source target user temp mode)) l = after_send (send_verdict h target told) target mode told l
-after_order h refusal told (Ok (order.Request source target user)) l = after_request h.digests (to_give h source) l
+    → KeepsIn h l.struck (on_order h refusal told r l)
+after_order h refusal told (Ok (order.Send source target user temp mode)) l = after_send h (send_verdict h (h.landing source target) told) (h.landing source target) mode told l
+after_order h refusal told (Ok (order.Request source target user)) l = after_request h h.digests (to_give h source) l
 after_order h refusal told (Ok order.HangUp) l = after_hang_up h (choice h l.ahead).next l (moved (choice h l.ahead).failing l) (chosen h l)
-after_order h refusal told (Err fault) l = after_unread h.lenient refusal l
+after_order h refusal told (Err fault) l = after_unread h h.lenient refusal l
 
 -- ---- answers
 
-after_given_file : (r : Result Answer BadText) (l : Lists) → KeepsIn l.struck (on_given_file_done r l)
-after_given_file (Ok answer.DoneYes) l = quiet l.struck
-after_given_file (Ok answer.DoneYesMaster) l = quiet l.struck
-after_given_file (Ok answer.DoneNever) l = quiet l.struck
-after_given_file (Ok answer.DoneLater) l = quiet l.struck
-after_given_file _ l = quiet l.struck
+after_given_file : (h : Holdings) (r : Result Answer BadText) (l : Lists) → KeepsIn h l.struck (on_given_file_done r l)
+after_given_file h (Ok answer.DoneYes) l = quiet h l.struck
+after_given_file h (Ok answer.DoneYesMaster) l = quiet h l.struck
+after_given_file h (Ok answer.DoneNever) l = quiet h l.struck
+after_given_file h (Ok answer.DoneLater) l = quiet h l.struck
+after_given_file h _ l = quiet h l.struck
 
-after_last_hang_up : (r : Result Answer BadText) (l : Lists) → KeepsIn l.struck (on_last_hang_up r l)
-after_last_hang_up (Ok answer.HangYes) l = quiet l.struck
-after_last_hang_up _ l = quiet l.struck
+after_last_hang_up : (h : Holdings) (r : Result Answer BadText) (l : Lists) → KeepsIn h l.struck (on_last_hang_up r l)
+after_last_hang_up h (Ok answer.HangYes) l = quiet h l.struck
+after_last_hang_up h _ l = quiet h l.struck
 
-after_sends_file : (file : Option File) (l : Lists) → KeepsIn l.struck (sends_file file l)
-after_sends_file None l = quiet l.struck
-after_sends_file (Some file) l = quiet l.struck
+after_sends_file : (h : Holdings) (file : Option File) (l : Lists) → KeepsIn h l.struck (sends_file file l)
+after_sends_file h None l = quiet h l.struck
+after_sends_file h (Some file) l = quiet h l.struck
 
-after_send_yes : (h : Holdings) (jobs : List Job) (l : Lists) → KeepsIn l.struck (on_send_yes h jobs l)
-after_send_yes h (job.Send source target user temp ∷ jobs) l = after_sends_file (to_give h (fetched_by source temp)) l
-after_send_yes h _ l = quiet l.struck
+after_send_yes : (h : Holdings) (jobs : List Job) (l : Lists) → KeepsIn h l.struck (on_send_yes h jobs l)
+after_send_yes h (job.Send source target user temp ∷ jobs) l = after_sends_file h (to_give h (fetched_by source temp)) l
+after_send_yes h _ l = quiet h l.struck
 
 -- a Send job is struck, and nothing was kept
-one_sent : (source target user : List ℕ) (temp : Option (List ℕ)) (s after : List Job) → after ≡ s ++ job.Send source target user temp ∷ []
-    → KeepsWhatItAskedFor s after [] []
-one_sent source target user temp s after is = record {
+one_sent : (h : Holdings) (source target user : List ℕ) (temp : Option (List ℕ)) (s after : List Job) → after ≡ s ++ job.Send source target user temp ∷ []
+    → KeepsWhatItAskedFor h s after [] []
+one_sent h source target user temp s after is = record {
   struck_since = job.Send source target user temp ∷ [];
   kept_since = [];
   strikes = is;
@@ -177,75 +177,75 @@ one_sent source target user temp s after is = record {
 }
 
 after_held : (lenient : Bool) (h : Holdings) (jobs p s f : List Job)
-    → KeepsIn s (goes_on h (moved_once (move_held lenient jobs) (lists p jobs s f)) [])
+    → KeepsIn h s (goes_on h (moved_once (move_held lenient jobs) (lists p jobs s f)) [])
 after_held true h (job.Send source target user temp ∷ jobs) p s f =
     let struck = s ++ job.Send source target user temp ∷ [] in
-    one_sent source target user temp s (moved (choice h jobs).failing (lists p jobs struck f)).struck (choice_strikes_nothing h jobs p struck f)
+    one_sent h source target user temp s (moved (choice h jobs).failing (lists p jobs struck f)).struck (choice_strikes_nothing h jobs p struck f)
 after_held _ h jobs p s f = passes h (lists p jobs s f) []
 
-after_send_answer : (h : Holdings) (r : Result Answer BadText) (l : Lists) → KeepsIn l.struck (on_send_answer h r l)
+after_send_answer : (h : Holdings) (r : Result Answer BadText) (l : Lists) → KeepsIn h l.struck (on_send_answer h r l)
 after_send_answer h (Ok answer.SendYes) l = after_send_yes h l.ahead l
 after_send_answer h (Ok answer.SendNever) l = fails h l []
 after_send_answer h (Ok answer.SendHeld) l = after_held h.lenient h l.ahead l.passed l.struck l.failed
 after_send_answer h (Ok answer.SendLater) l = passes h l []
-after_send_answer h _ l = quiet l.struck
+after_send_answer h _ l = quiet h l.struck
 
-after_sent_job : (h : Holdings) (jobs p s f : List Job) (r : Result Answer BadText) → KeepsIn s (on_sent_job_done h jobs r (lists p jobs s f))
+after_sent_job : (h : Holdings) (jobs p s f : List Job) (r : Result Answer BadText) → KeepsIn h s (on_sent_job_done h jobs r (lists p jobs s f))
 after_sent_job h (job.Send source target user temp ∷ jobs) p s f (Ok answer.DoneYes) =
     let struck = s ++ job.Send source target user temp ∷ [] in
-    one_sent source target user temp s (moved (choice h jobs).failing (lists p jobs struck f)).struck (choice_strikes_nothing h jobs p struck f)
+    one_sent h source target user temp s (moved (choice h jobs).failing (lists p jobs struck f)).struck (choice_strikes_nothing h jobs p struck f)
 after_sent_job h (job.Send source target user temp ∷ jobs) p s f (Ok answer.DoneYesMaster) =
-    one_sent source target user temp s (s ++ job.Send source target user temp ∷ []) refl
+    one_sent h source target user temp s (s ++ job.Send source target user temp ∷ []) refl
 after_sent_job h (job.Send source target user temp ∷ jobs) p s f (Ok answer.DoneNever) = fails h (lists p (job.Send source target user temp ∷ jobs) s f) []
 after_sent_job h (job.Send source target user temp ∷ jobs) p s f (Ok answer.DoneLater) = passes h (lists p (job.Send source target user temp ∷ jobs) s f) []
-after_sent_job h (job.Send source target user temp ∷ jobs) p s f _ = quiet s
-after_sent_job h _ p s f r = quiet s
+after_sent_job h (job.Send source target user temp ∷ jobs) p s f _ = quiet h s
+after_sent_job h _ p s f r = quiet h s
 
 after_request_answer : (h : Holdings) (told : Option FileDigest) (r : Result Answer BadText) (l : Lists)
-    → KeepsIn l.struck (on_request_answer h told r l)
-after_request_answer h told (Ok (answer.GiveYes mode)) l = quiet l.struck
+    → KeepsIn h l.struck (on_request_answer h told r l)
+after_request_answer h told (Ok (answer.GiveYes mode)) l = quiet h l.struck
 after_request_answer h told (Ok answer.GiveNever) l = fails h l []
 after_request_answer h told (Ok answer.GiveLater) l = passes h l []
-after_request_answer h told _ l = quiet l.struck
+after_request_answer h told _ l = quiet h l.struck
 
-after_hang_up_answer : (r : Result Answer BadText) (l : Lists) → KeepsIn l.struck (on_hang_up_answer r l)
-after_hang_up_answer (Ok answer.HangYes) l = quiet l.struck
-after_hang_up_answer (Ok answer.HangNo) l = quiet l.struck
-after_hang_up_answer _ l = quiet l.struck
+after_hang_up_answer : (h : Holdings) (r : Result Answer BadText) (l : Lists) → KeepsIn h l.struck (on_hang_up_answer r l)
+after_hang_up_answer h (Ok answer.HangYes) l = quiet h l.struck
+after_hang_up_answer h (Ok answer.HangNo) l = quiet h l.struck
+after_hang_up_answer h _ l = quiet h l.struck
 
-after_nothing_more : (r : Result Answer BadText) (l : Lists) → KeepsIn l.struck (on_nothing_more r l)
-after_nothing_more (Ok answer.HangYes) l = quiet l.struck
-after_nothing_more _ l = quiet l.struck
+after_nothing_more : (h : Holdings) (r : Result Answer BadText) (l : Lists) → KeepsIn h l.struck (on_nothing_more r l)
+after_nothing_more h (Ok answer.HangYes) l = quiet h l.struck
+after_nothing_more h _ l = quiet h l.struck
 
-after_text : (h : Holdings) (a : Awaits) (text : List ℕ) (l : Lists) → KeepsIn l.struck (on_text h a text l)
+after_text : (h : Holdings) (a : Awaits) (text : List ℕ) (l : Lists) → KeepsIn h l.struck (on_text h a text l)
 after_text h awaits.Order text l = after_order h (refusal_of text) (heard h.digests (told_by_order text)) (order_of text) l
-after_text h awaits.GivenFileDone text l = after_given_file (answer_of text) l
-after_text h awaits.LastHangUp text l = after_last_hang_up (answer_of text) l
+after_text h awaits.GivenFileDone text l = after_given_file h (answer_of text) l
+after_text h awaits.LastHangUp text l = after_last_hang_up h (answer_of text) l
 after_text h awaits.SendAnswer text l = after_send_answer h (answer_of text) l
 after_text h awaits.SentFileDone text l = after_sent_job h l.ahead l.passed l.struck l.failed (answer_of text)
 after_text h awaits.RequestAnswer text l = after_request_answer h (heard h.digests (told_by_answer text)) (answer_of text) l
-after_text h awaits.HangUpAnswer text l = after_hang_up_answer (answer_of text) l
-after_text h awaits.NothingMore text l = after_nothing_more (answer_of text) l
-after_text h _ text l = quiet l.struck
+after_text h awaits.HangUpAnswer text l = after_hang_up_answer h (answer_of text) l
+after_text h awaits.NothingMore text l = after_nothing_more h (answer_of text) l
+after_text h _ text l = quiet h l.struck
 
 -- ---- files
 
-after_kept : (verdict : Verdict) (file : Kept) (l : Lists) → KeepsIn l.struck (on_sent_file verdict file l)
-after_kept Yes file l = record {
+after_kept : (h : Holdings) (verdict : Verdict) (file : Kept) (l : Lists) → KeepsIn h l.struck (on_sent_file verdict file l)
+after_kept h Yes file l = record {
   struck_since = [];
   kept_since = file ∷ [];
   strikes = sym (append-nil l.struck);
   keeps = refl;
   own = not_asked_for none;
 }
-after_kept Never file l = quiet l.struck
-after_kept Later file l = quiet l.struck
+after_kept h Never file l = quiet h l.struck
+after_kept h Later file l = quiet h l.struck
 
 after_asked : (h : Holdings) (verdict : Verdict) (source target user bytes : List ℕ) (mode : ℕ) (jobs p s f : List Job)
-    → KeepsIn s (on_asked_file h verdict (record { name = target; mode = mode; bytes = bytes }) (lists p (job.Request source target user ∷ jobs) s f))
+    → KeepsIn h s (on_asked_file h verdict (record { name = h.landing source target; mode = mode; bytes = bytes }) (lists p (job.Request source target user ∷ jobs) s f))
 after_asked h Yes source target user bytes mode jobs p s f = record {
   struck_since = job.Request source target user ∷ [];
-  kept_since = record { name = target; mode = mode; bytes = bytes } ∷ [];
+  kept_since = record { name = h.landing source target; mode = mode; bytes = bytes } ∷ [];
   strikes = choice_strikes_nothing h jobs p (s ++ job.Request source target user ∷ []) f;
   keeps = refl;
   own = asked_for refl none;
@@ -254,57 +254,57 @@ after_asked h Never source target user bytes mode jobs p s f = fails h (lists p 
 after_asked h Later source target user bytes mode jobs p s f = passes h (lists p (job.Request source target user ∷ jobs) s f) (the_answer answer.DoneLater ∷ [])
 
 after_file_of : (h : Holdings) (jobs p s f : List Job) (mode : ℕ) (told : Option FileDigest) (bytes : List ℕ)
-    → KeepsIn s (on_file_of h jobs mode told bytes (lists p jobs s f))
+    → KeepsIn h s (on_file_of h jobs mode told bytes (lists p jobs s f))
 after_file_of h (job.Request source target user ∷ jobs) p s f mode told bytes =
-    after_asked h (file_verdict h target told bytes) source target user bytes mode jobs p s f
-after_file_of h _ p s f mode told bytes = quiet s
+    after_asked h (file_verdict h (h.landing source target) told bytes) source target user bytes mode jobs p s f
+after_file_of h _ p s f mode told bytes = quiet h s
 
-after_file : (h : Holdings) (a : Awaits) (bytes : List ℕ) (l : Lists) → KeepsIn l.struck (on_file h a bytes l)
-after_file h (awaits.SentFile target mode told) bytes l = after_kept (file_verdict h target told bytes) (record { name = target; mode = mode; bytes = bytes }) l
+after_file : (h : Holdings) (a : Awaits) (bytes : List ℕ) (l : Lists) → KeepsIn h l.struck (on_file h a bytes l)
+after_file h (awaits.SentFile target mode told) bytes l = after_kept h (file_verdict h target told bytes) (record { name = target; mode = mode; bytes = bytes }) l
 after_file h (awaits.AskedFile mode told) bytes l = after_file_of h l.ahead l.passed l.struck l.failed mode told bytes
-after_file h awaits.DroppedSentFile bytes l = quiet l.struck
+after_file h awaits.DroppedSentFile bytes l = quiet h l.struck
 after_file h awaits.DroppedAskedFile bytes l = fails h l (the_answer answer.DoneNever ∷ [])
-after_file h _ bytes l = quiet l.struck
+after_file h _ bytes l = quiet h l.struck
 
 -- ---- messages
 
-after_whole : (kind : Kind) (h : Holdings) (a : Awaits) (bytes : List ℕ) (l : Lists) → KeepsIn l.struck (on_whole kind h a bytes l)
+after_whole : (kind : Kind) (h : Holdings) (a : Awaits) (bytes : List ℕ) (l : Lists) → KeepsIn h l.struck (on_whole kind h a bytes l)
 after_whole OfCommand h a bytes l = after_text h a bytes l
 after_whole OfFile h a bytes l = after_file h a bytes l
 
-after_gathered : (whole : Bool) (kind : Kind) (h : Holdings) (s : State) (bytes : List ℕ) → KeepsIn s.lists.struck (on_gathered whole kind h s bytes)
-after_gathered false kind h s bytes = quiet s.lists.struck
+after_gathered : (whole : Bool) (kind : Kind) (h : Holdings) (s : State) (bytes : List ℕ) → KeepsIn h s.lists.struck (on_gathered whole kind h s bytes)
+after_gathered false kind h s bytes = quiet h s.lists.struck
 after_gathered true kind h s bytes = after_whole kind h s.awaits bytes s.lists
 
-after_past_limit : (lenient : Bool) (kind : Kind) (a : Awaits) (l : Lists) → KeepsIn l.struck (on_past_limit lenient kind a l)
-after_past_limit true OfFile a l = quiet l.struck
-after_past_limit _ kind a l = quiet l.struck
+after_past_limit : (h : Holdings) (lenient : Bool) (kind : Kind) (a : Awaits) (l : Lists) → KeepsIn h l.struck (on_past_limit lenient kind a l)
+after_past_limit h true OfFile a l = quiet h l.struck
+after_past_limit h _ kind a l = quiet h l.struck
 
-after_part : (too_long : Bool) (g : Gathering) (h : Holdings) (s : State) → KeepsIn s.lists.struck (on_part too_long g h s)
-after_part true g h s = after_past_limit h.lenient g.kind s.awaits s.lists
+after_part : (too_long : Bool) (g : Gathering) (h : Holdings) (s : State) → KeepsIn h s.lists.struck (on_part too_long g h s)
+after_part true g h s = after_past_limit h h.lenient g.kind s.awaits s.lists
 after_part false g h s = after_gathered g.whole g.kind h s g.bytes
 
-after_step : (h : Holdings) (s : State) (message : List ℕ) → KeepsIn s.lists.struck (step h s message)
+after_step : (h : Holdings) (s : State) (message : List ℕ) → KeepsIn h s.lists.struck (step h s message)
 after_step h s message =
     let g : Gathering = gathered_with s message in
     after_part (nat_lt (limit_of g.kind) (length g.bytes)) g h s
 
-after_unless_early : (early : Bool) (h : Holdings) (s : State) (message : List ℕ) → KeepsIn s.lists.struck (unless_early early h s message)
-after_unless_early true h s message = quiet s.lists.struck
+after_unless_early : (early : Bool) (h : Holdings) (s : State) (message : List ℕ) → KeepsIn h s.lists.struck (unless_early early h s message)
+after_unless_early true h s message = quiet h s.lists.struck
 after_unless_early false h s message = after_step h s message
 
-after_reply : (h : Holdings) (none_waits : Bool) (s : State) (message : List ℕ) → KeepsIn s.lists.struck (reply_to h none_waits s message)
+after_reply : (h : Holdings) (none_waits : Bool) (s : State) (message : List ℕ) → KeepsIn h s.lists.struck (reply_to h none_waits s message)
 after_reply h none_waits s message = after_unless_early (comes_early s.awaits none_waits) h s message
 
-after_opening : (side : Side) (h : Holdings) (l : Lists) → KeepsIn l.struck (opening side h l)
+after_opening : (side : Side) (h : Holdings) (l : Lists) → KeepsIn h l.struck (opening side h l)
 after_opening Caller h l = chooses h l []
-after_opening Called h l = quiet l.struck
+after_opening Called h l = quiet h l.struck
 
 -- ---- an end
 
 -- with what was kept before
-behind_kept : (s t : List Job) (kept new : List Kept) → KeepsWhatItAskedFor s t [] new → KeepsWhatItAskedFor s t kept (kept ++ new)
-behind_kept s t kept new k = record {
+behind_kept : (h : Holdings) (s t : List Job) (kept new : List Kept) → KeepsWhatItAskedFor h s t [] new → KeepsWhatItAskedFor h s t kept (kept ++ new)
+behind_kept h s t kept new k = record {
   struck_since = k.struck_since;
   kept_since = k.kept_since;
   strikes = k.strikes;
@@ -314,14 +314,14 @@ behind_kept s t kept new k = record {
 
 module _ (id : Identity) (h : Holdings) (struck : List Job) (kept : List Kept) where
   abbrev Since : DialogueState → Type 0
-  Since talk = KeepsWhatItAskedFor struck talk.machine.lists.struck kept talk.kept
+  Since talk = KeepsWhatItAskedFor h struck talk.machine.lists.struck kept talk.kept
 
-  since_reply : (talk : DialogueState) (r : Reply) → Since talk → KeepsIn talk.machine.lists.struck r
-      → KeepsWhatItAskedFor struck r.state.lists.struck kept (talk.kept ++ r.keeps)
+  since_reply : (talk : DialogueState) (r : Reply) → Since talk → KeepsIn h talk.machine.lists.struck r
+      → KeepsWhatItAskedFor h struck r.state.lists.struck kept (talk.kept ++ r.keeps)
   since_reply talk r is next =
       let now = talk.machine.lists.struck in
-      then_keeps struck now r.state.lists.struck kept talk.kept (talk.kept ++ r.keeps) is
-      (behind_kept now r.state.lists.struck talk.kept r.keeps next)
+      then_keeps h struck now r.state.lists.struck kept talk.kept (talk.kept ++ r.keeps) is
+      (behind_kept h now r.state.lists.struck talk.kept r.keeps next)
 
   opened_keeps : (measure : Measure) (talk : DialogueState) → Since talk → Since (opened_with id.side h measure talk)
   opened_keeps size talk is =
@@ -340,16 +340,16 @@ module _ (id : Identity) (h : Holdings) (struck : List Job) (kept : List Kept) w
   piece_since piece r is = piece_keeps id h (λ e. Since e.keeper) event_since piece r is
 
 pub event_keeps : (h : Holdings) (kept : List Kept) (event : EndEvent) (e : EngineState)
-    → KeepsWhatItAskedFor e.dialogue.machine.lists.struck (effect_of h kept event e).state.keeper.machine.lists.struck
+    → KeepsWhatItAskedFor h e.dialogue.machine.lists.struck (effect_of h kept event e).state.keeper.machine.lists.struck
     kept (effect_of h kept event e).state.keeper.kept
 event_keeps h kept event e =
     let struck = e.dialogue.machine.lists.struck in
-    event_since e.identity h struck kept event (end_of h kept e) (nothing_new struck kept)
+    event_since e.identity h struck kept event (end_of h kept e) (nothing_new h struck kept)
 
 pub takes_all_keeps : (h : Holdings) (kept kept_after : List Kept) (failure : Type 0) (bytes : List ℕ) (before after : NodeState)
     → TakesAll h kept kept_after failure bytes before after
-    → KeepsWhatItAskedFor (struck_jobs before) (struck_jobs after) kept kept_after
+    → KeepsWhatItAskedFor h (struck_jobs before) (struck_jobs after) kept kept_after
 takes_all_keeps h kept kept_after failure bytes before after g =
     let from : Buffered NodeEnd = hearer_of h kept [] (g.course.failures ++ []) before in
-    subst (λ (c : Arrival NodeEnd). KeepsWhatItAskedFor (struck_jobs before) (talk_in c).machine.lists.struck kept (talk_in c).kept) (g.taken [] [])
-    (piece_since before.engine.identity h (struck_jobs before) kept bytes from (nothing_new (struck_jobs before) kept))
+    subst (λ (c : Arrival NodeEnd). KeepsWhatItAskedFor h (struck_jobs before) (talk_in c).machine.lists.struck kept (talk_in c).kept) (g.taken [] [])
+    (piece_since before.engine.identity h (struck_jobs before) kept bytes from (nothing_new h (struck_jobs before) kept))

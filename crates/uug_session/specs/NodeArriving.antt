@@ -65,7 +65,7 @@ pub record GoesOn (h : Holdings) (kept kept_after : List Kept) (failure : Type 0
   pub goes_on : (more : List ℕ) (said : List Emitted) (later : List Bool)
       → takes_piece (node_taker h before.engine.identity) (bytes ++ more) (hearer_of h kept said (course.failures ++ later) before)
       ≡ takes_piece (node_taker h before.engine.identity) more (hearer_of h kept_after (said ++ course.emitted) later after)
-  pub requests : KeepsWhatItAskedFor (struck_jobs before) (struck_jobs after) kept kept_after
+  pub requests : KeepsWhatItAskedFor h (struck_jobs before) (struck_jobs after) kept kept_after
 
 -- These bytes have come, and all that is found in them was taken up.
 pub record TakesAll (h : Holdings) (kept kept_after : List Kept) (failure : Type 0) (bytes : List ℕ) (before after : NodeState) : Type 0 where

@@ -60,7 +60,7 @@ pub fn jobs_stay_together()
 pub fn struck_requests_were_kept()
     // Each event that happens to an end.
     ensures event { (h : Holdings) (kept : List Kept) (event : EndEvent) (e : EngineState)
-        → KeepsWhatItAskedFor e.dialogue.machine.lists.struck
+        → KeepsWhatItAskedFor h e.dialogue.machine.lists.struck
         (effect_of h kept event e).state.keeper.machine.lists.struck
         kept (effect_of h kept event e).state.keeper.kept }
     // All that is found in bytes that come, in whatever pieces.
@@ -68,21 +68,21 @@ pub fn struck_requests_were_kept()
         (bytes : List ℕ)
         (before after : NodeState)
         → GoesOn h kept kept_after (HasFailed most faults later) bytes before after
-        → KeepsWhatItAskedFor (struck_jobs before) (struck_jobs after) kept kept_after }
+        → KeepsWhatItAskedFor h (struck_jobs before) (struck_jobs after) kept kept_after }
     ensures taken { (h : Holdings) (kept kept_after : List Kept) (most faults later : ℕ)
         (bytes : List ℕ)
         (before after : NodeState)
         → TakesAll h kept kept_after (HasFailed most faults later) bytes before after
-        → KeepsWhatItAskedFor (struck_jobs before) (struck_jobs after) kept kept_after }
+        → KeepsWhatItAskedFor h (struck_jobs before) (struck_jobs after) kept kept_after }
     // So it is from one call to the next: where nothing is struck and nothing kept, and where one call follows another.
-    ensures same { (struck struck_after : List Job) (kept kept_after : List Kept)
+    ensures same { (h : Holdings) (struck struck_after : List Job) (kept kept_after : List Kept)
         → struck_after ≡ struck → kept_after ≡ kept
-        → KeepsWhatItAskedFor struck struck_after kept kept_after }
-    ensures later { (struck struck_then struck_after : List Job)
+        → KeepsWhatItAskedFor h struck struck_after kept kept_after }
+    ensures later { (h : Holdings) (struck struck_then struck_after : List Job)
         (kept kept_then kept_after : List Kept)
-        → KeepsWhatItAskedFor struck struck_then kept kept_then
-        → KeepsWhatItAskedFor struck_then struck_after kept_then kept_after
-        → KeepsWhatItAskedFor struck struck_after kept kept_after }
+        → KeepsWhatItAskedFor h struck struck_then kept kept_then
+        → KeepsWhatItAskedFor h struck_then struck_after kept_then kept_after
+        → KeepsWhatItAskedFor h struck struck_after kept kept_after }
     // The next session begins with what was struck.
     ensures again { (l : Lists) → (all_ahead l).struck ≡ l.struck }
 {}

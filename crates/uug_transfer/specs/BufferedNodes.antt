@@ -29,11 +29,13 @@ injector_in buffered = buffered.injector
 abbrev pub spool_in : {S A : Type 0} → BufferedNode S A → S
 spool_in buffered = buffered.node.spool
 
--- Whatever happened: its three lists have the same jobs together, each as often; what it had kept and what it had struck
--- stays in front; and each Request job that it struck since has an entry of its own in what it kept since.
-pub record KeepsJobs (kept kept_after : List Kept) (before after : NodeState) : Type 0 where
+-- Whatever happened: its spool gives and accepts what it did; its three lists have the same jobs together, each as often; what
+-- it had kept and what it had struck stays in front; and each Request job that it struck since has an entry of its own in what
+-- it kept since.
+pub record KeepsJobs (h h_after : Holdings) (kept kept_after : List Kept) (before after : NodeState) : Type 0 where
+  pub stays : h_after ≡ h
   pub same : HaveSameJobs before.engine.dialogue.machine.lists after.engine.dialogue.machine.lists
-  pub requests : KeepsWhatItAskedFor (struck_jobs before) (struck_jobs after) kept kept_after
+  pub requests : KeepsWhatItAskedFor h (struck_jobs before) (struck_jobs after) kept kept_after
 
 -- Whatever happened: some events led it there, beside a spool that gives and accepts what it did.
 pub record IsLed (h h_after : Holdings) (kept kept_after : List Kept) (before after : NodeState) : Type 0 where

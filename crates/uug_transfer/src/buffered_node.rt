@@ -28,7 +28,9 @@ pub struct BufferedNode<S: Spool, A: Allocator> {
 impl<S: Spool + Drop, A: Allocator + Copy> BufferedNode<S, A> {
     /// A buffer for what this node emits, which goes through this injector. What it has emitted so far is to be written.
     pub fn new(alloc: A, node: Node<S, A>, injector: FaultInjector) -> Result<Self, AllocError>
-        ensures jobs { IfOk result (λ buffered. KeepsJobs (S.kept node.spool) (S.kept (spool_in buffered))
+        ensures jobs { IfOk result (λ buffered. KeepsJobs (S.holdings node.spool)
+            (S.holdings (spool_in buffered))
+            (S.kept node.spool) (S.kept (spool_in buffered))
             (node_of node) (node_in buffered)) }
         ensures led { IfOk result (λ buffered. IsLedByEvents (S.holdings node.spool)
             (S.kept node.spool) (S.kept (spool_in buffered)) (node_of node) (node_in buffered)) }
@@ -69,7 +71,9 @@ impl<S: Spool + Drop, A: Allocator + Copy> BufferedNode<S, A> {
 
     /// These bytes were read.
     pub fn arrive(&mut self, piece: &[u8]) -> Result<(), AllocError>
-        ensures jobs { KeepsJobs (S.kept (spool_in self.old)) (S.kept (spool_in self.new))
+        ensures jobs { KeepsJobs (S.holdings (spool_in self.old))
+            (S.holdings (spool_in self.new))
+            (S.kept (spool_in self.old)) (S.kept (spool_in self.new))
             (node_in self.old) (node_in self.new) }
         ensures led { IsLed (S.holdings (spool_in self.old))
             (S.holdings (spool_in self.new))
@@ -94,7 +98,9 @@ impl<S: Spool + Drop, A: Allocator + Copy> BufferedNode<S, A> {
 
     /// A timeout.
     pub fn time_out(&mut self) -> Result<(), AllocError>
-        ensures jobs { KeepsJobs (S.kept (spool_in self.old)) (S.kept (spool_in self.new))
+        ensures jobs { KeepsJobs (S.holdings (spool_in self.old))
+            (S.holdings (spool_in self.new))
+            (S.kept (spool_in self.old)) (S.kept (spool_in self.new))
             (node_in self.old) (node_in self.new) }
         ensures led { IsLed (S.holdings (spool_in self.old))
             (S.holdings (spool_in self.new))
@@ -115,7 +121,9 @@ impl<S: Spool + Drop, A: Allocator + Copy> BufferedNode<S, A> {
 
     /// There is nothing to be written or read any more: the session is over.
     pub fn hang_up(&mut self)
-        ensures jobs { KeepsJobs (S.kept (spool_in self.old)) (S.kept (spool_in self.new))
+        ensures jobs { KeepsJobs (S.holdings (spool_in self.old))
+            (S.holdings (spool_in self.new))
+            (S.kept (spool_in self.old)) (S.kept (spool_in self.new))
             (node_in self.old) (node_in self.new) }
         ensures led { IsLed (S.holdings (spool_in self.old))
             (S.holdings (spool_in self.new))

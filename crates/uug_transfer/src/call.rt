@@ -49,7 +49,9 @@ where
     N: TextFile,
     O: Output,
     A: Allocator + Copy,
-    ensures kept { KeepsJobs (S.kept (spool_in end.old.buffered))
+    ensures kept { KeepsJobs (S.holdings (spool_in end.old.buffered))
+        (S.holdings (spool_in end.new.buffered))
+        (S.kept (spool_in end.old.buffered))
         (S.kept (spool_in end.new.buffered))
         (node_in end.old.buffered) (node_in end.new.buffered) }
     ensures led { IsLed (S.holdings (spool_in end.old.buffered))

@@ -40,10 +40,14 @@ where
     O: Output,
     A: Allocator + Copy,
     requires { HasRoom (L.unread line.old) }
-    ensures caller_kept { KeepsJobs (S.kept (spool_in caller.old.buffered))
+    ensures caller_kept { KeepsJobs (S.holdings (spool_in caller.old.buffered))
+        (S.holdings (spool_in caller.new.buffered))
+        (S.kept (spool_in caller.old.buffered))
         (S.kept (spool_in caller.new.buffered))
         (node_in caller.old.buffered) (node_in caller.new.buffered) }
-    ensures called_kept { KeepsJobs (S.kept (spool_in called.old.buffered))
+    ensures called_kept { KeepsJobs (S.holdings (spool_in called.old.buffered))
+        (S.holdings (spool_in called.new.buffered))
+        (S.kept (spool_in called.old.buffered))
         (S.kept (spool_in called.new.buffered))
         (node_in called.old.buffered) (node_in called.new.buffered) }
     ensures caller_led { IsLed (S.holdings (spool_in caller.old.buffered))

@@ -50,7 +50,9 @@ where
     N: TextFile,
     L: EndLine,
     A: Allocator + Copy,
-    ensures jobs { KeepsJobs (S.kept (spool_in buffered.old)) (S.kept (spool_in buffered.new))
+    ensures jobs { KeepsJobs (S.holdings (spool_in buffered.old))
+        (S.holdings (spool_in buffered.new))
+        (S.kept (spool_in buffered.old)) (S.kept (spool_in buffered.new))
         (node_in buffered.old) (node_in buffered.new) }
     ensures led { IsLed (S.holdings (spool_in buffered.old))
         (S.holdings (spool_in buffered.new))
@@ -120,7 +122,9 @@ where
     N: TextFile,
     L: EndLine,
     A: Allocator + Copy,
-    ensures jobs { KeepsJobs (S.kept (spool_in buffered.old)) (S.kept (spool_in buffered.new))
+    ensures jobs { KeepsJobs (S.holdings (spool_in buffered.old))
+        (S.holdings (spool_in buffered.new))
+        (S.kept (spool_in buffered.old)) (S.kept (spool_in buffered.new))
         (node_in buffered.old) (node_in buffered.new) }
     ensures led { IsLed (S.holdings (spool_in buffered.old))
         (S.holdings (spool_in buffered.new))
@@ -267,7 +271,9 @@ where
     requires within { IsWithin (length buffer.now) outcome }
     requires goes_on { IsEnded (node_in buffered.old).engine.stage → ⊥ }
     requires on_disk { IsOnDisk settled.old (node_in buffered.old) (N.text number.old) }
-    ensures jobs { KeepsJobs (S.kept (spool_in buffered.old)) (S.kept (spool_in buffered.new))
+    ensures jobs { KeepsJobs (S.holdings (spool_in buffered.old))
+        (S.holdings (spool_in buffered.new))
+        (S.kept (spool_in buffered.old)) (S.kept (spool_in buffered.new))
         (node_in buffered.old) (node_in buffered.new) }
     ensures led { IsLed (S.holdings (spool_in buffered.old))
         (S.holdings (spool_in buffered.new))
@@ -320,7 +326,9 @@ fn take_outcome<S: Spool + Drop, A: Allocator + Copy>(
 ) -> Result<(), AllocError>
     requires within { IsWithin (length buffer.now) outcome }
     requires goes_on { IsEnded (node_in buffered.old).engine.stage → ⊥ }
-    ensures jobs { KeepsJobs (S.kept (spool_in buffered.old)) (S.kept (spool_in buffered.new))
+    ensures jobs { KeepsJobs (S.holdings (spool_in buffered.old))
+        (S.holdings (spool_in buffered.new))
+        (S.kept (spool_in buffered.old)) (S.kept (spool_in buffered.new))
         (node_in buffered.old) (node_in buffered.new) }
     ensures led { IsLed (S.holdings (spool_in buffered.old))
         (S.holdings (spool_in buffered.new))

@@ -21,9 +21,13 @@ pub fn run_turns<S: Spool + Drop, T: Spool + Drop, L: Line, A: Allocator + Copy>
     limit: u32,
 ) -> Result<(), TurnFault>
     requires { HasRoom (L.unread line.old) }
-    ensures caller_jobs { KeepsJobs (S.kept (spool_in caller.old)) (S.kept (spool_in caller.new))
+    ensures caller_jobs { KeepsJobs (S.holdings (spool_in caller.old))
+        (S.holdings (spool_in caller.new))
+        (S.kept (spool_in caller.old)) (S.kept (spool_in caller.new))
         (node_in caller.old) (node_in caller.new) }
-    ensures called_jobs { KeepsJobs (T.kept (spool_in called.old)) (T.kept (spool_in called.new))
+    ensures called_jobs { KeepsJobs (T.holdings (spool_in called.old))
+        (T.holdings (spool_in called.new))
+        (T.kept (spool_in called.old)) (T.kept (spool_in called.new))
         (node_in called.old) (node_in called.new) }
     ensures caller_led { IsLed (S.holdings (spool_in caller.old))
         (S.holdings (spool_in caller.new))
@@ -54,9 +58,13 @@ fn take_turns<S: Spool + Drop, T: Spool + Drop, L: Line, A: Allocator + Copy>(
     limit: u32,
 ) -> Result<(), TurnFault>
     requires { HasRoom (L.unread line.old) }
-    ensures caller_jobs { KeepsJobs (S.kept (spool_in caller.old)) (S.kept (spool_in caller.new))
+    ensures caller_jobs { KeepsJobs (S.holdings (spool_in caller.old))
+        (S.holdings (spool_in caller.new))
+        (S.kept (spool_in caller.old)) (S.kept (spool_in caller.new))
         (node_in caller.old) (node_in caller.new) }
-    ensures called_jobs { KeepsJobs (T.kept (spool_in called.old)) (T.kept (spool_in called.new))
+    ensures called_jobs { KeepsJobs (T.holdings (spool_in called.old))
+        (T.holdings (spool_in called.new))
+        (T.kept (spool_in called.old)) (T.kept (spool_in called.new))
         (node_in called.old) (node_in called.new) }
     ensures caller_led { IsLed (S.holdings (spool_in caller.old))
         (S.holdings (spool_in caller.new))
@@ -90,9 +98,13 @@ fn take_turn<S: Spool + Drop, T: Spool + Drop, L: Line, A: Allocator + Copy>(
 ) -> Result<(), TurnFault>
     requires room { HasRoom (L.unread line.old) }
     requires buffer { 0 < length buffer.old }
-    ensures caller_jobs { KeepsJobs (S.kept (spool_in caller.old)) (S.kept (spool_in caller.new))
+    ensures caller_jobs { KeepsJobs (S.holdings (spool_in caller.old))
+        (S.holdings (spool_in caller.new))
+        (S.kept (spool_in caller.old)) (S.kept (spool_in caller.new))
         (node_in caller.old) (node_in caller.new) }
-    ensures called_jobs { KeepsJobs (T.kept (spool_in called.old)) (T.kept (spool_in called.new))
+    ensures called_jobs { KeepsJobs (T.holdings (spool_in called.old))
+        (T.holdings (spool_in called.new))
+        (T.kept (spool_in called.old)) (T.kept (spool_in called.new))
         (node_in called.old) (node_in called.new) }
     ensures caller_led { IsLed (S.holdings (spool_in caller.old))
         (S.holdings (spool_in caller.new))
@@ -128,7 +140,9 @@ fn time_out_with<S: Spool + Drop, T: Spool + Drop, A: Allocator + Copy>(
 ) -> Result<(), AllocError>
     ensures owner { node_in owner.new ≡ node_in owner.old }
     ensures owner_spool { spool_in owner.new ≡ spool_in owner.old }
-    ensures jobs { KeepsJobs (T.kept (spool_in buffered.old)) (T.kept (spool_in buffered.new))
+    ensures jobs { KeepsJobs (T.holdings (spool_in buffered.old))
+        (T.holdings (spool_in buffered.new))
+        (T.kept (spool_in buffered.old)) (T.kept (spool_in buffered.new))
         (node_in buffered.old) (node_in buffered.new) }
     ensures led { IsLed (T.holdings (spool_in buffered.old))
         (T.holdings (spool_in buffered.new))
@@ -154,7 +168,9 @@ fn move_end_with<S: Spool + Drop, T: Spool + Drop, L: Line, A: Allocator + Copy>
     requires buffer { 0 < length buffer.old }
     ensures owner { node_in owner.new ≡ node_in owner.old }
     ensures owner_spool { spool_in owner.new ≡ spool_in owner.old }
-    ensures jobs { KeepsJobs (T.kept (spool_in buffered.old)) (T.kept (spool_in buffered.new))
+    ensures jobs { KeepsJobs (T.holdings (spool_in buffered.old))
+        (T.holdings (spool_in buffered.new))
+        (T.kept (spool_in buffered.old)) (T.kept (spool_in buffered.new))
         (node_in buffered.old) (node_in buffered.new) }
     ensures led { IsLed (T.holdings (spool_in buffered.old))
         (T.holdings (spool_in buffered.new))
@@ -191,7 +207,9 @@ fn move_end<S: Spool + Drop, L: Line, A: Allocator + Copy>(
 ) -> Result<(), TurnFault>
     requires room { HasRoom (L.unread line.old) }
     requires buffer { 0 < length buffer.old }
-    ensures jobs { KeepsJobs (S.kept (spool_in buffered.old)) (S.kept (spool_in buffered.new))
+    ensures jobs { KeepsJobs (S.holdings (spool_in buffered.old))
+        (S.holdings (spool_in buffered.new))
+        (S.kept (spool_in buffered.old)) (S.kept (spool_in buffered.new))
         (node_in buffered.old) (node_in buffered.new) }
     ensures led { IsLed (S.holdings (spool_in buffered.old))
         (S.holdings (spool_in buffered.new))
@@ -246,7 +264,9 @@ fn take_unread<S: Spool + Drop, L: Line, A: Allocator + Copy>(
 ) -> Result<(), TurnFault>
     requires room { HasRoom (L.unread line.old) }
     requires buffer { 0 < length buffer.old }
-    ensures jobs { KeepsJobs (S.kept (spool_in buffered.old)) (S.kept (spool_in buffered.new))
+    ensures jobs { KeepsJobs (S.holdings (spool_in buffered.old))
+        (S.holdings (spool_in buffered.new))
+        (S.kept (spool_in buffered.old)) (S.kept (spool_in buffered.new))
         (node_in buffered.old) (node_in buffered.new) }
     ensures led { IsLed (S.holdings (spool_in buffered.old))
         (S.holdings (spool_in buffered.new))

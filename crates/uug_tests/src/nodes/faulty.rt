@@ -13,7 +13,8 @@ use std::process::Abort;
 use uug_session::{End, FileView, KeepFault, Node, Queue, Spool, Stored, Verdict};
 use uug_talk::Name;
 
-/// A spool with no file to give, that takes every file. Its device fails at the first.
+/// A spool with no file to give, that takes every file, and keeps it under its own name, wherever it is sent. Its device fails at
+/// the first.
 #[derive(Drop)]
 struct FaultySpool<A: Allocator> {
     stored: Vec<Stored<A>, A>,
@@ -32,7 +33,7 @@ impl<A: Allocator + Copy> FaultySpool<A> {
 }
 
 impl<A: Allocator + Copy> Spool for FaultySpool<A> {
-    ghost holdings = { λ s. holdings_of no_holdings };
+    ghost holdings = { λ s. record (holdings_of no_holdings) { landing = λ source target. source } };
 
     ghost kept = { λ s. map kept_of s.stored.items };
 
@@ -40,6 +41,10 @@ impl<A: Allocator + Copy> Spool for FaultySpool<A> {
 
     fn may_keep(&self, _name: &Name) -> Verdict {
         Verdict::Yes
+    }
+
+    fn landing(&self, source: &Name, _target: &Name) -> Name {
+        *source
     }
 
     fn fetch(&self, _name: &Name) -> Option<FileView<'_>> {
@@ -108,7 +113,7 @@ fn recover(
     assert_ended(rt, caller, &[], End::PeerClosed, &[Left::Pending(SEND)]);
     line.play(rt, &[Event::Call, Event::Flow(20)], caller, called);
     assert_ended(rt, caller, &[], End::Done, &[Left::Struck(SEND)]);
-    assert_called_ended(rt, called, End::Done, &[Left::Stored(b"y", b"")]);
+    assert_called_ended(rt, called, End::Done, &[Left::Stored(b"x", b"")]);
 }
 
 fn recover_from(rt: &impl Abort, alloc: Global, caller: &mut MemoryNode<Global>) {
@@ -118,7 +123,8 @@ fn recover_from(rt: &impl Abort, alloc: Global, caller: &mut MemoryNode<Global>)
     drop(called);
 }
 
-// a fault after which the job is gone, or is not offered again; a file that is stored all the same
+// a fault after which the job is gone, or is not offered again; a file that is stored all the same, or under its target, where
+// the spool says another name
 #[test]
 fn recovers_from_a_fault_of_the_device(rt: HostRuntime) {
     let place = place(&rt, Side::Caller, 32);

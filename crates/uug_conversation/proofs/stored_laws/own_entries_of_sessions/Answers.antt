@@ -5,4 +5,4 @@ pub returns-clause-joined : goal.returns-clause-joined
 returns-clause-joined c = of_sessions
 
 pub returns-clause-more_jobs : goal.returns-clause-more_jobs
-returns-clause-more_jobs c h jobs more givers receivers entries inside = more_jobs h jobs more inside givers receivers entries
+returns-clause-more_jobs c h others jobs more givers receivers entries inside = more_jobs h others jobs more inside givers receivers entries

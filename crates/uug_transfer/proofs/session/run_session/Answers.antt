@@ -8,7 +8,7 @@ use Rattle.uug_transfer.proofs.StallLemmas.{within_same}
 use Rattle.uug_transfer.proofs.session.run_session.Goals as goal
 
 pub returns-clause-jobs : goal.returns-clause-jobs
-returns-clause-jobs g c = keeps_later _ _ _ _ _ _ c.take_turns-result.ensures.jobs c.hang_up.ensures.jobs
+returns-clause-jobs g c = keeps_later _ _ _ _ _ _ _ _ _ c.take_turns-result.ensures.jobs c.hang_up.ensures.jobs
 
 pub returns-clause-number : goal.returns-clause-number
 returns-clause-number g c = later_unless c.take_turns-result.result (node_in c.args.buffered.now).engine _ _ c.take_turns-result.ensures.number c.hang_up.ensures.number

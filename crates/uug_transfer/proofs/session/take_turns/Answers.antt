@@ -17,7 +17,7 @@ use Rattle.uug_transfer.proofs.session.take_turns.Goals as goal
 
 pub loop-alloc-init : goal.loop-alloc-init
 loop-alloc-init g c = record {
-  jobs = keeps_same _ _ (node_in c.args.buffered.now) (node_in c.args.buffered.now) refl refl;
+  jobs = keeps_same _ _ _ _ (node_in c.args.buffered.now) (node_in c.args.buffered.now) refl refl refl;
   led = led_same _ _ (node_in c.args.buffered.now);
   heard = line_at_first _ _ _ (node_in c.args.buffered.now);
   talks = λ cleared. talks_at_first _ _ _ _ _ _ (node_in c.args.buffered.now) cleared;
@@ -43,9 +43,10 @@ loop-alloc-init g c = record {
 
 pub loop-alloc-preserved : goal.loop-alloc-preserved
 loop-alloc-preserved g c = record {
-  jobs = keeps_later _ _ _ _ _ _ c.loop-alloc.invariant.jobs
-      (keeps_later _ _ _ _ _ _
-      (keeps_same _ _ _ _ (ap (λ (n : NodeState). n.engine.dialogue) c.write_all.ensures.node)
+  jobs = keeps_later _ _ _ _ _ _ _ _ _ c.loop-alloc.invariant.jobs
+      (keeps_later _ _ _ _ _ _ _ _ _
+      (keeps_same _ _ _ _ _ _ (ap (λ (n : NodeState). n.engine.dialogue) c.write_all.ensures.node)
+      (ap g.S.Spool.holdings c.write_all.ensures.spool)
       (ap g.S.Spool.kept c.write_all.ensures.spool)) c.take_and_settle.ensures.jobs);
   led = led_later _ _ _ _ _ _ _ _ _ c.loop-alloc.invariant.led
       (led_later _ _ _ _ _ _ _ _ _
@@ -105,19 +106,22 @@ loop-alloc-preserved g c = record {
 }
 
 pub returns-in_err-take_and_settle-clause-jobs : goal.returns-in_err-take_and_settle-clause-jobs
-returns-in_err-take_and_settle-clause-jobs g c = keeps_later _ _ _ _ _ _ c.loop-alloc.invariant.jobs
-    (keeps_later _ _ _ _ _ _
-    (keeps_same _ _ _ _ (ap (λ (n : NodeState). n.engine.dialogue) c.write_all.ensures.node)
+returns-in_err-take_and_settle-clause-jobs g c = keeps_later _ _ _ _ _ _ _ _ _ c.loop-alloc.invariant.jobs
+    (keeps_later _ _ _ _ _ _ _ _ _
+    (keeps_same _ _ _ _ _ _ (ap (λ (n : NodeState). n.engine.dialogue) c.write_all.ensures.node)
+    (ap g.S.Spool.holdings c.write_all.ensures.spool)
     (ap g.S.Spool.kept c.write_all.ensures.spool)) c.take_and_settle.ensures.jobs)
 
 pub returns-in_err-outcome-clause-jobs : goal.returns-in_err-outcome-clause-jobs
-returns-in_err-outcome-clause-jobs g c = keeps_later _ _ _ _ _ _ c.loop-alloc.invariant.jobs
-    (keeps_same _ _ _ _ (ap (λ (n : NodeState). n.engine.dialogue) c.write_all.ensures.node)
+returns-in_err-outcome-clause-jobs g c = keeps_later _ _ _ _ _ _ _ _ _ c.loop-alloc.invariant.jobs
+    (keeps_same _ _ _ _ _ _ (ap (λ (n : NodeState). n.engine.dialogue) c.write_all.ensures.node)
+    (ap g.S.Spool.holdings c.write_all.ensures.spool)
     (ap g.S.Spool.kept c.write_all.ensures.spool))
 
 pub returns-in_err-all_written-clause-jobs : goal.returns-in_err-all_written-clause-jobs
-returns-in_err-all_written-clause-jobs g c = keeps_later _ _ _ _ _ _ c.loop-alloc.invariant.jobs
-    (keeps_same _ _ _ _ (ap (λ (n : NodeState). n.engine.dialogue) c.write_all.ensures.node)
+returns-in_err-all_written-clause-jobs g c = keeps_later _ _ _ _ _ _ _ _ _ c.loop-alloc.invariant.jobs
+    (keeps_same _ _ _ _ _ _ (ap (λ (n : NodeState). n.engine.dialogue) c.write_all.ensures.node)
+    (ap g.S.Spool.holdings c.write_all.ensures.spool)
     (ap g.S.Spool.kept c.write_all.ensures.spool))
 
 pub returns-in_err-outcome-clause-number : goal.returns-in_err-outcome-clause-number
@@ -244,7 +248,7 @@ returns-clause-talked g c cleared =
     talks_over _ _ _ _ _ _ _ _ _ _ _ _ _ _ _ _ _ (c.loop-alloc.invariant.talks cleared) refl refl refl refl
 
 pub returns-in_err-settled-clause-jobs : goal.returns-in_err-settled-clause-jobs
-returns-in_err-settled-clause-jobs g c = keeps_same _ _ (node_in c.args.buffered.now) (node_in c.args.buffered.now) refl refl
+returns-in_err-settled-clause-jobs g c = keeps_same _ _ _ _ (node_in c.args.buffered.now) (node_in c.args.buffered.now) refl refl refl
 
 pub returns-in_err-settled-clause-led : goal.returns-in_err-settled-clause-led
 returns-in_err-settled-clause-led g c = led_same _ _ (node_in c.args.buffered.now)

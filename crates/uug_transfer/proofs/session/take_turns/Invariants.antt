@@ -15,7 +15,8 @@ use Rattle.uug_transfer.proofs.session.take_turns.Given as goal
 
 abbrev pub invariant-loop-alloc : goal.invariant-loop-alloc
 invariant-loop-alloc g l = record {
-  jobs : KeepsJobs (g.S.Spool.kept (spool_in l.fn.buffered)) (g.S.Spool.kept (spool_in l.buffered)) (node_in l.fn.buffered) (node_in l.buffered);
+  jobs : KeepsJobs (g.S.Spool.holdings (spool_in l.fn.buffered)) (g.S.Spool.holdings (spool_in l.buffered))
+      (g.S.Spool.kept (spool_in l.fn.buffered)) (g.S.Spool.kept (spool_in l.buffered)) (node_in l.fn.buffered) (node_in l.buffered);
   led : IsLed (g.S.Spool.holdings (spool_in l.fn.buffered)) (g.S.Spool.holdings (spool_in l.buffered))
       (g.S.Spool.kept (spool_in l.fn.buffered)) (g.S.Spool.kept (spool_in l.buffered)) (node_in l.fn.buffered) (node_in l.buffered);
   heard : HearsLine (g.S.Spool.holdings (spool_in l.fn.buffered)) (g.S.Spool.kept (spool_in l.fn.buffered))

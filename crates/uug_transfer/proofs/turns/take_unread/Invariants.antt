@@ -5,7 +5,8 @@ use Rattle.uug_transfer.proofs.turns.take_unread.Given as goal
 
 abbrev pub invariant-loop-at : goal.invariant-loop-at
 invariant-loop-at g l = record {
-  jobs : KeepsJobs (g.S.Spool.kept (spool_in l.fn.buffered)) (g.S.Spool.kept (spool_in l.buffered)) (node_in l.fn.buffered) (node_in l.buffered);
+  jobs : KeepsJobs (g.S.Spool.holdings (spool_in l.fn.buffered)) (g.S.Spool.holdings (spool_in l.buffered))
+      (g.S.Spool.kept (spool_in l.fn.buffered)) (g.S.Spool.kept (spool_in l.buffered)) (node_in l.fn.buffered) (node_in l.buffered);
   led : IsLed (g.S.Spool.holdings (spool_in l.fn.buffered)) (g.S.Spool.holdings (spool_in l.buffered))
       (g.S.Spool.kept (spool_in l.fn.buffered)) (g.S.Spool.kept (spool_in l.buffered)) (node_in l.fn.buffered) (node_in l.buffered);
   room : HasRoom (g.L.Line.unread l.line);

@@ -5,12 +5,13 @@ use Rattle.uug_transfer.proofs.LedLemmas.{led_by_calls, led_cleared, led_then}
 use Rattle.uug_transfer.proofs.buffered_node.BufferedNode.arrive.Goals as goal
 
 pub returns-in_default-clause-jobs : goal.returns-in_default-clause-jobs
-returns-in_default-clause-jobs g c = keeps_some _ _ _ _ _ _ _ _ _ c.in_default.ensures.unfinished
+returns-in_default-clause-jobs g c = keeps_some _ _ _ _ _ _ _ _ _ _ c.in_default.ensures.unfinished c.arrive.ensures.holdings
 
 pub returns-clause-jobs : goal.returns-clause-jobs
 returns-clause-jobs g c =
-    keeps_later _ _ _ _ _ _ (keeps_taken _ _ _ _ _ _ _ _ _ c.in-Ok.ensures.taken)
-    (keeps_same _ _ _ _ (ap (λ (e : EngineState). e.dialogue) c.note_emitted.ensures.engine) (ap g.S.Spool.kept c.note_emitted.ensures.spool))
+    keeps_later _ _ _ _ _ _ _ _ _ (keeps_taken _ _ _ _ _ _ _ _ _ _ c.in-Ok.ensures.taken c.arrive.ensures.holdings)
+    (keeps_same _ _ _ _ _ _ (ap (λ (e : EngineState). e.dialogue) c.note_emitted.ensures.engine)
+    (ap g.S.Spool.holdings c.note_emitted.ensures.spool) (ap g.S.Spool.kept c.note_emitted.ensures.spool))
 
 pub returns-in_default-clause-led : goal.returns-in_default-clause-led
 returns-in_default-clause-led g c = record {

@@ -6,7 +6,8 @@ use Rattle.uug_transfer.proofs.buffered_node.BufferedNode.hang_up.Goals as goal
 
 pub returns-clause-jobs : goal.returns-clause-jobs
 returns-clause-jobs g c =
-    keeps_same _ _ _ _ (ap (λ (e : EngineState). e.dialogue) c.hang_up.ensures.stage) (ap g.S.Spool.kept c.hang_up.ensures.spool)
+    keeps_same _ _ _ _ _ _ (ap (λ (e : EngineState). e.dialogue) c.hang_up.ensures.stage)
+    (ap g.S.Spool.holdings c.hang_up.ensures.spool) (ap g.S.Spool.kept c.hang_up.ensures.spool)
 
 pub returns-clause-led : goal.returns-clause-led
 returns-clause-led g c = record {

@@ -11,18 +11,21 @@ use Rattle.uug_transfer.proofs.buffered_node.BufferedNode.time_out.Goals as goal
 
 pub returns-in_err-on_timeout-clause-jobs : goal.returns-in_err-on_timeout-clause-jobs
 returns-in_err-on_timeout-clause-jobs g c =
-    keeps_same _ _ _ _ (ap (λ (e : EndState DialogueValue). e.keeper) c.in_err-on_timeout.ensures.err.end)
+    keeps_same _ _ _ _ _ _ (ap (λ (e : EndState DialogueValue). e.keeper) c.in_err-on_timeout.ensures.err.end)
+    (ap g.S.Spool.holdings c.on_timeout.ensures.spool)
     (ap g.S.Spool.kept c.on_timeout.ensures.spool)
 
 pub returns-clause-jobs : goal.returns-clause-jobs
 returns-clause-jobs g c =
+    let held = g.S.Spool.holdings c.args.self.now.node.spool in
     let before = g.S.Spool.kept c.args.self.now.node.spool in
     let between = node_of c.on_timeout.new.self in
-    keeps_later before before _ (node_in c.args.self.now) between (node_in c.note_emitted.new.self)
-    (keeps_late (g.S.Spool.holdings c.args.self.now.node.spool) before (node_in c.args.self.now) between
+    keeps_later held held _ before before _ (node_in c.args.self.now) between (node_in c.note_emitted.new.self)
+    (keeps_late held before (node_in c.args.self.now) between
     c.in_ok-on_timeout.ensures.ok)
-    (keeps_same before _ between (node_in c.note_emitted.new.self)
+    (keeps_same held _ before _ between (node_in c.note_emitted.new.self)
     (ap (λ (e : EngineState). e.dialogue) c.note_emitted.ensures.engine)
+    (ap g.S.Spool.holdings (c.note_emitted.ensures.spool ∙ c.on_timeout.ensures.spool))
     (ap g.S.Spool.kept (c.note_emitted.ensures.spool ∙ c.on_timeout.ensures.spool)))
 
 pub returns-clause-number : goal.returns-clause-number
