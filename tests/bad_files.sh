@@ -84,7 +84,7 @@ prepare() {
         for ((i = 0; i < 300; i++)); do
             : >"$work/$at/send/f$i"
         done
-        wants_told="44 more files in "
+        wants_told="43 more files in "
         ;;
     folder)
         mkdir "$work/$at/got/f"

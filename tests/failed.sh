@@ -3,7 +3,7 @@
 # other end refuses, and one that asks for a file which it has not. Each must stand in `failed`, with why, before it is gone
 # from `jobs`: also where the end is killed as soon as it is gone, where standard output is closed, and where `failed` can't be
 # written, and then the job stays. A line that is taken from `failed` is tried again. And what `jobs` keeps: its mode, and the
-# link that it is; and the copies of `queue`, which go when no job needs them.
+# link that it is; the copies of `queue`, which go where their jobs go; and more files in `send` than `pair` takes.
 #
 #   tests/failed.sh [PROGRAM]
 #
@@ -142,15 +142,30 @@ clears_copies() {
     holds "copies" "$(names_in "$work/a/send")" ".copy.f0 .copy.f0.1 .copy.f1 .copy.f2 f0 f0.1 f1 f2 mine x y "
     talk
     holds "queued files" "$(cat "$work/b/got"/f?)" $'0\n1\n2'
+    holds "copies behind the session" "$(names_in "$work/a/send")" "mine x y "
+    holds "the copy of a failed job" "$(cat "$work/a/failed.files/f0.1")" 0
+    # its line is tried again with its copy, and no other copy gets its name
+    "$program" queue "$work/a" send "$work/files/f1" f0 --user me >/dev/null
+    sed -n 's/\.no/again/; $p' "$work/a/failed" >>"$work/a/jobs"
+    : >"$work/files/f0.1"
+    "$program" queue "$work/a" send "$work/files/f0.1" --user me >/dev/null
+    talk
+    holds "a copy that is tried again" "$(cat "$work/b/got/again")" 0
+    holds "what was told stays" "$(names_in "$work/a/failed.files")" "f0.1 "
     : >"$work/a/send/.part.1.0"
     "$program" queue "$work/a" send "$work/files/f1" --user me >/dev/null
-    holds "copies that are needed" "$(names_in "$work/a/send")" ".copy.f0.1 .copy.f1 f0.1 f1 mine x y "
+    holds "copies that are needed" "$(names_in "$work/a/send")" ".copy.f1 f1 mine x y "
     # somebody has put another file in the place of a copy
     echo other >"$work/other"
     mv "$work/other" "$work/a/send/f1"
     : >"$work/a/jobs"
     "$program" queue "$work/a" send "$work/files/f2" --user me >/dev/null
     holds "a file of somebody else" "$(cat "$work/a/send/f1")" other
+    # nothing goes while somebody replaces the file of the jobs
+    mv "$work/a/jobs" "$work/a/jobs.mine"
+    talk
+    holds "copies without jobs" "$(names_in "$work/a/send")" ".copy.f2 f1 f2 mine x y "
+    mv "$work/a/jobs.mine" "$work/a/jobs"
     for ((i = 0; i < 300; i++)); do
         : >"$work/a/jobs"
         "$program" queue "$work/a" send "$work/files/f2" --user me >/dev/null || break
@@ -158,7 +173,62 @@ clears_copies() {
     holds "files one after the other" "$i" 300
 }
 
-for part in tells is_killed closed_output can_not_tell keeps_jobs clears_copies; do
+# A peer that was down: copies of 290 jobs wait, as `queue` makes them. More can be queued, one session sends all, and they leave
+# room for what the other end asks for.
+many_files() {
+    new_folders
+    local i
+    mkdir -p "$work/files"
+    for ((i = 0; i < 290; i++)); do
+        echo "$i" >"$work/a/send/n$i"
+        ln "$work/a/send/n$i" "$work/a/send/.copy.n$i"
+        echo "send n$i n$i me"
+    done >"$work/a/jobs"
+    echo more >"$work/files/more"
+    "$program" queue "$work/a" send "$work/files/more" --user me >/dev/null
+    echo "request y y me" >"$work/b/jobs"
+    talk
+    holds "many: jobs" "$(cat "$work/a/jobs")" ""
+    holds "many: got" "$(find "$work/b/got" -name 'n*' -o -name more | wc -l)" 291
+    holds "many: a file that is asked for" "$(cat "$work/b/got/y")" two
+    holds "many: copies" "$(names_in "$work/a/send")" "x y "
+}
+
+# A pipe without a reader holds nobody: it is refused before anything is opened.
+pipes() {
+    new_folders
+    mkfifo "$work/pipe"
+    local option ended
+    for option in --report --log; do
+        ended=0
+        timeout 20 "$program" call "unix:$work/line" "$work/a" --me a --peer b "$option" "$work/pipe" >"$work/out" 2>"$work/err" || ended=$?
+        holds "$option: status" "$ended" 3
+        holds "$option: said" "$(tail -n 1 "$work/err")" "uucpair: $work/pipe: a named pipe may have no reader: name a file, /dev/stdout or /dev/stderr"
+    done
+    ended=0
+    timeout 20 "$program" call "unix:$work/line" "$work/a" --me a --peer b --size 7 --report "$work/pipe" >"$work/out" 2>"$work/err" || ended=$?
+    holds "bad usage: status" "$ended" 2
+    for option in failed jobs; do
+        new_folders
+        mkfifo "$work/a/$option"
+        ended=0
+        timeout 20 "$program" call "unix:$work/line" "$work/a" --me a --peer b >"$work/out" 2>"$work/err" || ended=$?
+        holds "$option: status" "$ended" 3
+        holds "$option: said" "$(tail -n 1 "$work/err")" "uucpair: $work/a/$option: not a regular file"
+    done
+    ended=0
+    timeout 20 "$program" queue "$work/a" request q >"$work/out" 2>"$work/err" || ended=$?
+    holds "a pipe of jobs: status" "$ended" 3
+    new_folders
+    talk --report /dev/stdout --log /dev/null
+    holds "a report through a pipe" "$(head -n 1 "$work/out")" "caller done pending 0 struck 0 failed 0"
+    "$program" answer "unix:$work/line" "$work/b" --me b --peer a >/dev/null 2>&1 &
+    wait_for_socket "$work/line"
+    holds "the same, of a shell" "$("$program" call "unix:$work/line" "$work/a" --me a --peer b --report /dev/stdout | cat)" "caller done pending 0 struck 0 failed 0"
+    wait $! || true
+}
+
+for part in tells is_killed closed_output can_not_tell keeps_jobs clears_copies many_files pipes; do
     before=$failed
     $part
     echo "$part: $([ "$failed" -eq "$before" ] && echo well || echo failed)"

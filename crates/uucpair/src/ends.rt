@@ -1,5 +1,5 @@
 //! One end or both are run, with what is said beside their report, and the log.
-ghost use Rattle.std.specs.Prelude.{◌≡◌, ◌≤◌, IfOk, IsSome};
+ghost use Rattle.std.specs.Prelude.{◌≡◌, ◌≤◌, IfOk, IfSome, IsSome};
 ghost use Rattle.uug_stop.specs.declared.of_end.TheConstants.{LOG};
 ghost use Rattle.uug_stream.specs.Streams.{CountsFault};
 
@@ -11,12 +11,13 @@ use std::rt::{Env, Files};
 use std::time::Clock;
 use std::{fs, io};
 use uug_conversation::Side;
+use uug_disk::is_named_pipe;
 use uug_failure::{Cause, Resource, SystemFailure};
 use uug_log::{LogFile, SessionLog, end_text, words_of};
 use uug_pair::pair_run;
 use uug_port::{ReportFile, StandardStreams, SystemOutput};
 use uug_reason::{jobs_remark, reason_line};
-use uug_stop::LOG;
+use uug_stop::{LOG, REPORT, STATS};
 use uug_stream::{Output, ToolFault};
 use uug_sys::{SystemObserver, call_run};
 use uug_task::{CallTask, ReportPlace};
@@ -99,16 +100,59 @@ where
     ensures status { IfOk result (λ status. status ≤ 1) }
     ensures named { result ≡ Err ToolFault.Device → IsSome why.new }
 {
+    if let Some(failure) = pipe_of(rt, call)? {
+        *why = Some(failure);
+        return Err(ToolFault::Device);
+    }
     match call.report_place() {
-        ReportPlace::File(path) => {
+        ReportPlace::File(path) if call.may_run() => {
             do_call_reporting(rt, call, terminals, standard, path, remark, why)
         }
         ReportPlace::Errors => {
             let mut report = SystemOutput::new(standard.errors);
             do_call_over(rt, call, terminals, standard, &mut report, remark, why)
         }
-        ReportPlace::Output => do_call_over(rt, call, terminals, standard, output, remark, why),
+        // Bad usage opens no file.
+        ReportPlace::File(_) | ReportPlace::Output => {
+            do_call_over(rt, call, terminals, standard, output, remark, why)
+        }
     }
+}
+
+/// Which file that one end is to write is a named pipe, where it may be run: its report, its log, or the statistics. None of them is
+/// opened then, since that might wait for a reader.
+fn pipe_of<R: Files + AllocGlobal>(
+    rt: &R,
+    call: &CallTask<'_>,
+) -> Result<Option<SystemFailure>, AllocError> {
+    if !call.may_run() {
+        return Ok(None);
+    }
+    let report = pipe_at(rt, call.report, REPORT)?;
+    let log = pipe_at(rt, call.log, LOG)?;
+    let stats = pipe_at(rt, call.stats, STATS)?;
+    Ok(report.or(log).or(stats))
+}
+
+/// That the output of this number, which is at this path, is a named pipe, if it is one.
+fn pipe_at<R: Files + AllocGlobal>(
+    rt: &R,
+    path: Option<&str>,
+    number: usize,
+) -> Result<Option<SystemFailure>, AllocError>
+    ensures { IfOk result (λ found. IfSome found (λ failure. failure.end ≡ number)) }
+{
+    let Some(path) = path else {
+        return Ok(None);
+    };
+    if !is_named_pipe(rt.alloc(), rt, path)? {
+        return Ok(None);
+    }
+    Ok(Some(SystemFailure {
+        end: number,
+        resource: Resource::Output,
+        cause: Cause::NotAFile,
+    }))
 }
 
 /// The same, where the report goes to the file of this path.

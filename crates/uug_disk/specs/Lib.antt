@@ -1,2 +1,4 @@
 pub mod Barred
+pub mod Copies
+pub mod Pipes
 pub mod Queued

@@ -3,12 +3,13 @@ ghost use Rattle.std.specs.Prelude.{◌≡◌, IfErr};
 ghost use Rattle.uug_failure.specs.Faults.{IsFolderFault, IsLockFault};
 
 use crate::part_path::PART_FRONT;
+use crate::pipe::is_pipe;
 use std::alloc::{AllocError, Allocator};
 use std::fs::File;
 use std::io::ErrorKind;
 use std::rt::Files;
 use std::{fs, io};
-use uug_failure::{EndDir, Resource, RunFault, grant_lock};
+use uug_failure::{Cause, EndDir, EndText, Resource, RunFault, grant_lock};
 use uug_folder::sends_any;
 use uug_session::Job;
 
@@ -67,7 +68,7 @@ pub(crate) fn see_dir<R: Files>(rt: &R, dir: EndDir<'_>) -> Result<(), RunFault>
 }
 
 /// Sees that the folders in that of an end are there which a session with these jobs needs: `got`, and `send` where one of
-/// them sends a file.
+/// them sends a file; and that `failed` is no pipe.
 pub fn see_folders<A: Allocator + Copy, R: Files>(
     alloc: A,
     rt: &R,
@@ -79,6 +80,24 @@ pub fn see_folders<A: Allocator + Copy, R: Files>(
     see_below(alloc, rt, dir, "got", Resource::GotFolder)?;
     if sends_any(jobs) {
         see_below(alloc, rt, dir, "send", Resource::Send)?;
+    }
+    see_failed(alloc, rt, dir)
+}
+
+/// Sees that what tells of failed jobs is no pipe, which would wait for a reader.
+fn see_failed<A: Allocator + Copy, R: Files>(
+    alloc: A,
+    rt: &R,
+    dir: EndDir<'_>,
+) -> Result<(), RunFault>
+    ensures { IfErr result IsFolderFault }
+{
+    let front = dir.path;
+    let name = EndText::Failed.name();
+    let path = format!(in alloc; "{front}/{name}")?;
+    if is_pipe(rt, path.as_str()) {
+        let resource = Resource::Text(EndText::Failed);
+        return Err(RunFault::System(dir.failure(resource, Cause::NotAFile)));
     }
     Ok(())
 }

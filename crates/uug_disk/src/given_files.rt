@@ -1,11 +1,13 @@
-//! The files that an end gives in a session. A single bad one stops none of the others.
-ghost use Rattle.std.specs.Prelude.{◌≡◌, ◌≤◌, IfErr, IfOk, OnOk, length};
+//! The files that an end of `call` and `answer` gives in a session, and for which of its jobs there is room.
+ghost use Rattle.std.specs.Prelude.{◌≡◌, ◌+◌, ◌≤◌, false, IfErr, IfOk, OnOk, length};
 ghost use Rattle.uug_failure.specs.Faults.{IsFolderFault};
-ghost use Rattle.uug_disk.specs.declared.send_folder.TheConstants.{FILES_MAX};
+ghost use Rattle.uug_disk.specs.Copies.{room_behind};
+ghost use Rattle.uug_disk.specs.declared.given_files.TheConstants.{OTHERS_MAX};
 
 use crate::dir_lock::DirLock;
 use crate::passed_over::{Lack, PassedOver};
-use crate::send_folder::{FILES_MAX, add_given, is_file, is_no_text, path_in_send};
+use crate::queued_copy::{is_copy, path_with_failed};
+use crate::send_folder::{add_given, is_file, is_no_text, path_in_send};
 use std::alloc::Allocator;
 use std::fs;
 use std::fs::{DirEntry, ReadDir};
@@ -16,6 +18,9 @@ use uug_folder::local_source;
 use uug_session::{Job, Stored};
 use uug_talk::Name;
 
+/// The most files that an end gives which none of the jobs that it offers sends.
+pub const OTHERS_MAX: usize = 256;
+
 /// The files that an end gives in a session, and how many of its jobs it offers.
 #[derive(Drop)]
 pub struct Given<A: Allocator> {
@@ -25,11 +30,12 @@ pub struct Given<A: Allocator> {
     pub offered: usize,
 }
 
-/// The files in the folder `send` below that of an end: those of its first jobs, as many as come to `FILES_MAX` files and to
-/// `most` bytes together, and behind them all others that the other end may ask for, `FILES_MAX` together. The jobs behind those
-/// wait for another session, which is said on standard error. A missing folder is an empty one. What is hidden, or no regular
-/// file, is skipped, and so is a file of more than `FILE_MAX` bytes. What else is not given is said on standard error. Only a
-/// file that a job names stops the end, where it can't be read. A listing that a signal has ended is begun anew.
+/// The files that an end gives: those of its first jobs, as many as come to `most` bytes together, and behind them up to
+/// `OTHERS_MAX` others in the folder `send` below that of the end, which the other end may ask for. The jobs behind those wait for
+/// another session, which is said on standard error. A file that isn't in `send` is looked for with those of failed jobs: so the
+/// line of such a job may be tried again. A missing folder is an empty one. What is hidden, a copy whose job is not offered, or no
+/// regular file, is skipped, and so is a file of more than `FILE_MAX` bytes. What else is not given is said on standard error. Only
+/// a file that a job names stops the end, where it can't be read. A listing that a signal has ended is begun anew.
 pub fn read_given<A: Allocator + Copy, R: Files + Eprint + Alloc + Clone + Drop>(
     alloc: A,
     rt: &R,
@@ -37,7 +43,8 @@ pub fn read_given<A: Allocator + Copy, R: Files + Eprint + Alloc + Clone + Drop>
     jobs: &[Job],
     most: u64,
 ) -> Result<Given<A>, RunFault>
-    ensures within { IfOk result (λ given. length given.files.items ≤ FILES_MAX) }
+    ensures within { IfOk result (λ given.
+        length given.files.items ≤ given.offered + OTHERS_MAX) }
     ensures offered { IfOk result (λ given. given.offered ≤ length jobs.now) }
     ensures some { IfOk result (λ given. given.offered ≡ 0 → length jobs.now ≡ 0) }
     ensures no_other { IfErr result IsFolderFault }
@@ -55,7 +62,8 @@ fn list_again<A: Allocator + Copy, R: Files + Eprint + Alloc + Clone + Drop>(
     jobs: &[Job],
     most: u64,
 ) -> Result<Given<A>, RunFault>
-    ensures within { IfOk result (λ given. length given.files.items ≤ FILES_MAX) }
+    ensures within { IfOk result (λ given.
+        length given.files.items ≤ given.offered + OTHERS_MAX) }
     ensures offered { IfOk result (λ given. given.offered ≤ length jobs.now) }
     ensures some { IfOk result (λ given. given.offered ≡ 0 → length jobs.now ≡ 0) }
     ensures no_other { IfErr result IsFolderFault }
@@ -78,7 +86,8 @@ fn list_given<A: Allocator + Copy, R: Files + Eprint + Alloc + Clone + Drop>(
     jobs: &[Job],
     most: u64,
 ) -> Result<Given<A>, RunFault>
-    ensures within { IfOk result (λ given. length given.files.items ≤ FILES_MAX) }
+    ensures within { IfOk result (λ given.
+        length given.files.items ≤ given.offered + OTHERS_MAX) }
     ensures offered { IfOk result (λ given. given.offered ≤ length jobs.now) }
     ensures some { IfOk result (λ given. given.offered ≡ 0 → length jobs.now ≡ 0) }
     ensures no_other { IfErr result IsFolderFault }
@@ -106,8 +115,8 @@ fn add_sources<A: Allocator + Copy, R: Files>(
     jobs: &[Job],
     most: u64,
 ) -> Result<usize, RunFault>
-    requires { length files.old.items ≤ FILES_MAX }
-    ensures within { OnOk result (length files.new.items ≤ FILES_MAX) }
+    requires { length files.old.items ≡ 0 }
+    ensures within { IfOk result (λ offered. length files.new.items ≤ offered) }
     ensures offered { IfOk result (λ offered. offered ≤ length jobs.now) }
     ensures some { IfOk result (λ offered. offered ≡ 0 → length jobs.now ≡ 0) }
     ensures no_other { IfErr result IsFolderFault }
@@ -133,7 +142,8 @@ fn source_of(job: &Job) -> Option<Name> {
     }
 }
 
-/// Adds the file of this name, which a job names, unless it is there already. Whether there is room for it.
+/// Adds the file of this name, which a job names, unless it is there already, there is none, or it does not fit in the room, which
+/// is then so much less. Whether it has its room.
 fn add_source<A: Allocator + Copy, R: Files>(
     files: &mut Vec<Stored<A>, A>,
     alloc: A,
@@ -142,42 +152,83 @@ fn add_source<A: Allocator + Copy, R: Files>(
     name: Name,
     room: &mut u64,
 ) -> Result<bool, RunFault>
-    requires { length files.old.items ≤ FILES_MAX }
-    ensures within { OnOk result (length files.new.items ≤ FILES_MAX) }
+    ensures one { length files.new.items ≤ length files.old.items + 1 }
+    ensures full { result ≡ Ok false → length files.new.items ≤ length files.old.items }
     ensures no_other { IfErr result IsFolderFault }
 {
     if is_there(files.as_slice(), &name) {
         return Ok(true);
     }
-    let path = path_in_send(alloc, dir, &name)?;
-    match is_file(rt, path.as_str()) {
-        Ok(true) => (),
-        Ok(false) => return Ok(true),
-        Err(error) => return Err(RunFault::of(&error, dir, Resource::Given(name))),
-    }
+    let path = match source_path(alloc, rt, dir, name) {
+        Ok(Some(path)) => path,
+        Ok(None) => return Ok(true),
+        Err(fault) => return Err(fault),
+    };
     let before = files.len();
-    if before >= FILES_MAX {
-        return Ok(false);
-    }
     add_given(files, alloc, rt, dir, name, path.as_str())?;
     Ok(fits(files, before, room))
+}
+
+/// The path of the file of this name, which a job names: in `send`, else with the files of failed jobs.
+fn source_path<A: Allocator + Copy, R: Files>(
+    alloc: A,
+    rt: &R,
+    dir: EndDir<'_>,
+    name: Name,
+) -> Result<Option<String<A>>, RunFault>
+    ensures { IfErr result IsFolderFault }
+{
+    let path = path_in_send(alloc, dir, &name)?;
+    match has_file(rt, dir, name, path.as_str()) {
+        Ok(true) => return Ok(Some(path)),
+        Ok(false) => (),
+        Err(fault) => return Err(fault),
+    }
+    let path = path_with_failed(alloc, dir, &name)?;
+    match has_file(rt, dir, name, path.as_str()) {
+        Ok(true) => Ok(Some(path)),
+        Ok(false) => Ok(None),
+        Err(fault) => Err(fault),
+    }
+}
+
+/// Whether the file of this name, which a job names, is at this path.
+fn has_file<R: Files>(rt: &R, dir: EndDir<'_>, name: Name, path: &str) -> Result<bool, RunFault>
+    ensures { IfErr result IsFolderFault }
+{
+    match is_file(rt, path) {
+        Ok(is_file) => Ok(is_file),
+        Err(error) => Err(RunFault::of(&error, dir, Resource::Given(name))),
+    }
 }
 
 /// Whether the file behind these, if one was added, fits in the room, which is then so much less. It is taken away again where it
 /// does not.
 fn fits<A: Allocator>(files: &mut Vec<Stored<A>, A>, before: usize, room: &mut u64) -> bool
-    ensures { length files.new.items ≤ length files.old.items }
+    ensures fewer { length files.new.items ≤ length files.old.items }
+    ensures full { result ≡ false → length files.new.items ≤ before }
 {
     let size = match files.get(before) {
         Some(file) => file.bytes.len() as u64,
         None => return true,
     };
-    if size > *room {
-        files.truncate(before);
-        return false;
+    match room_behind(*room, size) {
+        Some(left) => {
+            *room = left;
+            true
+        }
+        None => {
+            files.truncate(before);
+            false
+        }
     }
-    *room -= size;
-    true
+}
+
+/// What is left of the room behind a file of this size, if that fits.
+fn room_behind(room: u64, size: u64) -> Option<u64>
+    ensures { result ≡ room_behind room size }
+{
+    room.checked_sub(size)
 }
 
 /// Whether one of these files has this name.
@@ -187,64 +238,66 @@ fn is_there<A: Allocator>(files: &[Stored<A>], name: &Name) -> bool {
         .any(|file| file.name.as_bytes() == name.as_bytes())
 }
 
-/// Adds the other files in `send`.
+/// Adds up to `OTHERS_MAX` other files in `send`.
 fn add_others<A: Allocator + Copy, R: Files + Eprint + Alloc + Clone + Drop>(
     files: &mut Vec<Stored<A>, A>,
     alloc: A,
     rt: &R,
     dir: EndDir<'_>,
 ) -> Result<(), RunFault>
-    requires { length files.old.items ≤ FILES_MAX }
-    ensures within { OnOk result (length files.new.items ≤ FILES_MAX) }
+    ensures within { OnOk result
+        (length files.new.items ≤ length files.old.items + OTHERS_MAX) }
     ensures no_other { IfErr result IsFolderFault }
 {
     let front = dir.path;
     let path = format!(in alloc; "{front}/send")?;
-    let mut passed = PassedOver::none(rt);
+    let before = files.len();
+    let mut passed = PassedOver::none(rt, path.as_str());
     match fs::read_dir(rt, path.as_str()) {
-        Ok(entries) => add_entries(files, alloc, rt, dir, entries, path.as_str(), &mut passed)?,
+        Ok(entries) => add_entries(files, alloc, rt, dir, entries, before, &mut passed)?,
         Err(error) if error.kind() == ErrorKind::NotFound => (),
         Err(error) => return Err(RunFault::of(&error, dir, Resource::Send)),
     }
-    passed.say_rest(path.as_str());
+    passed.say_rest();
     Ok(())
 }
 
-/// Adds the files of these entries of the folder at this path.
+/// Adds the files of these entries of `send`, up to `OTHERS_MAX` behind so many.
 fn add_entries<A: Allocator + Copy, R: Files + Eprint + Alloc + Clone + Drop>(
     files: &mut Vec<Stored<A>, A>,
     alloc: A,
     rt: &R,
     dir: EndDir<'_>,
     entries: ReadDir<R, R::A>,
-    send: &str,
+    before: usize,
     passed: &mut PassedOver<'_, R>,
 ) -> Result<(), RunFault>
-    requires { length files.old.items ≤ FILES_MAX }
-    ensures within { OnOk result (length files.new.items ≤ FILES_MAX) }
+    requires { length files.old.items ≤ before + OTHERS_MAX }
+    ensures within { OnOk result (length files.new.items ≤ before + OTHERS_MAX) }
     ensures no_other { IfErr result IsFolderFault }
 {
     for entry in entries {
         match entry {
-            Ok(entry) => add_entry(files, alloc, rt, dir, &entry, passed)?,
-            Err(error) if is_no_text(&error) => passed.note(Lack::Text, send),
+            Ok(entry) => add_entry(files, alloc, rt, dir, &entry, before, passed)?,
+            Err(error) if is_no_text(&error) => passed.note_no_text(),
             Err(error) => return Err(RunFault::of(&error, dir, Resource::Send)),
         }
     }
     Ok(())
 }
 
-/// Adds the file of an entry, or notes why not, unless it is hidden or no file.
+/// Adds the file of an entry, or notes why not, unless it is hidden, a copy or no file.
 fn add_entry<A: Allocator + Copy, R: Files + Eprint + Alloc + Clone + Drop>(
     files: &mut Vec<Stored<A>, A>,
     alloc: A,
     rt: &R,
     dir: EndDir<'_>,
     entry: &DirEntry<R, R::A>,
+    before: usize,
     passed: &mut PassedOver<'_, R>,
 ) -> Result<(), RunFault>
-    requires { length files.old.items ≤ FILES_MAX }
-    ensures within { OnOk result (length files.new.items ≤ FILES_MAX) }
+    requires { length files.old.items ≤ before + OTHERS_MAX }
+    ensures within { OnOk result (length files.new.items ≤ before + OTHERS_MAX) }
     ensures no_other { IfErr result IsFolderFault }
 {
     let path = entry.path();
@@ -255,10 +308,10 @@ fn add_entry<A: Allocator + Copy, R: Files + Eprint + Alloc + Clone + Drop>(
         passed.note(Lack::Name, path.as_str());
         return Ok(());
     };
-    if is_there(files.as_slice(), &name) {
+    if is_there(files.as_slice(), &name) || is_copy(alloc, rt, dir, name)? {
         return Ok(());
     }
-    if files.len() >= FILES_MAX {
+    if files.len().saturating_sub(before) >= OTHERS_MAX {
         passed.note(Lack::Room, path.as_str());
         return Ok(());
     }

@@ -3,6 +3,7 @@
 #![tactic(auto)]
 
 mod atomic_file;
+mod copy_place;
 mod device_lock;
 mod dir_lock;
 mod given_files;
@@ -11,10 +12,12 @@ mod no_file;
 mod opened_jobs;
 mod part_path;
 mod passed_over;
+mod pipe;
 mod queue;
 mod queued_copy;
 mod queued_line;
 mod send_folder;
+mod settled_copies;
 mod system_folder;
 mod system_jobs;
 mod system_number;
@@ -22,11 +25,13 @@ mod system_text;
 
 pub use device_lock::{DeviceLock, lock_device};
 pub use dir_lock::{DirLock, lock_dir, see_folders};
-pub use given_files::{Given, read_given};
+pub use given_files::{Given, OTHERS_MAX, read_given};
 pub use no_file::NoFile;
 pub use opened_jobs::{OpenJobs, open_jobs};
+pub use pipe::is_named_pipe;
 pub use queue::{QueueTask, queue_run};
 pub use send_folder::{FILES_MAX, GIVEN_MODE, TEXT_MAX, read_send, read_text};
+pub use settled_copies::settle_copies;
 pub use system_folder::SystemFolder;
 pub use system_jobs::SystemJobs;
 pub use system_number::SystemNumber;

@@ -13,7 +13,7 @@ pub(crate) enum Lack {
     Name,
     /// It can't be read.
     Access,
-    /// There are as many files as may be given.
+    /// There are as many others as may be given.
     Room,
 }
 
@@ -44,7 +44,7 @@ impl Lack {
             Lack::Text => "its name is no text",
             Lack::Name => "its name is none of 1 to 200 printing characters without a space",
             Lack::Access => "it can't be read",
-            Lack::Room => "there are more than 256 files",
+            Lack::Room => "there are more than 256 files that no job sends",
         }
     }
 }
@@ -54,15 +54,18 @@ impl Lack {
 #[derive(Drop)]
 pub(crate) struct PassedOver<'a, R> {
     rt: &'a R,
+    /// The path of the folder `send`.
+    send: &'a str,
     /// How many there are, by the reasons.
     counts: [u64; LACKS],
 }
 
 impl<'a, R: Eprint> PassedOver<'a, R> {
-    /// Nothing is passed over so far.
-    pub(crate) fn none(rt: &'a R) -> Self {
+    /// Nothing is passed over so far in the folder at this path.
+    pub(crate) fn none(rt: &'a R, send: &'a str) -> Self {
         PassedOver {
             rt,
+            send,
             counts: [0; LACKS],
         }
     }
@@ -79,14 +82,20 @@ impl<'a, R: Eprint> PassedOver<'a, R> {
         self.counts[place] = self.counts[place].saturating_add(1);
     }
 
-    /// Says how many more files in the folder at this path are not given.
-    pub(crate) fn say_rest(&self, send: &str) {
+    /// A file is not given whose name is no text.
+    pub(crate) fn note_no_text(&mut self) {
+        let send = self.send;
+        self.note(Lack::Text, send);
+    }
+
+    /// Says how many more files in the folder are not given.
+    pub(crate) fn say_rest(&self) {
         let mut more: u64 = 0;
         for count in &self.counts {
             more = more.saturating_add(count.saturating_sub(1));
         }
         if more > 0 {
-            let send = send.escape_debug();
+            let send = self.send.escape_debug();
             let _ = eprint!(self.rt; "uucpair: {more} more files in {send} are not given\n");
         }
     }

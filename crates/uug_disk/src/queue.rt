@@ -5,8 +5,9 @@ ghost use Rattle.uug_failure.specs.Faults.{IsQueueFault, IsReadingFault};
 ghost use Rattle.uug_disk.specs.Queued.{IsListOf, word_in, word_or_empty};
 
 use crate::dir_lock::see_dir;
-use crate::queued_copy::{clear_copies, lock_send, place_copy, read_copied};
+use crate::queued_copy::{place_copy, read_copied};
 use crate::queued_line::{add_job, jobs_at, jobs_in};
+use crate::settled_copies::{failed_text, lock_send, settle_now};
 use std::alloc::{AllocError, Allocator};
 use std::env;
 use std::env::VarError;
@@ -249,7 +250,7 @@ where
     queued
 }
 
-/// The same, where `send` is locked: copies of jobs that are over are removed before.
+/// The same, where `send` is locked. Before, the copies of jobs that are over go where they belong.
 fn queue_copy_alone<A, R>(
     alloc: A,
     rt: &R,
@@ -263,10 +264,19 @@ where
     R: Files<File = File> + Alloc + Clone + Drop,
     ensures { IfErr result IsReadingFault }
 {
+    settle_now(alloc, rt, dir)?;
     let text = jobs_at(alloc, rt, dir)?;
     let waiting = jobs_in(alloc, text.as_slice())?;
-    clear_copies(alloc, rt, dir, waiting.pending())?;
-    let copy = place_copy(alloc, rt, dir, base, waiting.pending(), bytes)?;
+    let failed = failed_text(alloc, rt, dir).unwrap_or(Vec::new(alloc));
+    let copy = place_copy(
+        alloc,
+        rt,
+        dir,
+        base,
+        waiting.pending(),
+        failed.as_slice(),
+        bytes,
+    )?;
     let placed = with_source(job, copy.name);
     match add_job(alloc, rt, dir, &placed) {
         Ok(()) => Ok(placed),

@@ -4,17 +4,17 @@ ghost use Rattle.uug_failure.specs.Faults.{IsCopyFault, IsFolderFault};
 ghost use Rattle.uug_talk.specs.declared.gather.TheConstants.{FILE_MAX};
 
 use crate::atomic_file::{see_folder, write_synced};
-use crate::dir_lock::open_dir;
-use crate::part_path::{PART_FRONT, PartPath};
-use crate::send_folder::{FILES_MAX, count_send, path_in_send, read_file, read_text};
+use crate::copy_place::is_taken;
+use crate::part_path::PartPath;
+use crate::send_folder::{path_in_send, read_file};
 use std::alloc::{AllocError, Allocator};
-use std::fs::{DirEntry, File, OpenFile};
+use std::fs::{File, OpenFile};
 use std::io::ErrorKind;
 use std::os::unix::fs::MetadataExt;
 use std::rt::Files;
 use std::{fs, io};
-use uug_failure::{Cause, EndDir, EndText, Resource, RunFault, SystemFailure};
-use uug_folder::{is_given_by, is_given_in, nth_name};
+use uug_failure::{Cause, EndDir, Resource, RunFault, SystemFailure};
+use uug_folder::nth_name;
 use uug_session::Job;
 use uug_stream::ToolFault;
 use uug_talk::{FILE_MAX, Name};
@@ -23,8 +23,11 @@ use uug_talk::{FILE_MAX, Name};
 /// a copy of ours.
 pub(crate) const COPY_FRONT: &str = ".copy.";
 
+/// The folder of the copies whose jobs have failed. It stands beside the file `failed`, which tells of these jobs.
+pub(crate) const FAILED_FILES: &str = "failed.files";
+
 /// So many names are tried for a copy.
-pub(crate) const NAMES_MAX: u32 = 1000;
+pub(crate) const NAMES_MAX: u32 = 1_000_000;
 
 /// The bytes of the file that is to be copied: a regular one, of at most `FILE_MAX` bytes.
 pub(crate) fn read_copied<A: Allocator + Copy, R: Files>(
@@ -73,6 +76,8 @@ pub(crate) struct Copied<A: Allocator> {
     pub(crate) name: Name,
     path: String<A>,
     mark: String<A>,
+    /// Where it goes when its job has failed.
+    aside: String<A>,
 }
 
 impl<A: Allocator> Copied<A> {
@@ -89,23 +94,56 @@ impl<A: Allocator> Copied<A> {
         }
     }
 
+    /// Whether it is still the file of its mark.
+    fn is_marked<R: Files>(&self, rt: &R) -> bool {
+        is_same(rt, self.path.as_str(), self.mark.as_str())
+    }
+
     /// Takes it away, where it is still the file of its mark, and then the mark.
-    fn clear<R: Files>(&self, rt: &R) {
-        if is_same(rt, self.path.as_str(), self.mark.as_str()) {
+    pub(crate) fn clear<R: Files>(&self, rt: &R) {
+        if self.is_marked(rt) {
             let _ = fs::remove_file(rt, self.path.as_str());
         }
         let _ = fs::remove_file(rt, self.mark.as_str());
     }
+
+    /// Moves it to the files of failed jobs below this folder of an end. It is on the device there before it is taken away here;
+    /// where that can't be done, or another file has its name there, it stays.
+    pub(crate) fn set_aside<R: Files>(&self, rt: &R, front: &str, failed_files: &str) {
+        if self.link_aside(rt, front, failed_files).is_ok() {
+            self.clear(rt);
+        }
+    }
+
+    /// Gives it its name among the files of failed jobs, whose folder is made where it is missing.
+    fn link_aside<R: Files>(&self, rt: &R, front: &str, failed_files: &str) -> io::Result<()> {
+        let mark = self.mark.as_str();
+        let aside = self.aside.as_str();
+        match fs::hard_link(rt, mark, aside) {
+            Ok(()) => (),
+            Err(error) if error.kind() == ErrorKind::AlreadyExists && is_same(rt, mark, aside) =>
+                (),
+            Err(error) if error.kind() == ErrorKind::NotFound => {
+                fs::create_dir(rt, failed_files)?;
+                see_folder(rt, front)?;
+                fs::hard_link(rt, mark, aside)?;
+            }
+            Err(error) => return Err(error),
+        }
+        see_folder(rt, failed_files)
+    }
 }
 
-/// Puts a copy with these bytes into `send`, under this name or the first with a number that no file there has, and none of
-/// the jobs that wait. Nothing is overwritten, and what is not whole has another name.
+/// Puts a copy with these bytes into `send`, under this name or the first with a number that no file has there or with those of
+/// failed jobs, and none of the jobs that wait or of which the text `failed` tells: so none of these is ever sent this file. Nothing
+/// is overwritten, and what is not whole has another name.
 pub(crate) fn place_copy<A: Allocator + Copy, R: Files + Alloc + Clone + Drop>(
     alloc: A,
     rt: &R,
     dir: EndDir<'_>,
     base: &Name,
     waiting: &[Job],
+    failed: &[u8],
     bytes: &[u8],
 ) -> Result<Copied<A>, RunFault>
     ensures { IfErr result IsFolderFault }
@@ -116,7 +154,7 @@ pub(crate) fn place_copy<A: Allocator + Copy, R: Files + Alloc + Clone + Drop>(
     if let Err(error) = write_part(rt, &mut part, bytes) {
         return Err(RunFault::of(&error, dir, Resource::Send));
     }
-    let copy = match link_free(alloc, rt, dir, part.as_str(), base, waiting) {
+    let copy = match link_free(alloc, rt, dir, part.as_str(), base, waiting, failed) {
         Ok(copy) => copy,
         Err(fault) => {
             let _ = fs::remove_file(rt, part.as_str());
@@ -124,11 +162,11 @@ pub(crate) fn place_copy<A: Allocator + Copy, R: Files + Alloc + Clone + Drop>(
         }
     };
     copy.mark(rt, part.as_str());
-    match see_copy(alloc, rt, dir, send.as_str()) {
+    match see_folder(rt, send.as_str()) {
         Ok(()) => Ok(copy),
-        Err(fault) => {
+        Err(error) => {
             copy.remove(rt);
-            Err(fault)
+            Err(RunFault::of(&error, dir, Resource::Send))
         }
     }
 }
@@ -155,6 +193,7 @@ fn link_free<A: Allocator + Copy, R: Files>(
     part: &str,
     base: &Name,
     waiting: &[Job],
+    failed: &[u8],
 ) -> Result<Copied<A>, RunFault>
     ensures { IfErr result IsFolderFault }
 {
@@ -162,10 +201,10 @@ fn link_free<A: Allocator + Copy, R: Files>(
         let Some(name) = nth_name(alloc, base, n)? else {
             break;
         };
-        if is_given_by(waiting, &name) {
+        let copy = copied_as(alloc, dir, name)?;
+        if is_there(rt, copy.aside.as_str()) || is_taken(waiting, failed, &name) {
             continue;
         }
-        let copy = copied_as(alloc, dir, name)?;
         match fs::hard_link(rt, part, copy.path.as_str()) {
             Ok(()) => return Ok(copy),
             Err(error) if error.kind() == ErrorKind::AlreadyExists => (),
@@ -176,8 +215,13 @@ fn link_free<A: Allocator + Copy, R: Files>(
     Err(RunFault::of(&taken, dir, Resource::Given(*base)))
 }
 
+/// Whether there is anything at a path, as far as that can be seen.
+fn is_there<R: Files>(rt: &R, path: &str) -> bool {
+    fs::symlink_metadata(rt, path).is_ok()
+}
+
 /// The copy of this name in `send`.
-fn copied_as<A: Allocator + Copy>(
+pub(crate) fn copied_as<A: Allocator + Copy>(
     alloc: A,
     dir: EndDir<'_>,
     name: Name,
@@ -188,7 +232,30 @@ fn copied_as<A: Allocator + Copy>(
         name,
         path: path_in_send(alloc, dir, &name)?,
         mark: format!(in alloc; "{front}/send/{COPY_FRONT}{text}")?,
+        aside: path_with_failed(alloc, dir, &name)?,
     })
+}
+
+/// The path of a file with those of failed jobs, below the folder of an end.
+pub(crate) fn path_with_failed<A: Allocator + Copy>(
+    alloc: A,
+    dir: EndDir<'_>,
+    name: &Name,
+) -> Result<String<A>, AllocError> {
+    let front = dir.path;
+    let name = name.as_str();
+    format!(in alloc; "{front}/{FAILED_FILES}/{name}")
+}
+
+/// Whether the file of this name in `send` is a copy that `queue` has made.
+pub(crate) fn is_copy<A: Allocator + Copy, R: Files>(
+    alloc: A,
+    rt: &R,
+    dir: EndDir<'_>,
+    name: Name,
+) -> Result<bool, AllocError> {
+    let copy = copied_as(alloc, dir, name)?;
+    Ok(copy.is_marked(rt))
 }
 
 /// Whether two paths are names of one file.
@@ -197,95 +264,4 @@ fn is_same<R: Files>(rt: &R, path: &str, other: &str) -> bool {
         (Ok(file), Ok(other)) => file.dev() == other.dev() && file.ino() == other.ino(),
         _ => false,
     }
-}
-
-/// Locks `send` for one who queues, and waits for that.
-pub(crate) fn lock_send<A: Allocator + Copy, R: Files<File = File>>(
-    alloc: A,
-    rt: &R,
-    dir: EndDir<'_>,
-) -> Result<File, RunFault>
-    ensures { IfErr result IsFolderFault }
-{
-    let front = dir.path;
-    let send = format!(in alloc; "{front}/send")?;
-    match open_and_wait(rt, send.as_str()) {
-        Ok(file) => Ok(file),
-        Err(error) => Err(RunFault::of(&error, dir, Resource::Send)),
-    }
-}
-
-fn open_and_wait<R: Files<File = File>>(rt: &R, send: &str) -> io::Result<File> {
-    let file = open_dir(rt, send)?;
-    file.lock()?;
-    Ok(file)
-}
-
-/// Removes the copies in `send` of jobs that are over: those that no job sends which waits, or which `failed` tells of. What is
-/// left of copies that were not whole goes, too. What can't be removed is in nobody's way.
-pub(crate) fn clear_copies<A: Allocator + Copy, R: Files + Alloc + Clone + Drop>(
-    alloc: A,
-    rt: &R,
-    dir: EndDir<'_>,
-    waiting: &[Job],
-) -> Result<(), AllocError> {
-    let failed = match read_text(alloc, rt, dir, EndText::Failed) {
-        Ok(Some(failed)) => failed,
-        Ok(None) => Vec::new(alloc),
-        Err(_) => return Ok(()),
-    };
-    let front = dir.path;
-    let send = format!(in alloc; "{front}/send")?;
-    let Ok(entries) = fs::read_dir(rt, send.as_str()) else {
-        return Ok(());
-    };
-    for entry in entries {
-        let Ok(entry) = entry else {
-            continue;
-        };
-        clear_entry(alloc, rt, dir, &entry, waiting, failed.as_slice())?;
-    }
-    Ok(())
-}
-
-/// Removes what an entry of `send` is, where it is the mark of a copy that is not needed, or was not whole.
-fn clear_entry<A: Allocator + Copy, R: Files + Alloc + Clone + Drop>(
-    alloc: A,
-    rt: &R,
-    dir: EndDir<'_>,
-    entry: &DirEntry<R, R::A>,
-    waiting: &[Job],
-    failed: &[u8],
-) -> Result<(), AllocError> {
-    if entry.file_name().starts_with(PART_FRONT) {
-        let _ = fs::remove_file(rt, entry.path().as_str());
-    }
-    let Some(name) = entry.file_name().strip_prefix(COPY_FRONT) else {
-        return Ok(());
-    };
-    let Ok(name) = Name::new(name.as_bytes()) else {
-        return Ok(());
-    };
-    if !is_given_by(waiting, &name) && !is_given_in(failed, &name) {
-        copied_as(alloc, dir, name)?.clear(rt);
-    }
-    Ok(())
-}
-
-/// Sees the folder `send` on the device, and that it has no more files than may be given.
-fn see_copy<A: Allocator + Copy, R: Files + Alloc + Clone + Drop>(
-    alloc: A,
-    rt: &R,
-    dir: EndDir<'_>,
-    send: &str,
-) -> Result<(), RunFault>
-    ensures { IfErr result IsFolderFault }
-{
-    if let Err(error) = see_folder(rt, send) {
-        return Err(RunFault::of(&error, dir, Resource::Send));
-    }
-    if count_send(rt, dir, send)? > FILES_MAX {
-        return Err(RunFault::System(dir.failure(Resource::Send, Cause::TooMuch)));
-    }
-    Ok(())
 }

@@ -5,6 +5,7 @@ ghost use Rattle.uug_failure.specs.Failures.{fault_of_run};
 ghost use Rattle.uug_failure.specs.Faults.{IsFolderFault, IsReadingFault};
 
 use crate::atomic_file::append_whole;
+use crate::pipe::is_pipe;
 use crate::send_folder::{TEXT_MAX, read_text};
 use std::alloc::{AllocError, Allocator};
 use std::fs::{File, OpenOptions};
@@ -60,6 +61,10 @@ fn lock_jobs<R: Files<File = File>>(
 ) -> Result<Option<File>, RunFault>
     ensures { IfErr result IsFolderFault }
 {
+    if is_pipe(rt, path) {
+        let resource = Resource::Text(EndText::Jobs);
+        return Err(RunFault::System(dir.failure(resource, Cause::NotAFile)));
+    }
     match open_locked(rt, path) {
         Ok(file) if is_at(rt, &file, path) => Ok(Some(file)),
         Ok(_) => Ok(None),

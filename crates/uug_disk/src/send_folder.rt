@@ -14,7 +14,7 @@ use uug_failure::{Cause, EndDir, EndText, LISTINGS_MAX, Resource, RunFault, was_
 use uug_session::Stored;
 use uug_talk::{FILE_MAX, Name};
 
-/// The most files that a folder may have to give.
+/// The most files that a folder of `pair` may have to give.
 pub const FILES_MAX: usize = 256;
 
 /// The mode of each file that is given.
@@ -266,32 +266,6 @@ fn given_name<R: Files + Alloc + Clone + Drop>(
     }
 }
 
-/// How many files the folder `send`, at this path, has that may be given.
-pub(crate) fn count_send<R: Files + Alloc + Clone + Drop>(
-    rt: &R,
-    dir: EndDir<'_>,
-    send: &str,
-) -> Result<usize, RunFault>
-    ensures { IfErr result IsFolderFault }
-{
-    let entries = match fs::read_dir(rt, send) {
-        Ok(entries) => entries,
-        Err(error) => return Err(RunFault::of(&error, dir, Resource::Send)),
-    };
-    let mut count: usize = 0;
-    for entry in entries {
-        let entry = match entry {
-            Ok(entry) => entry,
-            Err(error) if is_no_text(&error) => continue,
-            Err(error) => return Err(RunFault::of(&error, dir, Resource::Send)),
-        };
-        if has_given_name(rt, dir, &entry)? {
-            count = count.saturating_add(1);
-        }
-    }
-    Ok(count)
-}
-
 /// Whether a listing has come to a name that is no text. It goes on behind that.
 pub(crate) fn is_no_text(error: &io::Error) -> bool {
     error.kind() == ErrorKind::InvalidFilename
@@ -306,18 +280,4 @@ pub(crate) fn path_in_send<A: Allocator + Copy>(
     let front = dir.path;
     let name = name.as_str();
     format!(in alloc; "{front}/send/{name}")
-}
-
-/// Whether the file of an entry may be given.
-fn has_given_name<R: Files + Alloc + Clone + Drop>(
-    rt: &R,
-    dir: EndDir<'_>,
-    entry: &DirEntry<R, R::A>,
-) -> Result<bool, RunFault>
-    ensures { IfErr result IsFolderFault }
-{
-    match given_name(rt, dir, entry) {
-        Ok(name) => Ok(name.is_some()),
-        Err(fault) => Err(fault),
-    }
 }

@@ -1,6 +1,7 @@
 ghost use Rattle.std.specs.Prelude.{◌≡◌, ◌<◌, IfOk, IsSome, None};
 
 use crate::atomic_file::append_at;
+use crate::pipe::is_pipe;
 use crate::system_text::SystemText;
 use std::alloc::{AllocError, Allocator};
 use std::fs::File;
@@ -54,6 +55,11 @@ impl<R: Files<File = File>, A: Allocator> JobTexts for SystemJobs<'_, R, A> {
     }
 
     fn tell(&mut self, bytes: &[u8]) -> Result<(), FolderFailed> {
+        if is_pipe(self.file.runtime(), self.failed.as_str()) {
+            let resource = Resource::Text(EndText::Failed);
+            self.file.note(resource, Cause::NotAFile);
+            return Err(FolderFailed);
+        }
         let dir = self.file.dir().path;
         match append_at(self.file.runtime(), dir, self.failed.as_str(), bytes) {
             Ok(()) => Ok(()),

@@ -149,7 +149,7 @@ fn end_of_links<A: Allocator + Copy, R: Files>(
 }
 
 /// The folder of the file at a path.
-fn folder_of(path: &str) -> &str {
+pub(crate) fn folder_of(path: &str) -> &str {
     match path.rsplit_once('/') {
         Some(("", _)) => "/",
         Some((folder, _)) => folder,

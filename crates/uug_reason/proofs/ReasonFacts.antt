@@ -31,8 +31,10 @@ record AreSaid : Type 0 where
   got : reason_line pair_places (record { end = 1; resource = on.Got (codes "y"); cause = causes.Refused kinds.StorageFull (Some (pos 28)) }) ≡ codes "uucpair: b/got/y: no space left" ++ 10 ∷ []
   files : reason_line pair_places (record { end = 1; resource = on.Send; cause = causes.TooMuch }) ≡ codes "uucpair: b/send: more than 256 files" ++ 10 ∷ []
   socket : reason_line pair_places (record { end = 0; resource = on.Line; cause = causes.Refused kinds.AddrInUse (Some (pos 98)) }) ≡ codes "uucpair: s: address in use" ++ 10 ∷ []
+  pipe : reason_line output_places (record { end = 1; resource = on.Output; cause = causes.NotAFile }) ≡ codes "uucpair: standard output: a named pipe may have no reader: name a file, /dev/stdout or /dev/stderr" ++ 10 ∷ []
+  told : reason_line pair_places (record { end = 0; resource = on.Text Jobs; cause = causes.NotAFile }) ≡ codes "uucpair: a/jobs: not a regular file" ++ 10 ∷ []
   output : reason_line output_places (record { end = 0; resource = on.Output; cause = causes.MovedNothing }) ≡ codes "uucpair: standard output: it takes no byte" ++ 10 ∷ []
 
 said : AreSaid
 unfolding digits
-said = record { line = refl; host = refl; numbered = refl; escaped = refl; given = refl; got = refl; files = refl; socket = refl; output = refl }
+said = record { line = refl; host = refl; numbered = refl; escaped = refl; given = refl; got = refl; files = refl; socket = refl; pipe = refl; told = refl; output = refl }

@@ -71,11 +71,16 @@ much_words (Text which) = codes "over 16777216 bytes"
 much_words Send = codes "more than 256 files"
 much_words resource = codes "too much"
 
+-- What there is in place of a regular file: of what is written a named pipe, since a device or a socket is taken there.
+abbrev pub no_file_words : Resource → List ℕ
+no_file_words Output = codes "a named pipe may have no reader: name a file, /dev/stdout or /dev/stderr"
+no_file_words resource = codes "not a regular file"
+
 abbrev pub cause_words : Resource → Cause → List ℕ
 cause_words resource (Refused kind number) = named_or_numbered resource (kind_words kind) number
 cause_words resource MovedNothing = codes "it takes no byte"
 cause_words resource TooMuch = much_words resource
-cause_words resource NotAFile = codes "not a regular file"
+cause_words resource NotAFile = no_file_words resource
 cause_words resource InUse = codes "in use"
 
 -- ---- both, as a line

@@ -1,7 +1,7 @@
 //! Why a call of the system failed.
 ghost use Rattle.std.specs.Prelude.{◌≡◌, ◌++◌, OnOk, string_bytes};
 ghost use Rattle.uug_reason.specs.KindWords.{kind_words as words_of_kind};
-ghost use Rattle.uug_reason.specs.Reasons.{cause_words, much_words, named_or_numbered, number_words};
+ghost use Rattle.uug_reason.specs.Reasons.{cause_words, much_words, named_or_numbered, no_file_words, number_words};
 
 use crate::kind::kind_words;
 use std::alloc::{AllocError, Allocator};
@@ -21,7 +21,7 @@ pub(crate) fn add_cause<A: Allocator>(
         Cause::Refused(kind, number) => add_refusal(text, resource, kind, number),
         Cause::MovedNothing => text.push_str("it takes no byte"),
         Cause::TooMuch => text.push_str(much_words(resource)),
-        Cause::NotAFile => text.push_str("not a regular file"),
+        Cause::NotAFile => text.push_str(no_file_words(resource)),
         Cause::InUse => text.push_str("in use"),
     }
 }
@@ -35,6 +35,18 @@ fn much_words(resource: Resource) -> &'static str
         Resource::Text(_) => "over 16777216 bytes",
         Resource::Send => "more than 256 files",
         _ => "too much",
+    }
+}
+
+/// What there is in place of a regular file: of what is written a named pipe, since a device or a socket is taken there.
+fn no_file_words(resource: Resource) -> &'static str
+    ensures { result.now ≡ no_file_words resource }
+{
+    match resource {
+        Resource::Output => {
+            "a named pipe may have no reader: name a file, /dev/stdout or /dev/stderr"
+        }
+        _ => "not a regular file",
     }
 }
 

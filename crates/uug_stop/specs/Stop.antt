@@ -123,9 +123,11 @@ StopsOnFolders line first second why (InUse folder) stop = NamesFolder (if folde
 StopsOnFolders line first second (Some failure) Device stop = SaysReason (reason_line (places [] line first second) failure) stop
 StopsOnFolders line first second why fault stop = stop ≡ Fault fault
 
--- The file that a failure on an output of one end is of: its report, or the second, its log.
-abbrev pub output_named : (report log : List ℕ) → (number : ℕ) → List ℕ
-output_named report log number = if number == 1 then log else report
+-- The file that a failure on an output of one end is of: its report, the second, its log, or the third, the statistics.
+abbrev pub output_of : CallTask → (number : ℕ) → List ℕ
+output_of call number =
+    if number == 1 then word_or_empty call.log else
+    (if number == 2 then word_or_empty call.stats else word_or_empty call.report)
 
 -- the folders of one end are its own, and that of the locks
 abbrev pub StopsOnCause : (output line dir locks : List ℕ) → SystemFailure → Cause → Stop → Type 0
@@ -151,7 +153,7 @@ StopsOnPair pair why fault remark stop = StopsOnFolders pair.socket.now pair.dir
 abbrev pub StopsOnEnd : CallTask → (why : Option SystemFailure) → ToolFault → (remark : List ℕ) → Stop → Type 0
 StopsOnEnd call why Usage remark stop = SaysUsage (IsUsageOf call) stop
 StopsOnEnd call why (Jobs line) remark stop = HasLine (Jobs line) remark stop
-StopsOnEnd call (Some failure) Device remark stop = StopsOnCause (output_named (word_or_empty call.report) (word_or_empty call.log) failure.end) call.line.now call.dir.now call.locks.now failure failure.cause stop
+StopsOnEnd call (Some failure) Device remark stop = StopsOnCause (output_of call failure.end) call.line.now call.dir.now call.locks.now failure failure.cause stop
 StopsOnEnd call why fault remark stop = StopsOnFolders call.line.now call.dir.now call.dir.now why fault stop
 
 -- Of what was to be queued the file is named that can't be copied, and it is said what is wrong with the order, and on what a call

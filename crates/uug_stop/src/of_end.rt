@@ -1,7 +1,7 @@
 //! Why one end or both gave up, and why nothing was queued.
 ghost use Rattle.std.specs.Prelude.{◌≡◌, string_bytes};
 ghost use Rattle.uug_disk.specs.Queued.{word_or_empty};
-ghost use Rattle.uug_stop.specs.Stop.{StopsOnCause, StopsOnEnd, StopsOnFolders, StopsOnPair, StopsOnQueue, output_named};
+ghost use Rattle.uug_stop.specs.Stop.{StopsOnCause, StopsOnEnd, StopsOnFolders, StopsOnPair, StopsOnQueue, output_of};
 ghost use Rattle.uug_stop.specs.declared.of_end.TheConstants.{LOG};
 
 use crate::said::{names_file, names_folder, says_reason, says_usage};
@@ -13,8 +13,14 @@ use uug_stream::ToolFault;
 use uug_task::CallTask;
 use uug_words::{PairTask, pair_remark, usage_remark};
 
-/// The number of its log among the outputs of one end, which are its report and this.
+/// The number of its report among the outputs of one end.
+pub const REPORT: usize = 0;
+
+/// The number of its log among them.
 pub const LOG: usize = 1;
+
+/// The number of the statistics among them.
+pub const STATS: usize = 2;
 
 /// Why a task gave up that works in these folders, of which the second may be the first again: the folder is named where
 /// another run holds it, and on what a call of the system failed, and why, where it is known.
@@ -71,7 +77,7 @@ pub(crate) fn stop_of_end(
         (ToolFault::Jobs(_), _) => Stop::Told(fault, remark),
         (ToolFault::Device, Some(failure)) => stop_of_cause(
             alloc,
-            output_named(call.report, call.log, failure.end),
+            output_named(call, failure.end),
             call.line,
             call.dir,
             call.locks,
@@ -98,16 +104,16 @@ fn stop_of_cause(
     }
 }
 
-/// The file that is this output of one end: its report, or its log.
-fn output_named<'a>(report: Option<&'a str>, log: Option<&'a str>, number: usize) -> &'a str
-    ensures { result.now
-        ≡ output_named (word_or_empty report.entry) (word_or_empty log.entry) number }
+/// The file that is this output of one end: its report, its log, or the statistics.
+fn output_named<'a>(call: &CallTask<'a>, number: usize) -> &'a str
+    ensures { result.now ≡ output_of call.now number }
 {
-    if number == LOG {
-        log.unwrap_or("")
-    } else {
-        report.unwrap_or("")
-    }
+    let path = match number {
+        LOG => call.log,
+        STATS => call.stats,
+        _ => call.report,
+    };
+    path.unwrap_or("")
 }
 
 /// Why nothing was queued or listed: the file that can't be copied is named, what is wrong with the order is said, and on what

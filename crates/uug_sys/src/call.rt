@@ -21,7 +21,7 @@ use std::net::{Net, TcpListener, TcpStream};
 use std::os::fd::AsRawFd;
 use std::rt::{Env, Files};
 use std::time::{Clock, Duration};
-use uug_disk::{DirLock, lock_device, lock_dir, open_jobs, see_folders};
+use uug_disk::{DirLock, lock_device, lock_dir, open_jobs, see_folders, settle_copies};
 use uug_failure::{Cause, Resource, RunFault, SystemFailure};
 use uug_port::{
     DeviceLine, PolledStream, SessionLine, SilentLine, StandardLine, StandardStreams, StreamLine,
@@ -484,7 +484,7 @@ fn lock_again<A: Allocator + Copy, R: Files<File = File> + Alloc + Clone + Drop>
     }
 }
 
-/// The end is made over its folder as it stands now, and talks over its line.
+/// The end is made over its folder as it stands now, and talks over its line. Then the copies of its jobs go where these have gone.
 fn talk_locked<'a, A, R, L, O, B>(
     alloc: A,
     rt: &'a R,
@@ -539,6 +539,9 @@ where
     let _ = remark_failed(alloc, remark, node.spool(), queue.failed());
     let _ = remark_put_off(alloc, remark, phase, task.tells_digests, queue.pending());
     drop(end);
+    if answer.is_ok() {
+        settle_copies(alloc, rt, lock);
+    }
     let _ = remark_numbers(alloc, remark, phase, numbers.begins, numbers.heard);
     answer
 }

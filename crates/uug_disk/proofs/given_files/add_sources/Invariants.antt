@@ -1,7 +1,6 @@
 use Rattle.std.proofs.Common.{◌≤◌, length}
-use Rattle.uug_disk.specs.declared.send_folder.TheConstants.{FILES_MAX}
 use Rattle.uug_disk.proofs.given_files.add_sources.Given as goal
 
--- no more files than may be given
+-- no more files than jobs before
 abbrev pub invariant-loop-place : goal.invariant-loop-place
-invariant-loop-place g l = length l.files.items ≤ FILES_MAX
+invariant-loop-place g l = length l.files.items ≤ l.place

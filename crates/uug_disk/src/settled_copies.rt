@@ -1,0 +1,143 @@
+//! The copies of files that were queued, once jobs are over: they go where their jobs go.
+ghost use Rattle.std.specs.Prelude.{IfErr};
+ghost use Rattle.uug_failure.specs.Faults.{IsFolderFault, IsReadingFault};
+
+use crate::copy_place::{CopyPlace, place_of};
+use crate::dir_lock::{DirLock, open_dir};
+use crate::part_path::PART_FRONT;
+use crate::queued_copy::{COPY_FRONT, FAILED_FILES, copied_as};
+use crate::queued_line::jobs_in;
+use crate::send_folder::read_text;
+use std::alloc::{AllocError, Allocator};
+use std::fs::{DirEntry, File};
+use std::io::ErrorKind;
+use std::rt::Files;
+use std::{fs, io};
+use uug_failure::{EndDir, EndText, Resource, RunFault};
+use uug_session::Job;
+use uug_talk::Name;
+
+/// Puts the copies in `send` where they belong when a session is over: that of a job which is done is taken away, and that of one
+/// which has failed goes to `failed.files`. Where somebody queues at this moment, that run does it. What can't be done is left to
+/// who comes next.
+pub fn settle_copies<A: Allocator + Copy, R: Files<File = File> + Alloc + Clone + Drop>(
+    alloc: A,
+    rt: &R,
+    lock: &DirLock<A>,
+) {
+    let dir = lock.dir();
+    if let Ok(send) = lock_free_send(alloc, rt, dir) {
+        let _ = settle_now(alloc, rt, dir);
+        drop(send);
+    }
+}
+
+/// The same, where `send` is locked. Nothing goes where there is no file of jobs, as while somebody replaces it, or where it can't be
+/// read which jobs have failed.
+pub(crate) fn settle_now<A: Allocator + Copy, R: Files + Alloc + Clone + Drop>(
+    alloc: A,
+    rt: &R,
+    dir: EndDir<'_>,
+) -> Result<(), RunFault>
+    ensures { IfErr result IsReadingFault }
+{
+    let Some(text) = read_text(alloc, rt, dir, EndText::Jobs)? else {
+        return Ok(());
+    };
+    let waiting = jobs_in(alloc, text.as_slice())?;
+    if let Some(failed) = failed_text(alloc, rt, dir) {
+        settle_all(alloc, rt, dir, waiting.pending(), failed.as_slice())?;
+    }
+    Ok(())
+}
+
+/// Locks `send` for one who queues, and waits for that.
+pub(crate) fn lock_send<A: Allocator + Copy, R: Files<File = File>>(
+    alloc: A,
+    rt: &R,
+    dir: EndDir<'_>,
+) -> Result<File, RunFault>
+    ensures { IfErr result IsFolderFault }
+{
+    let front = dir.path;
+    let send = format!(in alloc; "{front}/send")?;
+    match open_and_wait(rt, send.as_str()) {
+        Ok(file) => Ok(file),
+        Err(error) => Err(RunFault::of(&error, dir, Resource::Send)),
+    }
+}
+
+fn open_and_wait<R: Files<File = File>>(rt: &R, send: &str) -> io::Result<File> {
+    let file = open_dir(rt, send)?;
+    file.lock()?;
+    Ok(file)
+}
+
+/// Locks `send` where nobody queues.
+fn lock_free_send<A: Allocator + Copy, R: Files<File = File>>(
+    alloc: A,
+    rt: &R,
+    dir: EndDir<'_>,
+) -> io::Result<File> {
+    let front = dir.path;
+    let send = format!(in alloc; "{front}/send")?;
+    let file = open_dir(rt, send.as_str())?;
+    match file.try_lock() {
+        Ok(()) => Ok(file),
+        Err(_) => Err(io::Error::from(ErrorKind::WouldBlock)),
+    }
+}
+
+/// The text that tells of the jobs that have failed, unless it can't be read.
+pub(crate) fn failed_text<A: Allocator + Copy, R: Files>(
+    alloc: A,
+    rt: &R,
+    dir: EndDir<'_>,
+) -> Option<Vec<u8, A>> {
+    match read_text(alloc, rt, dir, EndText::Failed) {
+        Ok(Some(failed)) => Some(failed),
+        Ok(None) => Some(Vec::new(alloc)),
+        Err(_) => None,
+    }
+}
+
+/// Puts the copies in `send` where they belong while these jobs wait, and this text tells of those that have failed. What is left
+/// of copies that were not whole goes, too.
+fn settle_all<A: Allocator + Copy, R: Files + Alloc + Clone + Drop>(
+    alloc: A,
+    rt: &R,
+    dir: EndDir<'_>,
+    waiting: &[Job],
+    failed: &[u8],
+) -> Result<(), AllocError> {
+    let front = dir.path;
+    let send = format!(in alloc; "{front}/send")?;
+    let failed_files = format!(in alloc; "{front}/{FAILED_FILES}")?;
+    let Ok(entries) = fs::read_dir(rt, send.as_str()) else {
+        return Ok(());
+    };
+    for entry in entries {
+        let Ok(entry) = entry else {
+            continue;
+        };
+        if entry.file_name().starts_with(PART_FRONT) {
+            let _ = fs::remove_file(rt, entry.path().as_str());
+        }
+        let Some(name) = marked_name(&entry) else {
+            continue;
+        };
+        let copy = copied_as(alloc, dir, name)?;
+        match place_of(waiting, failed, &name) {
+            CopyPlace::InSend => (),
+            CopyPlace::WithFailed => copy.set_aside(rt, front, failed_files.as_str()),
+            CopyPlace::Nowhere => copy.clear(rt),
+        }
+    }
+    Ok(())
+}
+
+/// The name of the copy whose mark an entry of `send` is.
+fn marked_name<R: Files, A: Allocator>(entry: &DirEntry<R, A>) -> Option<Name> {
+    let name = entry.file_name().strip_prefix(COPY_FRONT)?;
+    Name::new(name.as_bytes()).ok()
+}
