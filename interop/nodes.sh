@@ -1,6 +1,44 @@
 # Two nodes of Debian's `uucp`, alpha and beta, each with its own settings, spool and stand-in for `rmail`, and sessions between
-# them over a slow line. Needs `work`, `root` and `program`; `rate` is the bytes of a second. What is started is in `started`.
+# them over a slow line; or a hub, beta, whom others call. Needs `work`, `root` and `program`; `rate` is the bytes of a second.
+# What is started is in `started`. The program has the words of `options` besides, and runs under the command `front`; `status` is
+# the one with which it has ended a session, which has `patience` tenths of a second, at least.
 # shellcheck shell=bash disable=SC2034,SC2154
+options=()
+front=()
+patience=600
+
+# begin_nodes PROGRAM: `work` is a folder of this run, which goes when the script ends, unless KEEP is set, with a copy of the
+# program that anybody may run
+begin_nodes() {
+    work=$(mktemp -d)
+    chmod 777 "$work"
+    started=()
+    trap end_nodes EXIT
+    cp "$1" "$work/program"
+    chmod 755 "$work/program"
+    program=$work/program
+    bad=0
+}
+
+end_nodes() {
+    kill -9 "${started[@]}" 2>/dev/null
+    umount -q "$work/beta/spool" 2>/dev/null
+    [ -n "${KEEP:-}" ] || rm -rf "$work"
+}
+
+# is WHAT COMMAND..: says what is not so.
+is() {
+    local what=$1
+    shift
+    "$@" || { echo "  not so: $what"; bad=1; }
+}
+
+# program_of NODE WORD..: a program of the package, with the node's settings
+program_of() {
+    local here=$work/$1
+    shift
+    (cd / && as_uucp "$1" -I "$here/config" "${@:2}")
+}
 
 other() {
     [ "$1" = alpha ] && echo beta || echo alpha
@@ -43,6 +81,41 @@ new_nodes() {
     cuts=0
 }
 
+# hub_node NAME: a node that calls beta, and the folder that beta has of it
+hub_node() {
+    node "$1"
+    sed -i 's/^system .*/system beta/' "$work/$1/sys"
+    as_uucp mkdir -p "$work/beta/spool/$1/C."
+    printf 'system %s\ntime any\ncommands rmail\ncommand-path %s\n' "$1" "$work/beta/bin" >>"$work/beta/sys"
+}
+
+# new_hub NAME..: beta, and nodes of these names, which call it
+new_hub() {
+    local name
+    rm -rf "$work"/{alpha,beta,gamma,delta,near,beta.err}
+    node beta
+    : >"$work/beta/sys"
+    for name in "$@"; do
+        hub_node "$name"
+    done
+}
+
+# start_hub COUNT: the program answers at beta, so many sessions, and lets in whom it has a folder of
+start_hub() {
+    runuser -u uucp -- "$program" answer "unix:$work/near" "$work/beta/spool" --spool --me beta \
+        --public "$work/beta/pub" --locks "$work/beta/lock" --log "$work/beta/log/Log" --timeout 5 --sessions "$1" --wait 60 \
+        >"$work/beta.out" 2>>"$work/beta.err" &
+    hub=$!
+    started+=("$hub")
+    wait_for "$work/near"
+    chmod 666 "$work/near"
+}
+
+# call_hub NAME: uucico calls it
+call_hub() {
+    (cd / && runuser -u uucp -- /usr/sbin/uucico -q -D -f -I "$work/$1/config" -S beta)
+}
+
 # mail FROM ID SIZE: queues a mail, as postfix does
 mail() {
     local here=$work/$1
@@ -62,9 +135,9 @@ run_uuxqt() {
 
 # ours CALL|ANSWER NODE LINE: the program's words at a node
 ours() {
-    exec runuser -u uucp -- "$program" "$1" "$3" "$work/$2/spool" --spool --me "$2" --peer "$(other "$2")" \
+    exec runuser -u uucp -- "${front[@]}" "$program" "$1" "$3" "$work/$2/spool" --spool --me "$2" --peer "$(other "$2")" \
         --public "$work/$2/pub" --locks "$work/$2/lock" --log "$work/$2/log/Log" --stats "$work/$2/log/Stats" \
-        --size 1024 --timeout 5 >>"$work/$2.out" 2>>"$work/$2.err"
+        --size 1024 --timeout 5 "${options[@]}" >>"$work/$2.out" 2>>"$work/$2.err"
 }
 
 # listen_taylor NODE: uucico answers at the socket far
@@ -77,11 +150,16 @@ listen_taylor() {
 }
 
 listen_ours() {
+    local i
     ours answer "$1" "unix:$work/far" &
     answerer=$!
     started+=("$answerer")
-    wait_for "$work/far"
-    chmod 666 "$work/far"
+    # one that has ended never listens
+    for ((i = 0; i < ${PATIENCE:-100}; i++)); do
+        [ -d "/proc/$answerer" ] && [ ! -S "$work/far" ] || break
+        sleep 0.1
+    done
+    if [ -S "$work/far" ]; then chmod 666 "$work/far"; else echo "  nobody listens at $work/far"; fi
 }
 
 # relay: a slow line from the socket near to the socket far
@@ -154,7 +232,7 @@ cut() {
 # session PART [COMMAND..]: one session, and the command while it runs. The program is at beta: it calls uucico (`we-call`), or is
 # called by it (`we-answer`), or calls the program at alpha (`both`).
 session() {
-    local i
+    local i alone=0
     rm -f "$work"/{near,far}
     case $1 in
     we-call) listen_taylor alpha ;;
@@ -171,12 +249,15 @@ session() {
     [ "$1" = we-answer ] && of_program=$answerer || of_program=$caller
     shift
     [ $# -eq 0 ] || "$@"
-    for ((i = 0; i < 600; i++)); do
+    for ((i = 0; i < patience && alone < 300; i++)); do
         [ -d "/proc/$caller" ] || [ -d "/proc/$answerer" ] || break
         sleep 0.1
-        # an end that waits for a caller who is gone
-        [ "$i" -lt 300 ] || [ -d "/proc/$caller" ] || break
-    done
+        # an end that waits for a caller who is gone, or who never came
+        [ -d "/proc/$caller" ] || alone=$((alone + 1))
+        [ "$alone" -lt 20 ] || ! grep -qE " 00010000 .* $work/far(\.new)?\$" /proc/net/unix || break
+    done 2>/dev/null
+    status=124
+    [ -d "/proc/$of_program" ] || { wait "$of_program" && status=0 || status=$?; } 2>/dev/null
     # shellcheck disable=SC2046
     end_all $(tree "$caller") $(tree "$answerer") "$relay"
     if [ -e "$work/disk.cut" ]; then

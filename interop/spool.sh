@@ -23,16 +23,7 @@ set -u
 root=$(cd "$(dirname "$0")/.." && pwd)
 . "$root/interop/common.sh"
 . "$root/interop/nodes.sh"
-program=${1:-$root/crates/uucpair/out/uucpair}
-work=$(mktemp -d)
-chmod 777 "$work"
-started=()
-clean_up() {
-    kill -9 "${started[@]}" 2>/dev/null
-    umount -q "$work/beta/spool" 2>/dev/null
-    [ -n "${KEEP:-}" ] || rm -rf "$work"
-}
-trap clean_up EXIT
+begin_nodes "${1:-$root/crates/uucpair/out/uucpair}"
 mails=${MAILS:-15}
 kills=${KILLS:-6}
 slow=${RATE:-6000}
@@ -41,24 +32,6 @@ rate=$slow
 trials=${TRIALS:-1}
 sessions_max=20
 RANDOM=${SEED:-1}
-bad=0
-cp "$program" "$work/program"
-chmod 755 "$work/program"
-program=$work/program
-
-# is WHAT COMMAND..: says what is not so.
-is() {
-    local what=$1
-    shift
-    "$@" || { echo "  not so: $what"; bad=1; }
-}
-
-# program_of NODE WORD..: a program of the package, with the node's settings
-program_of() {
-    local here=$work/$1
-    shift
-    (cd / && as_uucp "$1" -I "$here/config" "${@:2}")
-}
 
 # mails PART [WHO..]: one trial, whose sessions are cut so
 mails() {
@@ -83,35 +56,18 @@ mails() {
     judge "$name"
 }
 
-# hub_node NAME: a node that calls beta, and the folder that beta has of it
-hub_node() {
-    node "$1"
-    sed -i 's/^system .*/system beta/' "$work/$1/sys"
-    as_uucp mkdir -p "$work/beta/spool/$1/C."
-    printf 'system %s\ntime any\ncommands rmail\ncommand-path %s\n' "$1" "$work/beta/bin" >>"$work/beta/sys"
-}
-
 # hub: three systems call one run of the program, one after the other; the first is locked at its first call, and hears that
 hub() {
     local name lost=0 hub
-    rm -rf "$work"/{alpha,beta,gamma,delta,near}
-    node beta
-    : >"$work/beta/sys"
+    new_hub alpha gamma delta
     for name in alpha gamma delta; do
-        hub_node "$name"
         seq 200 | as_uucp uux -I "$work/$name/config" -r -n -z - 'beta!rmail' '(user@beta)'
         seq 300 | as_uucp uux -I "$work/beta/config" -r -n -z - "$name!rmail" "(user@$name)"
     done
     printf '%10d\n' $$ >"$work/beta/lock/LCK..alpha"
-    runuser -u uucp -- "$program" answer "unix:$work/near" "$work/beta/spool" --spool --me beta \
-        --public "$work/beta/pub" --locks "$work/beta/lock" --log "$work/beta/log/Log" --timeout 5 --sessions 3 --wait 60 \
-        >"$work/beta.out" 2>>"$work/beta.err" &
-    hub=$!
-    started+=("$hub")
-    wait_for "$work/near"
-    chmod 666 "$work/near"
+    start_hub 3
     for name in alpha gamma alpha delta; do
-        (cd / && runuser -u uucp -- /usr/sbin/uucico -q -D -f -I "$work/$name/config" -S beta) || rm -f "$work/beta/lock/LCK..alpha"
+        call_hub "$name" || rm -f "$work/beta/lock/LCK..alpha"
     done
     wait "$hub"
     run_uuxqt beta
@@ -181,7 +137,7 @@ too_long() {
     session "$1"
     run_uuxqt beta
     is "what is too long is over" [ "$(queued alpha)$(queued beta)" = 00 ]
-    is "it is kept" [ "$(find "$work/beta/spool/.Preserve" -name 'D.*' -size +1024k | wc -l)" = 2 ]
+    is "it is kept" [ "$(find "$work/beta/spool/.Preserve" -name '*.D.*' -size +1024k | wc -l)" = 2 ]
     is "its user has mail" grep -q '^To: uucp' "$work/beta/mails"
     is "and who asks for a command" grep -q '^To: sender@beta' "$work/beta/mails"
     is "uucico says why" grep -q 'ERROR: .*long-alpha: .*final location' "$work/alpha/log/Log"

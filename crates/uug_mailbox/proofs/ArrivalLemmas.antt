@@ -9,6 +9,7 @@ use Rattle.uug_spool.specs.declared.spool_names.Room.TheVariants as rooms
 use Rattle.uug_spool.specs.declared.spool_names.Spot.{Spot}
 use Rattle.uug_spool.proofs.StandingLemmas.{as_before_both, change_elsewhere, each_of_both, each_weaker, folder_seen, last_of_each, nothing_done, other_room}
 use Rattle.uug_spool.proofs.StoredSafelyLemmas.{before_or_whole}
+use Rattle.uug_mailbox.specs.Places.{temp_name}
 use Rattle.uug_mailbox.specs.Placing.{again_ops, end_ops, is_mark, keeps, mark_ops, marker_text, seen_ops, unmark_ops}
 use Rattle.uug_mailbox.specs.declared.marks.Marks.{Marks}
 
@@ -52,18 +53,18 @@ unmarked_elsewhere marks room name place s h = step (keeps room marks.last) wher
       as_before_both place (end_ops marks) (seen_ops marks name) s (ends_elsewhere marks place s h)
       (seen_elsewhere marks name place (after_all (end_ops marks) s))
 
-stored_or_dropped : (again : Bool) (name bytes : List ℕ) (place : Spot) (s : Standing) → is_place place.room ≡ true
-    → AfterEach (IsBeforeOrWhole s place bytes) (again_ops again name bytes place) s
-stored_or_dropped true name bytes place s h = λ held is. inl is
-stored_or_dropped false name bytes place s h = before_or_whole name place (marker_text place.room name bytes) bytes s h
+stored_or_dropped : (again : Bool) (bytes : List ℕ) (place : Spot) (s : Standing) → is_place place.room ≡ true
+    → AfterEach (IsBeforeOrWhole s place bytes) (again_ops again bytes place) s
+stored_or_dropped true bytes place s h = λ held is. inl is
+stored_or_dropped false bytes place s h = before_or_whole (temp_name place) place (marker_text place bytes) bytes s h
 
 pub comes_whole : (marks : Marks) (again : Bool) (name bytes : List ℕ) (place : Spot) (s : Standing) → is_place place.room ≡ true
-    → AfterEach (IsBeforeOrWhole s place bytes) (unmark_ops marks place.room name ++ again_ops again name bytes place) s
+    → AfterEach (IsBeforeOrWhole s place bytes) (unmark_ops marks place.room name ++ again_ops again bytes place) s
 comes_whole marks again name bytes place s h =
-    each_of_both (IsBeforeOrWhole s place bytes) (unmark_ops marks place.room name) (again_ops again name bytes place) s
+    each_of_both (IsBeforeOrWhole s place bytes) (unmark_ops marks place.room name) (again_ops again bytes place) s
     (each_weaker (IsAsBefore s place) (IsBeforeOrWhole s place bytes) (λ t same held is. inl (same held is)) (unmark_ops marks place.room name) s marker)
     (each_weaker (IsBeforeOrWhole unmarked place bytes) (IsBeforeOrWhole s place bytes) (λ t whole held is. step held (whole held is))
-    (again_ops again name bytes place) unmarked (stored_or_dropped again name bytes place unmarked h)) where
+    (again_ops again bytes place) unmarked (stored_or_dropped again bytes place unmarked h)) where
       unmarked : Standing
       unmarked = after_all (unmark_ops marks place.room name) s
 

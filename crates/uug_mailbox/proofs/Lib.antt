@@ -3,5 +3,6 @@ mod MailFacts
 pub mod OpenLinesLemmas
 pub mod OverLemmas
 pub mod PartingLemmas
+pub mod RewritingLemmas
 pub mod StoreLemmas
 pub mod StopLemmas

@@ -1,14 +1,18 @@
 -- A mail, and two copies in one job, as they were found in a spool, so that a wrong definition does not check.
 use Rattle.std.proofs.Common.{◌≡◌, ℕ, List, true, false, [], ◌∷◌, codes, Some, None, Ok, Err, refl}
+use Rattle.std.specs.Path.{rsplit_once}
 use Rattle.uug_conversation.specs.declared.job.Job.{Job}
 use Rattle.uug_conversation.specs.declared.job.Job.TheVariants as job
+use Rattle.uug_spool.specs.DiskOrder.{replaced_ops}
 use Rattle.uug_spool.specs.Operations.{folder_synced, renamed, unlinked}
 use Rattle.uug_spool.specs.SpoolNames.{spot}
 use Rattle.uug_spool.specs.declared.spool_names.Room.TheVariants as rooms
 use Rattle.uug_mailbox.specs.Offers.{offer_of}
 use Rattle.uug_mailbox.specs.OpenLines.{file_lines, line_of, lines_left}
 use Rattle.uug_mailbox.specs.OverOrder.{store_ops}
-use Rattle.uug_mailbox.specs.Placing.{end_ops, is_again, marks_after, names_data, no_marks, place_ops}
+use Rattle.uug_mailbox.specs.Places.{Public, landing, place_in, temp_name}
+use Rattle.uug_mailbox.specs.Placing.{end_ops, is_again, marks_after, names_data, no_marks}
+use Rattle.uug_mailbox.specs.Rewriting.{settling_ops}
 use Rattle.uug_mailbox.specs.declared.marks.Came.{Came}
 use Rattle.uug_mailbox.specs.declared.marks.Marks.{Marks}
 use Rattle.uug_mailbox.specs.declared.offer.NotOffered.TheVariants as why
@@ -21,10 +25,10 @@ abbrev text_job : Job
 text_job = job.Send (codes "D.X0001") (codes "X.alphaN0001") (codes "uucp") (Some (codes "D.X0001"))
 
 abbrev data_line : OpenLine
-data_line = line_of (codes "C.N0001") (Some (codes "D.0001")) (Some data_job)
+data_line = line_of (codes "C.N0001") 0 (Some (codes "D.0001")) (Some data_job)
 
 abbrev text_line : OpenLine
-text_line = line_of (codes "C.N0001") (Some (codes "D.0001")) (Some text_job)
+text_line = line_of (codes "C.N0001") 0 (Some (codes "D.0001")) (Some text_job)
 
 -- a mail is two jobs
 a_mail : offer_of (codes "E D.0001 D.alphaN0001 uucp -CNZR D.0001 0666 sender@here.org 0 rmail rcpt1@there.org rcpt2@there.org")
@@ -32,7 +36,7 @@ a_mail : offer_of (codes "E D.0001 D.alphaN0001 uucp -CNZR D.0001 0666 sender@he
 a_mail = refl
 
 no_copy : offer_of (codes "S /srv/f1 ~/nocopy uucp -cd D.0002 0644 ")
-    ≡ Ok (record { copy = None; first = job.Send (codes "/srv/f1") (codes "~/nocopy") (codes "uucp") (Some (codes "D.0002")); second = None })
+    ≡ Ok (record { copy = None; first = job.Send (codes "/srv/f1") (codes "~/nocopy") (codes "uucp") None; second = None })
 no_copy = refl
 
 a_wildcard : offer_of (codes "X ~/glob* alpha!/srv/alpha/pub/ uucp -d") ≡ Err why.Wildcard
@@ -42,11 +46,11 @@ quoted_names : offer_of (codes "S /srv/a\\040b ~/a\\040b uucp -Cdq D.0004 0644 "
 quoted_names = refl
 
 -- its lines are over when its data is gone
-is_open : file_lines (codes "D.0001" ∷ []) (codes "C.N0001") (codes "E D.0001 D.alphaN0001 uucp -CN D.0001 0666 \"\" 0 rmail u" ∷ [])
+is_open : file_lines (codes "D.0001" ∷ []) (codes "C.N0001") 0 (codes "E D.0001 D.alphaN0001 uucp -CN D.0001 0666 \"\" 0 rmail u" ∷ [])
     ≡ data_line ∷ text_line ∷ []
 is_open = refl
 
-is_over : file_lines [] (codes "C.N0001") (codes "E D.0001 D.alphaN0001 uucp -CN D.0001 0666 \"\" 0 rmail u" ∷ []) ≡ []
+is_over : file_lines [] (codes "C.N0001") 0 (codes "E D.0001 D.alphaN0001 uucp -CN D.0001 0666 \"\" 0 rmail u" ∷ []) ≡ []
 is_over = refl
 
 -- nothing goes with its data, and all with its execution file
@@ -63,6 +67,34 @@ data_is_refused : store_ops [] (data_job ∷ []) (data_line ∷ text_line ∷ []
     ∷ folder_synced rooms.Preserved ∷ folder_synced rooms.Data ∷ []
 data_is_refused = refl
 
+-- lines without copies that have the same words are each of its own file
+abbrev two_of_one_word : List (List ℕ)
+two_of_one_word = codes "S /srv/f1 ~/x1 uucp -c D.0 0644" ∷ codes "" ∷ codes "S /srv/f2 ~/x2 uucp -c D.0 0644" ∷ []
+
+abbrev one_job : Job
+one_job = job.Send (codes "/srv/f1") (codes "~/x1") (codes "uucp") None
+
+abbrev other_job : Job
+other_job = job.Send (codes "/srv/f2") (codes "~/x2") (codes "uucp") None
+
+abbrev one_line : OpenLine
+one_line = line_of (codes "C.N0003") 0 None (Some one_job)
+
+abbrev other_line : OpenLine
+other_line = line_of (codes "C.N0003") 2 None (Some other_job)
+
+each_its_own : file_lines [] (codes "C.N0003") 0 two_of_one_word ≡ one_line ∷ other_line ∷ []
+each_its_own = refl
+
+not_whole : offer_of (codes "S D.0003 ~/x uucp -c D.0 0644") ≡ Err why.Relative
+not_whole = refl
+
+-- the C. file keeps the one that is not over
+the_other_stays : settling_ops (one_job ∷ []) [] (one_line ∷ other_line ∷ [])
+    ((record { name = codes "C.N0003"; text = codes "S /srv/f1 ~/x1 uucp -c D.0 0644\n\nS /srv/f2 ~/x2 uucp -c D.0 0644\n" }) ∷ [])
+    ≡ replaced_ops (spot rooms.Commands (codes "C.N0003")) (codes "S /srv/f2 ~/x2 uucp -c D.0 0644\n")
+the_other_stays = refl
+
 -- of two copies of one file with the same words the one goes that was sent
 abbrev first_copy : Job
 first_copy = job.Send (codes "/a") (codes "~/a") (codes "uucp") (Some (codes "D.0002"))
@@ -71,10 +103,10 @@ abbrev second_copy : Job
 second_copy = job.Send (codes "/a") (codes "~/a") (codes "uucp") (Some (codes "D.0003"))
 
 abbrev first_line : OpenLine
-first_line = line_of (codes "C.N0002") (Some (codes "D.0002")) (Some first_copy)
+first_line = line_of (codes "C.N0002") 0 (Some (codes "D.0002")) (Some first_copy)
 
 abbrev second_line : OpenLine
-second_line = line_of (codes "C.N0002") (Some (codes "D.0003")) (Some second_copy)
+second_line = line_of (codes "C.N0002") 1 (Some (codes "D.0003")) (Some second_copy)
 
 the_second_is_sent : lines_left (second_copy ∷ []) (first_line ∷ second_line ∷ []) ≡ first_line ∷ []
 the_second_is_sent = refl
@@ -91,18 +123,21 @@ abbrev none_came : List (Came (Unit {0}))
 none_came = []
 
 abbrev after_data : Marks
-after_data = marks_after no_marks none_came (codes "D.alphaN0001") (codes "a mail")
+after_data = marks_after no_marks none_came (spot rooms.Data (codes "D.alphaN0001")) (codes "a mail")
 
 data_has_come : after_data ≡ record { before = None; last = Some (codes "D.alphaN0001"); is_new = true }
+unfolding rsplit_once
 data_has_come = refl
 
-both_have_come : marks_after after_data none_came (codes "X.alphaN0002") text_bytes
+both_have_come : marks_after after_data none_came (spot rooms.Execution (codes "X.alphaN0002")) text_bytes
     ≡ record { before = Some (codes "D.alphaN0001"); last = Some (codes "X.alphaN0002"); is_new = false }
+unfolding rsplit_once
 both_have_come = refl
 
 -- the next data shows that the sender knows of both
-next_comes : end_ops (marks_after after_data none_came (codes "X.alphaN0002") text_bytes)
+next_comes : end_ops (marks_after after_data none_came (spot rooms.Execution (codes "X.alphaN0002")) text_bytes)
     ≡ unlinked (spot rooms.Marked (codes "D.alphaN0001")) ∷ unlinked (spot rooms.Marked (codes "X.alphaN0002")) ∷ []
+unfolding rsplit_once
 next_comes = refl
 
 -- whatever markers stand, an execution file whose data is new is new
@@ -116,6 +151,67 @@ names_its_data = refl
 names_nothing : names_data (codes "U uucp alpha\nC rmail u\n") ≡ false
 names_nothing = refl
 
--- this system's own data is not overwritten
-is_ours : {A : Type 0} (came : List (Came A)) → place_ops no_marks came (codes "D.0001") (codes "x") ≡ []
-is_ours came = refl
+-- ---- places
+
+abbrev public : Public
+public = record { folders = codes "in" ∷ []; barred = codes "theirs" ∷ codes "in/theirs" ∷ []; is_closed = false }
+
+record AreLanded : Type 0 where
+  home : landing public (codes "/srv/f") (codes "~/") ≡ codes "~/f"
+  root : landing public (codes "/srv/f") (codes "/") ≡ codes "~/f"
+  folder : landing public (codes "/srv/f") (codes "~/in") ≡ codes "~/in/f"
+  folder_slash : landing public (codes "f") (codes "~/in/") ≡ codes "~/in/f"
+  file : landing public (codes "/srv/f") (codes "~/x") ≡ codes "~/x"
+  no_folder : landing public (codes "/srv/f") (codes "~/out/") ≡ codes "~/out/"
+  mail : landing public (codes "D.0001") (codes "D.alphaN0001") ≡ codes "D.alphaN0001"
+  upwards : place_in public (landing public (codes "/srv/..") (codes "~/")) ≡ None
+  hidden : place_in public (landing public (codes "/srv/.f") (codes "~/in")) ≡ None
+
+are_landed : AreLanded
+unfolding rsplit_once
+are_landed = record {
+  home = refl;
+  root = refl;
+  folder = refl;
+  folder_slash = refl;
+  file = refl;
+  no_folder = refl;
+  mail = refl;
+  upwards = refl;
+  hidden = refl;
+}
+
+record ArePlaced : Type 0 where
+  data_of_ours : place_in public (codes "D.0001") ≡ None
+  mail : place_in public (codes "D.alphaN0001") ≡ Some (spot rooms.Data (codes "D.alphaN0001"))
+  plain : place_in public (codes "~/x") ≡ Some (spot rooms.Public (codes "x"))
+  no_data : place_in public (codes "~/D.alphaN0001") ≡ None
+  a_folder : place_in public (codes "~/in") ≡ None
+  taken : place_in public (codes "~/theirs") ≡ None
+  below : place_in public (codes "~/in/x") ≡ Some (spot rooms.Public (codes "in/x"))
+  taken_below : place_in public (codes "~/in/theirs") ≡ None
+  other_folder : place_in public (codes "~/out/x") ≡ None
+  deeper : place_in public (codes "~/in/deep/x") ≡ None
+  upwards : place_in public (codes "~/in/../x") ≡ None
+  hidden : place_in public (codes "~/in/.x") ≡ None
+  no_name : place_in public (codes "~/in/") ≡ None
+  temp : temp_name (spot rooms.Public (codes "in/x")) ≡ codes "x"
+
+are_placed : ArePlaced
+unfolding rsplit_once
+are_placed = record {
+  data_of_ours = refl;
+  mail = refl;
+  plain = refl;
+  no_data = refl;
+  a_folder = refl;
+  taken = refl;
+  below = refl;
+  taken_below = refl;
+  other_folder = refl;
+  deeper = refl;
+  upwards = refl;
+  hidden = refl;
+  no_name = refl;
+  temp = refl;
+}

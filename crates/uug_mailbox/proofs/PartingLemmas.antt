@@ -1,11 +1,11 @@
 -- Lines in the order in which they go.
-use Rattle.std.proofs.Common.{◌≡◌, ◌<◌, ◌≤◌, ◌+◌, ◌-◌, ℕ, zero, suc, List, [], ◌∷◌, ◌++◌, Option, length, drop, refl, ap, subst, ◌∙◌, append_assoc, arith}
-use Rattle.std.proofs.Math.Seq.{drop-append_seam}
+use Rattle.std.proofs.Common.{◌≡◌, ◌<◌, ◌≤◌, ◌+◌, ◌-◌, ℕ, zero, suc, List, [], ◌∷◌, ◌++◌, Option, length, take, drop, refl, ap, subst, ◌∙◌, append_assoc, arith}
+use Rattle.std.proofs.Math.Seq.{drop-append_seam, take-append_seam}
 use Rattle.std.proofs.lemmas.List.{length-append}
 use Rattle.uug_conversation.specs.declared.job.Job.{Job}
 use Rattle.uug_spool.specs.Operations.{FrontDone, Op, also_all}
 use Rattle.uug_mailbox.specs.OpenLines.{lines_gone, lines_left}
-use Rattle.uug_mailbox.specs.OverOrder.{done_lines, failed_lines, lines_after, over_ops, settled_ops, store_ops}
+use Rattle.uug_mailbox.specs.OverOrder.{done_lines, failed_lines, gone_lines, lines_after, over_ops, settled_ops, store_ops}
 use Rattle.uug_mailbox.specs.Code.Parting.{first_ops}
 use Rattle.uug_mailbox.specs.declared.open_line.OpenLine.{OpenLine}
 use Rattle.uug_mailbox.specs.declared.open_line.Outcome.{Outcome}
@@ -77,10 +77,16 @@ pub they_fit : (done rest order : List OpenLine) (n : ℕ) → order ≡ done ++
 they_fit done rest order n is is_n =
     let all = ap (λ (lines : List OpenLine). length lines) is in let sum = length-append done rest in omega (arith, all, sum, is_n)
 
+-- so many are those that are done and those that have failed
+both_counted : (done failed : List OpenLine) (n k : ℕ) → n ≡ length done → k ≡ length done + length failed → n + (k - n) ≡ length (done ++ failed)
+both_counted done failed n k is_n is_k = let sum = length-append done failed in omega (arith, is_n, is_k, sum)
+
 -- ---- lines that were divided
 
 pub record IsInOrder (struck failed : List Job) (lines left order : List OpenLine) (n m : ℕ) : Type 0 where
   pub fits : n ≤ length order
+  pub fits_both : n + m ≤ length order
+  pub gone_is : take (n + m) order ≡ gone_lines struck failed lines
   pub ops : first_ops Done n order ++ first_ops Failed m (drop n order) ≡ store_ops struck failed lines
   pub left_is : left ≡ lines_after struck failed lines
 
@@ -100,6 +106,9 @@ divided_in_order struck failed lines done others both left order n k is_done is_
     let sum : length both ≡ length gone + length refused = ap (λ (ls : List OpenLine). length ls) all ∙ length-append gone refused in
     record {
       fits = they_fit gone (refused ++ stay) order n (whole ∙ append_assoc gone refused stay) count;
+      fits_both = they_fit (gone ++ refused) stay order (n + (k - n)) whole (both_counted gone refused n k count (is_k ∙ sum));
+      gone_is = ap (λ m. take m order) (both_counted gone refused n k count (is_k ∙ sum)) ∙ ap (take (length (gone ++ refused))) whole
+          ∙ take-append_seam (gone ++ refused) stay;
       ops = both_are_over gone refused stay order n (k - n) whole count (omega (arith, count, sum, is_k));
       left_is = rest;
     }

@@ -10,7 +10,7 @@ is_held unread (Some copy) = has_name copy unread
 -- such a line stays, and so do its copy and its C. file; no session offers it
 abbrev pub held_line : (unread : List (List ℕ)) → OpenLine → OpenLine
 held_line unread line =
-    record { file = line.file; copy = line.copy; job = if is_held unread line.copy then None else line.job }
+    record { file = line.file; number = line.number; copy = line.copy; job = if is_held unread line.copy then None else line.job }
 
 abbrev pub held_lines : (unread : List (List ℕ)) → List OpenLine → List OpenLine
 held_lines unread lines = map (held_line unread) lines

@@ -2,8 +2,11 @@ pub mod Code
 pub mod Executions
 pub mod HeldLines
 pub mod MailDates
+pub mod MailHoldings
 pub mod Offers
 pub mod OpenLines
 pub mod OverOrder
+pub mod Places
 pub mod Placing
+pub mod Rewriting
 pub mod WorkStores

@@ -1,10 +1,11 @@
 -- What a session offers of a line of a C. file (this project's profile; that a command which is run is sent as its data and an
 -- execution file is what Taylor UUCP 1.07 does for an end that knows no E command).
-use Rattle.std.specs.Prelude.{ℕ, List, Option, Some, None, Result, Ok, Err, if◌then◌else◌}
+use Rattle.std.specs.Prelude.{ℕ, List, codes, Option, Some, None, Result, Ok, Err, if◌then◌else◌}
 use Rattle.uug_conversation.specs.declared.job.Job.TheVariants as job
 use Rattle.uug_talk.specs.Name.{name_of}
 use Rattle.uug_spool.specs.CommandLines.{FieldWords, FileWords, Line, command_of, execute, expand, has_option, request, send}
 use Rattle.uug_spool.specs.ExecutionTexts.{execution_target, execution_temp}
+use Rattle.uug_spool.specs.SpoolNames.{begins_with}
 use Rattle.uug_spool.specs.declared.command.CommandFault.{CommandFault}
 use Rattle.uug_mailbox.specs.declared.offer.JobNames.{JobNames}
 use Rattle.uug_mailbox.specs.declared.offer.NotOffered.{NotOffered}
@@ -30,25 +31,36 @@ words_of f = if has_option 113 f.options then Err why.Quoted else
     named f.source >>= (λ source. named f.target >>= (λ target. named f.user >>= (λ user.
     Ok (record { source = source; target = target; user = user }))))
 
--- option C says that the data is a copy of this name
-abbrev pub copied : (options temp : List ℕ) → Option (List ℕ)
-copied options temp = if has_option 67 options then Some temp else None
+abbrev pub copy_named : Result (List ℕ) NotOffered → Result (Option (List ℕ)) NotOffered
+copy_named (Ok name) = Ok (Some name)
+copy_named (Err why) = Err why
 
--- it goes under the name of its copy, also where that is a name alone
-abbrev pub sending : JobNames → (copy : Option (List ℕ)) → (temp : List ℕ) → Offer
-sending n copy temp = record { copy = copy; first = job.Send n.source n.target n.user (Some temp); second = None }
+-- Option C says that the data is a copy of this name. Else it is the file at the source's path: where there is none, a name may
+-- stand in its place that many lines have.
+abbrev pub copied : (options source temp : List ℕ) → Result (Option (List ℕ)) NotOffered
+copied options source temp =
+    if has_option 67 options then copy_named (named temp) else
+    (if begins_with (codes "/") source then Ok None else Err why.Relative)
+
+-- it goes under the name of its copy, or of its source where there is none
+abbrev pub sending : JobNames → (copy : Option (List ℕ)) → Offer
+sending n copy = record { copy = copy; first = job.Send n.source n.target n.user copy; second = None }
 
 abbrev pub sent : FieldWords → FileWords → Result Offer NotOffered
-sent f w = words_of f >>= (λ n. named w.temp >>= (λ temp. Ok (sending n (copied f.options temp) temp)))
+sent f w = words_of f >>= (λ n. copied f.options f.source w.temp >>= (λ copy. Ok (sending n copy)))
 
 abbrev pub requested : FieldWords → Result Offer NotOffered
 requested f = words_of f >>= (λ n.
     Ok (record { copy = None; first = job.Request n.source n.target n.user; second = None }))
 
+-- the name that an execution file has here: as that of its copy, or where there is none as that of the data at the other system
+abbrev pub text_name : (options target temp : List ℕ) → Option (List ℕ)
+text_name options target temp = if has_option 67 options then execution_temp temp else execution_temp target
+
 -- the data as it stands there, and the execution file, which is made in memory, under the names that it has at each try
 abbrev pub executed : FieldWords → FileWords → Result Offer NotOffered
 executed f w = sent f w >>= (λ offer. named f.user >>= (λ user.
-    named_by (execution_target f.target) >>= (λ target. named_by (execution_temp w.temp) >>= (λ temp.
+    named_by (execution_target f.target) >>= (λ target. named_by (text_name f.options f.target w.temp) >>= (λ temp.
     Ok (record { copy = offer.copy; first = offer.first; second = Some (job.Send temp target user (Some temp)) })))))
 
 abbrev pub offer_by : Line → Result Offer NotOffered

@@ -1,11 +1,12 @@
 -- The lines of C. files that are not over, and what is left of them where some jobs are (that a line with a copy is over when
 -- the copy is gone is what Taylor UUCP 1.07 does; the rest is this project's profile).
-use Rattle.std.specs.Prelude.{ℕ, List, [], ◌∷◌, ◌++◌, Bool, false, not, Option, Some, None, Result, Ok, Err, if◌then◌else◌}
+use Rattle.std.specs.Prelude.{◌==◌, ℕ, suc, List, [], ◌∷◌, ◌++◌, length, Bool, false, not, Option, Some, None, Result, Ok, Err, if◌then◌else◌}
 use Rattle.std.specs.List.{list_any}
 use Rattle.std.specs.Str.{bytes_eq}
 use Rattle.uug_conversation.specs.declared.job.Job.{Job}
 use Rattle.uug_folder.specs.JobsAfter.{without_said}
 use Rattle.uug_folder.specs.OpenJobs.{with_said}
+use Rattle.uug_talk.specs.Words.{words}
 use Rattle.uug_mailbox.specs.Offers.{offer_of}
 use Rattle.uug_mailbox.specs.declared.offer.NotOffered.{NotOffered}
 use Rattle.uug_mailbox.specs.declared.offer.Offer.{Offer}
@@ -13,8 +14,8 @@ use Rattle.uug_mailbox.specs.declared.open_line.OpenLine.{OpenLine}
 
 -- ---- those of a C. file
 
-abbrev pub line_of : (file : List ℕ) (copy : Option (List ℕ)) (job : Option Job) → OpenLine
-line_of file copy job = record { file = file; copy = copy; job = job }
+abbrev pub line_of : (file : List ℕ) (number : ℕ) (copy : Option (List ℕ)) (job : Option Job) → OpenLine
+line_of file number copy job = record { file = file; number = number; copy = copy; job = job }
 
 abbrev pub has_name : (name : List ℕ) (names : List (List ℕ)) → Bool
 has_name name names = list_any (λ other. bytes_eq other name) names
@@ -24,22 +25,32 @@ abbrev pub is_over : (there : List (List ℕ)) (copy : Option (List ℕ)) → Bo
 is_over there None = false
 is_over there (Some copy) = not (has_name copy there)
 
-abbrev pub second_lines : (file : List ℕ) (copy : Option (List ℕ)) (second : Option Job) → List OpenLine
-second_lines file copy None = []
-second_lines file copy (Some job) = line_of file copy (Some job) ∷ []
+abbrev pub second_lines : (file : List ℕ) (number : ℕ) (copy : Option (List ℕ)) (second : Option Job) → List OpenLine
+second_lines file number copy None = []
+second_lines file number copy (Some job) = line_of file number copy (Some job) ∷ []
 
 -- both jobs of a line that has a command run have its copy
-abbrev pub offered : (file : List ℕ) → Offer → List OpenLine
-offered file offer = line_of file offer.copy (Some offer.first) ∷ second_lines file offer.copy offer.second
+abbrev pub offered : (file : List ℕ) (number : ℕ) → Offer → List OpenLine
+offered file number offer =
+    line_of file number offer.copy (Some offer.first) ∷ second_lines file number offer.copy offer.second
 
 -- a line that no session offers stays without a job
-abbrev pub open_lines : (there : List (List ℕ)) (file : List ℕ) → Result Offer NotOffered → List OpenLine
-open_lines there file (Err why) = line_of file None None ∷ []
-open_lines there file (Ok offer) = if is_over there offer.copy then [] else offered file offer
+abbrev pub open_by : (there : List (List ℕ)) (file : List ℕ) (number : ℕ) → Result Offer NotOffered → List OpenLine
+open_by there file number (Err why) = line_of file number None None ∷ []
+open_by there file number (Ok offer) = if is_over there offer.copy then [] else offered file number offer
 
-abbrev pub file_lines : (there : List (List ℕ)) (file : List ℕ) (texts : List (List ℕ)) → List OpenLine
-file_lines there file [] = []
-file_lines there file (text ∷ more) = open_lines there file (offer_of text) ++ file_lines there file more
+-- a line without a word
+abbrev pub is_blank : (text : List ℕ) → Bool
+is_blank text = length (words text) == 0
+
+-- one without a word asks for nothing
+abbrev pub open_lines : (there : List (List ℕ)) (file : List ℕ) (number : ℕ) (text : List ℕ) → List OpenLine
+open_lines there file number text = if is_blank text then [] else open_by there file number (offer_of text)
+
+-- where so many lines stand before these
+abbrev pub file_lines : (there : List (List ℕ)) (file : List ℕ) (number : ℕ) (texts : List (List ℕ)) → List OpenLine
+file_lines there file number [] = []
+file_lines there file number (text ∷ more) = open_lines there file number text ++ file_lines there file (suc number) more
 
 -- ---- their jobs
 

@@ -66,6 +66,10 @@ failed_lines struck failed lines = lines_gone failed (lines_left struck lines)
 abbrev pub lines_after : (struck failed : List Job) → List OpenLine → List OpenLine
 lines_after struck failed lines = lines_left failed (lines_left struck lines)
 
+-- all that go
+abbrev pub gone_lines : (struck failed : List Job) → List OpenLine → List OpenLine
+gone_lines struck failed lines = done_lines struck lines ++ failed_lines struck failed lines
+
 -- those whose jobs are done go first
 abbrev pub store_ops : (struck failed : List Job) → List OpenLine → List Op
 store_ops struck failed lines =

@@ -1,16 +1,16 @@
 -- How the files of another system come into their places (this project's profile).
-use Rattle.std.specs.Prelude.{◌&&◌, ◌||◌, ℕ, List, [], ◌∷◌, ◌++◌, Bool, true, false, not, Option, Some, None, Result, Ok, Err, codes, if◌then◌else◌}
+use Rattle.std.specs.Prelude.{◌&&◌, ◌||◌, ℕ, List, [], ◌∷◌, ◌++◌, Bool, true, false, not, Option, Some, None, codes, if◌then◌else◌}
 use Rattle.std.specs.List.{list_any}
 use Rattle.std.specs.Str.{bytes_eq}
 use Rattle.uug_talk.specs.Lines.{lines}
 use Rattle.uug_digest.specs.Digests.{hash_text}
 use Rattle.uug_spool.specs.DiskOrder.{stored_ops}
 use Rattle.uug_spool.specs.Operations.{Op, folder_synced, unlinked}
-use Rattle.uug_spool.specs.SpoolNames.{begins_with, spot, spot_of}
-use Rattle.uug_spool.specs.declared.spool_names.Barred.{Barred}
+use Rattle.uug_spool.specs.SpoolNames.{begins_with, spot}
 use Rattle.uug_spool.specs.declared.spool_names.Room.{Room}
 use Rattle.uug_spool.specs.declared.spool_names.Room.TheVariants as rooms
 use Rattle.uug_spool.specs.declared.spool_names.Spot.{Spot}
+use Rattle.uug_mailbox.specs.Places.{temp_name}
 use Rattle.uug_mailbox.specs.declared.marks.Came.{Came}
 use Rattle.uug_mailbox.specs.declared.marks.Marks.{Marks}
 use Rattle.uug_mailbox.specs.declared.spool_folder.SpoolFolder.{SpoolFolder}
@@ -22,18 +22,6 @@ came_of folder = folder.came.items
 
 abbrev pub marks_of : {D A : Type 0} → SpoolFolder D A → Marks
 marks_of folder = folder.marks
-
-abbrev pub faults_of : {D A : Type 0} → SpoolFolder D A → ℕ
-faults_of folder = folder.faults
-
--- ---- names
-
-abbrev pub barred_by : Result Spot Barred → Bool
-barred_by (Ok target) = false
-barred_by (Err why) = true
-
-abbrev pub is_barred : List ℕ → Bool
-is_barred name = barred_by (spot_of name)
 
 -- ---- files that had come
 
@@ -50,11 +38,15 @@ has_marker came name text = list_any (λ other. bytes_eq other.name name && byte
 abbrev pub has_same_text : {A : Type 0} → List (Came A) → (text : List ℕ) → Bool
 has_same_text came text = list_any (λ other. bytes_eq other.text.items text) came
 
--- a marker tells which file has come: by the text of an execution file, and else by the digest of its bytes
-abbrev pub marker_text : Room → (name bytes : List ℕ) → List ℕ
-marker_text rooms.Execution name bytes = bytes
-marker_text rooms.Public name bytes = name
-marker_text _ name bytes = hash_text bytes
+-- A marker tells which file has come: by the text of an execution file, by the place of one in the public folder, and else by the
+-- digest of its bytes.
+abbrev pub marker_by : Room → (place bytes : List ℕ) → List ℕ
+marker_by rooms.Execution place bytes = bytes
+marker_by rooms.Public place bytes = place
+marker_by _ place bytes = hash_text bytes
+
+abbrev pub marker_text : Spot → (bytes : List ℕ) → List ℕ
+marker_text target bytes = marker_by target.room target.name bytes
 
 -- a file whose marker stood when the session began: its name alone does not tell, since names begin anew with a spool that is
 -- made anew; an execution file that names its data may have another name, and is new where its data is; a name in the public
@@ -110,23 +102,18 @@ abbrev pub unmark_ops : Marks → Room → (name : List ℕ) → List Op
 unmark_ops marks room name = if keeps room marks.last then [] else end_ops marks ++ seen_ops marks name
 
 -- a file that had come already is dropped
-abbrev pub again_ops : (again : Bool) → (name bytes : List ℕ) → Spot → List Op
-again_ops again name bytes target = if again then [] else stored_ops name target (marker_text target.room name bytes) bytes
+abbrev pub again_ops : (again : Bool) → (bytes : List ℕ) → Spot → List Op
+again_ops again bytes target =
+    if again then [] else stored_ops (temp_name target) target (marker_text target bytes) bytes
 
-abbrev pub placed_by : {A : Type 0} → Marks → (came : List (Came A)) → (name bytes : List ℕ) → Result Spot Barred → List Op
-placed_by marks came name bytes (Ok target) =
-    unmark_ops marks target.room name
-    ++ again_ops (is_again target.room marks.is_new came name bytes) name bytes target
-placed_by marks came name bytes (Err why) = []
+abbrev pub came_again : {A : Type 0} → Marks → (came : List (Came A)) → Spot → (bytes : List ℕ) → Bool
+came_again marks came target bytes = is_again target.room marks.is_new came (temp_name target) bytes
 
-abbrev pub place_ops : {A : Type 0} → Marks → (came : List (Came A)) → (name bytes : List ℕ) → List Op
-place_ops marks came name bytes = placed_by marks came name bytes (spot_of name)
+abbrev pub place_ops : {A : Type 0} → Marks → (came : List (Came A)) → Spot → (bytes : List ℕ) → List Op
+place_ops marks came target bytes =
+    unmark_ops marks target.room (temp_name target) ++ again_ops (came_again marks came target bytes) bytes target
 
 -- the markers that stand when this file has come
-abbrev pub marks_by : {A : Type 0} → Marks → (came : List (Came A)) → (name bytes : List ℕ) → Result Spot Barred → Marks
-marks_by marks came name bytes (Ok target) =
-    next_marks marks target.room (is_again target.room marks.is_new came name bytes) name
-marks_by marks came name bytes (Err why) = marks
-
-abbrev pub marks_after : {A : Type 0} → Marks → (came : List (Came A)) → (name bytes : List ℕ) → Marks
-marks_after marks came name bytes = marks_by marks came name bytes (spot_of name)
+abbrev pub marks_after : {A : Type 0} → Marks → (came : List (Came A)) → Spot → (bytes : List ℕ) → Marks
+marks_after marks came target bytes =
+    next_marks marks target.room (came_again marks came target bytes) (temp_name target)

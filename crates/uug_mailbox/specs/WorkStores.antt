@@ -1,11 +1,16 @@
 -- A store of jobs over the C. files of a system (this project's profile).
-use Rattle.std.specs.Prelude.{◌≡◌, ◌⊎◌, ℕ, List, Option}
+use Rattle.std.specs.Prelude.{◌≡◌, ◌⊎◌, ℕ, List, map, Option}
 use Rattle.uug_spool.specs.Operations.{Op, also_told}
+use Rattle.uug_mailbox.specs.Rewriting.{FileText, shown_text}
 use Rattle.uug_mailbox.specs.declared.open_line.OpenLine.{OpenLine}
 use Rattle.uug_mailbox.specs.declared.work_store.WorkStore.{WorkStore}
 
 abbrev pub lines_of : {D A : Type 0} → WorkStore D A → List OpenLine
 lines_of store = store.lines.items
+
+-- the C. files in which they stand, as they are on the disk but for the lines that are over
+abbrev pub files_of : {D A : Type 0} → WorkStore D A → List FileText
+files_of store = map shown_text store.files.items
 
 -- nothing was done on the disk, or all of this is told
 abbrev pub IsToldFirst : (notice : List ℕ) (told told_after : Option (List ℕ)) (done done_after : Option (List Op)) → Type 0

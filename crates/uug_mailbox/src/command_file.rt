@@ -1,25 +1,30 @@
 //! The lines of a C. file that are not over, and the jobs of a session.
-ghost use Rattle.std.specs.Prelude.{◌≡◌, ◌++◌, [], take, IfOk, OnOk};
+ghost use Rattle.std.specs.Prelude.{◌≡◌, ◌++◌, [], min, take, IfOk, OnOk};
 ghost use Rattle.uug_conversation.specs.Jobs.{at_start, pending};
 ghost use Rattle.uug_conversation.specs.declared.queue.TheConstants.{JOBS_MAX};
 ghost use Rattle.uug_talk.specs.Lines.{lines as lines_of_text};
 ghost use Rattle.uug_mailbox.specs.Offers.{offer_of};
-ghost use Rattle.uug_mailbox.specs.OpenLines.{file_lines, has_name, is_over, jobs_of, offered, open_lines};
+ghost use Rattle.uug_mailbox.specs.OpenLines.{file_lines, has_name, is_blank, is_over, jobs_of, offered, open_by, open_lines};
 
 use crate::offer::{Offer, read_offer};
 use crate::open_line::OpenLine;
 use std::alloc::{AllocError, Allocator};
 use uug_folder::first_jobs;
 use uug_session::{JOBS_MAX, Job, Queue};
-use uug_talk::{Name, split_line};
+use uug_talk::{Name, split_line, split_word};
+
+/// Whether these are the bytes of one of these names.
+pub(crate) fn has_bytes(names: &[Name], bytes: &[u8]) -> bool
+    ensures { result ≡ has_name bytes.now names.now }
+{
+    names.iter().any(|other| other.as_bytes() == bytes)
+}
 
 /// Whether this is one of these names.
 pub(crate) fn has_name(names: &[Name], name: &Name) -> bool
     ensures { result ≡ has_name name.now names.now }
 {
-    names
-        .iter()
-        .any(|other| other.as_bytes() == name.as_bytes())
+    has_bytes(names, name.as_bytes())
 }
 
 /// Whether a line with this copy is over, where these names of data are there.
@@ -32,22 +37,32 @@ fn is_over(there: &[Name], copy: &Option<Name>) -> bool
     }
 }
 
-/// Appends the jobs of a line.
+/// Whether a line has no word.
+pub(crate) fn is_blank(line: &[u8]) -> bool
+    ensures { result ≡ is_blank line.now }
+{
+    split_word(line).is_none()
+}
+
+/// Appends the jobs of a line, before which so many stand in its file.
 fn add_jobs<A: Allocator>(
     lines: &mut Vec<OpenLine, A>,
     file: &Name,
+    number: usize,
     offer: &Offer,
 ) -> Result<(), AllocError>
-    ensures { OnOk result (lines.new.items ≡ lines.old.items ++ offered file.now offer.now) }
+    ensures { OnOk result (lines.new.items ≡ lines.old.items ++ offered file.now number offer.now) }
 {
     lines.push(OpenLine {
         file: *file,
+        number,
         copy: offer.copy,
         job: Some(offer.first),
     })?;
     if let Some(second) = offer.second {
         lines.push(OpenLine {
             file: *file,
+            number,
             copy: offer.copy,
             job: Some(second),
         })?;
@@ -55,26 +70,28 @@ fn add_jobs<A: Allocator>(
     Ok(())
 }
 
-/// Appends a line of a C. file, unless it is over.
-fn add_line<A: Allocator>(
+/// Appends a line with a word, unless it is over.
+fn add_open<A: Allocator>(
     lines: &mut Vec<OpenLine, A>,
     file: &Name,
+    number: usize,
     line: &[u8],
     there: &[Name],
 ) -> Result<(), AllocError>
     ensures { OnOk result (lines.new.items
-        ≡ lines.old.items ++ open_lines there.now file.now (offer_of line.now)) }
+        ≡ lines.old.items ++ open_by there.now file.now number (offer_of line.now)) }
 {
     match read_offer(line) {
         Ok(offer) => {
             if is_over(there, &offer.copy) {
                 return Ok(());
             }
-            add_jobs(lines, file, &offer)
+            add_jobs(lines, file, number, &offer)
         }
         Err(_) => {
             lines.push(OpenLine {
                 file: *file,
+                number,
                 copy: None,
                 job: None,
             })?;
@@ -83,8 +100,26 @@ fn add_line<A: Allocator>(
     }
 }
 
+/// Appends a line of a C. file, unless it is over.
+fn add_line<A: Allocator>(
+    lines: &mut Vec<OpenLine, A>,
+    file: &Name,
+    number: usize,
+    line: &[u8],
+    there: &[Name],
+) -> Result<(), AllocError>
+    ensures { OnOk result (lines.new.items
+        ≡ lines.old.items ++ open_lines there.now file.now number line.now) }
+{
+    if is_blank(line) {
+        return Ok(());
+    }
+    add_open(lines, file, number, line, there)
+}
+
 /// Appends the lines of a C. file of this name and text that are not over, where the data of these names is there. A line with
-/// a copy is over when the copy is gone; one that has a command run is two, and one that no session offers has no job.
+/// a copy is over when the copy is gone, and one without a word is; one that has a command run is two, and one that no session
+/// offers has no job.
 pub fn add_file<A: Allocator>(
     lines: &mut Vec<OpenLine, A>,
     file: &Name,
@@ -92,24 +127,30 @@ pub fn add_file<A: Allocator>(
     there: &[Name],
 ) -> Result<(), AllocError>
     ensures { OnOk result (lines.new.items
-        ≡ lines.old.items ++ file_lines there.now file.now (lines_of_text text.now)) }
+        ≡ lines.old.items ++ file_lines there.now file.now 0 (lines_of_text text.now)) }
 {
     let mut rest = text;
+    let mut number = 0;
     while let Some((line, behind)) = split_line(rest) {
-        add_line(lines, file, line, there)?;
+        add_line(lines, file, number, line, there)?;
         rest = behind;
+        number += 1;
     }
     Ok(())
 }
 
-/// The jobs of these lines, the first ones, as many as may be pending. All of them are to be offered.
+/// The jobs of these lines, the first ones: so many at most, and as many as may be pending. All of them are to be offered.
 #[tactic(auto, using(crate::proofs::OpenLinesLemmas::whole_front, crate::proofs::OpenLinesLemmas::front_is_short))]
-pub fn queue_of<A: Allocator + Copy>(alloc: A, lines: &[OpenLine]) -> Result<Queue<A>, AllocError>
-    ensures jobs { IfOk result (λ queue. pending queue ≡ take JOBS_MAX (jobs_of lines.now)) }
+pub fn queue_of<A: Allocator + Copy>(
+    alloc: A,
+    lines: &[OpenLine],
+    most: usize,
+) -> Result<Queue<A>, AllocError>
+    ensures jobs { IfOk result (λ queue. pending queue ≡ take (min most JOBS_MAX) (jobs_of lines.now)) }
     ensures fresh { IfOk result (λ queue. queue ≡ at_start (pending queue) [] []) }
 {
     let mut jobs = jobs_of(alloc, lines)?;
-    jobs.truncate(JOBS_MAX);
+    jobs.truncate(most.min(JOBS_MAX));
     first_jobs(alloc, jobs.as_slice(), jobs.len())
 }
 

@@ -22,6 +22,7 @@ fn held_line(unread: &[Name], line: &OpenLine) -> OpenLine
 {
     OpenLine {
         file: line.file,
+        number: line.number,
         copy: line.copy,
         job: if is_held(unread, &line.copy) {
             None

@@ -2,6 +2,7 @@
 ghost use Rattle.std.specs.Prelude.{◌≡◌, ◌++◌, ℕ, Bool, List, Some, take, true};
 ghost use Rattle.uug_conversation.specs.declared.job.Job.{Job};
 ghost use Rattle.uug_folder.specs.OpenJobs.{HoldsAtLeast, jobs_left};
+ghost use Rattle.uug_spool.specs.DiskOrder.{replaced_ops};
 ghost use Rattle.uug_spool.specs.SpoolNames.{data_spot, spot};
 ghost use Rattle.uug_spool.specs.Standings.{AfterEach, IsAsBefore, IsBeforeOrWhole, Standing};
 ghost use Rattle.uug_spool.specs.StoredSafely.{is_place};
@@ -43,5 +44,12 @@ pub fn what_comes_is_whole()
     ensures { (marks : Marks) (again : Bool) (name bytes : List ℕ) (place : Spot) (s : Standing)
         → is_place place.room ≡ true
         → AfterEach (IsBeforeOrWhole s place bytes)
-        (unmark_ops marks place.room name ++ again_ops again name bytes place) s }
+        (unmark_ops marks place.room name ++ again_ops again bytes place) s }
+{}
+
+/// Wherever a power cut stops it: while a C. file is written anew, it is as it was or the new one, whole.
+pub fn what_is_written_anew_is_whole()
+    ensures { (file text : List ℕ) (s : Standing)
+        → AfterEach (IsBeforeOrWhole s (spot rooms.Commands file) text)
+        (replaced_ops (spot rooms.Commands file) text) s }
 {}

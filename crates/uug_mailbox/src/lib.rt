@@ -4,25 +4,31 @@
 #![tactic(auto)]
 
 mod command_file;
+mod command_text;
 mod execution;
 mod held;
 pub mod laws;
 mod mail_date;
+mod mail_spool;
 mod marks;
 mod offer;
 mod open_line;
 mod parted;
+mod places;
 mod settled;
 mod spool_folder;
 mod work_store;
 
 pub use command_file::{add_file, queue_of};
+pub use command_text::CommandText;
 pub use execution::{Execution, addressee, is_told_with_data, read_execution};
 pub use held::held_lines;
 pub use mail_date::{day_word, month_word};
+pub use mail_spool::MailSpool;
 pub use marks::{Came, Marks};
-pub use offer::{NotOffered, Offer, read_offer};
+pub use offer::{NotOffered, Offer, read_offer, text_name};
 pub use open_line::{OpenLine, Outcome};
+pub use places::{PublicFolder, split_last, temp_name};
 pub use settled::{settle, settle_file};
-pub use spool_folder::{NotPlaced, SpoolFolder, remove_markers};
+pub use spool_folder::{SpoolFolder, remove_markers};
 pub use work_store::WorkStore;

@@ -3,7 +3,7 @@ ghost use Rattle.std.specs.Prelude.{◌≡◌};
 ghost use Rattle.uug_talk.specs.Words.{words};
 ghost use Rattle.uug_spool.specs.CommandLines.{command_of};
 ghost use Rattle.uug_spool.specs.ShownCommands.{shown, shown_fields, shown_file};
-ghost use Rattle.uug_mailbox.specs.Offers.{copied, executed, named, named_by, offer_by, offer_of, requested, sending, sent, words_of};
+ghost use Rattle.uug_mailbox.specs.Offers.{copied, copy_named, executed, named, named_by, offer_by, offer_of, requested, sending, sent, text_name, words_of};
 
 use thiserror::Error;
 use uug_session::Job;
@@ -39,6 +39,9 @@ pub enum NotOffered {
     /// One of its names is longer than a name of a session, or has other bytes, or is that of no data.
     #[error("a name that no session has")]
     Name,
+    /// Its data is no copy, and the path of its source isn't whole.
+    #[error("a path that is not whole")]
+    Relative,
 }
 
 /// The names that each job has.
@@ -78,14 +81,26 @@ fn words_of(fields: &Fields<'_>) -> Result<JobNames, NotOffered>
     })
 }
 
-/// The name of the copy, where the options say that the data is one of this name.
-fn copied(options: &[u8], temp: &Name) -> Option<Name>
-    ensures { result ≡ copied options.now temp.now }
+/// The name of the copy, where the options say that the data is one of this name. Else it is the file at the source's path.
+fn copied(options: &[u8], source: &[u8], temp: &[u8]) -> Result<Option<Name>, NotOffered>
+    ensures { result ≡ copied options.now source.now temp.now }
 {
     if has_option(options, b'C') {
-        Some(*temp)
+        return copy_named(temp);
+    }
+    if source.starts_with(b"/") {
+        Ok(None)
     } else {
-        None
+        Err(NotOffered::Relative)
+    }
+}
+
+fn copy_named(temp: &[u8]) -> Result<Option<Name>, NotOffered>
+    ensures { result ≡ copy_named (named temp.now) }
+{
+    match named(temp) {
+        Ok(temp) => Ok(Some(temp)),
+        Err(why) => Err(why),
     }
 }
 
@@ -93,21 +108,21 @@ fn sent(fields: &Fields<'_>, file: &SentFile<'_>) -> Result<Offer, NotOffered>
     ensures { result ≡ sent (shown_fields fields.now) (shown_file file.now) }
 {
     let names = words_of(fields)?;
-    let temp = named(file.temp)?;
-    Ok(sending(&names, copied(fields.options, &temp), &temp))
+    let copy = copied(fields.options, fields.source, file.temp)?;
+    Ok(sending(&names, &copy))
 }
 
 /// A job that sends a file, and nothing with it.
-fn sending(names: &JobNames, copy: Option<Name>, temp: &Name) -> Offer
-    ensures { result ≡ sending names.now copy temp.now }
+fn sending(names: &JobNames, copy: &Option<Name>) -> Offer
+    ensures { result ≡ sending names.now copy.now }
 {
     Offer {
-        copy,
+        copy: *copy,
         first: Job::Send {
             source: names.source,
             target: names.target,
             user: names.user,
-            temp: Some(*temp),
+            temp: *copy,
         },
         second: None,
     }
@@ -128,13 +143,24 @@ fn requested(fields: &Fields<'_>) -> Result<Offer, NotOffered>
     })
 }
 
+/// The name that an execution file has here.
+pub fn text_name(options: &[u8], target: &[u8], temp: &[u8]) -> Option<Name>
+    ensures { result ≡ text_name options.now target.now temp.now }
+{
+    if has_option(options, b'C') {
+        execution_temp(temp)
+    } else {
+        execution_temp(target)
+    }
+}
+
 fn executed(fields: &Fields<'_>, file: &SentFile<'_>) -> Result<Offer, NotOffered>
     ensures { result ≡ executed (shown_fields fields.now) (shown_file file.now) }
 {
     let data = sent(fields, file)?;
     let user = named(fields.user)?;
     let target = named_by(execution_target(fields.target))?;
-    let temp = named_by(execution_temp(file.temp))?;
+    let temp = named_by(text_name(fields.options, fields.target, file.temp))?;
     Ok(Offer {
         copy: data.copy,
         first: data.first,

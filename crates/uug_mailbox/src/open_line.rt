@@ -15,6 +15,8 @@ pub enum Outcome {
 pub struct OpenLine {
     /// The name of the C. file in which it stands.
     pub file: Name,
+    /// How many lines stand before it there.
+    pub number: usize,
     /// The name of its data, if the data is a copy.
     pub copy: Option<Name>,
     /// What is to be done, if a session can offer it. A line without a job stays, and so does its C. file.

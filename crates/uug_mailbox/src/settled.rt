@@ -65,7 +65,7 @@ fn has_copy(lines: &[OpenLine], copy: &Name) -> bool
 }
 
 /// Whether one of these lines stands in the file of this name.
-fn has_line(lines: &[OpenLine], file: &Name) -> bool
+pub(crate) fn has_line(lines: &[OpenLine], file: &Name) -> bool
     ensures { result ≡ has_line file.now lines.now }
 {
     lines

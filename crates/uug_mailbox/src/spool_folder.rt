@@ -1,26 +1,15 @@
 //! The folders of a spool, as one folder that takes the files of another system.
-ghost use Rattle.std.specs.Prelude.{◌≡◌, ◌++◌, None, OnErr, OnOk};
+ghost use Rattle.std.specs.Prelude.{◌≡◌, ◌++◌, OnErr, OnOk};
 ghost use Rattle.uug_spool.specs.Operations.{FrontDone, also_all};
-ghost use Rattle.uug_mailbox.specs.Placing.{again_ops, came_of, end_ops, faults_of, is_barred, mark_ops, marks_after, marks_of, no_marks, place_ops, seen_ops, unmark_ops};
+ghost use Rattle.uug_mailbox.specs.Places.{temp_name};
+ghost use Rattle.uug_mailbox.specs.Placing.{again_ops, came_of, end_ops, mark_ops, marks_after, marks_of, no_marks, place_ops, seen_ops, unmark_ops};
 
 use crate::marks::{Came, Marks, is_again, is_mark, keeps, next_marks};
+use crate::places::temp_name;
 use std::alloc::Allocator;
-use thiserror::Error;
 use uug_digest::hash_text;
-use uug_folder::{Folder, FolderFailed};
-use uug_spool::{Barred, Disk, DiskFailed, Room, Spot, spot_of, store};
+use uug_spool::{Disk, DiskFailed, Room, Spot, store};
 use uug_talk::Name;
-
-/// Why a file was not put in its place.
-#[derive(Clone, Copy, Debug, PartialEq, Eq, Error)]
-pub enum NotPlaced {
-    /// Its name is barred.
-    #[error("{0}")]
-    Barred(Barred),
-    /// The device behind the spool failed.
-    #[error("device fault")]
-    Disk,
-}
 
 /// No marker of the session stands.
 const NO_MARKS: Marks = Marks {
@@ -39,7 +28,6 @@ pub struct SpoolFolder<D, A: Allocator> {
     came: Vec<Came<A>, A>,
     /// The files of the session whose markers stand.
     marks: Marks,
-    faults: u64,
 }
 
 impl<D: Disk, A: Allocator> SpoolFolder<D, A> {
@@ -52,7 +40,6 @@ impl<D: Disk, A: Allocator> SpoolFolder<D, A> {
             disk,
             came,
             marks: NO_MARKS,
-            faults: 0,
         }
     }
 
@@ -63,31 +50,24 @@ impl<D: Disk, A: Allocator> SpoolFolder<D, A> {
         self.marks
     }
 
-    /// Puts a file in its place, and takes the markers of those before away. A file of the spool that had come already is
+    /// Puts a file in this place, and takes the markers of those before away. A file of the spool that had come already is
     /// dropped: it is in its place, or was used up there.
-    pub fn place(&mut self, name: &Name, bytes: &[u8]) -> Result<(), NotPlaced>
+    pub fn place(&mut self, target: &Spot, bytes: &[u8]) -> Result<(), DiskFailed>
         ensures ok { OnOk result (D.done self.new.disk
-            ≡ also_all (place_ops (marks_of self.old) (came_of self.old) name.now bytes.now)
+            ≡ also_all (place_ops (marks_of self.old) (came_of self.old) target.now bytes.now)
             (D.done self.old.disk)) }
         ensures err { OnErr result (FrontDone
-            (place_ops (marks_of self.old) (came_of self.old) name.now bytes.now)
+            (place_ops (marks_of self.old) (came_of self.old) target.now bytes.now)
             (D.done self.old.disk) (D.done self.new.disk)) }
         ensures marks { OnOk result (marks_of self.new
-            ≡ marks_after (marks_of self.old) (came_of self.old) name.now bytes.now) }
+            ≡ marks_after (marks_of self.old) (came_of self.old) target.now bytes.now) }
         ensures came { came_of self.new ≡ came_of self.old }
-        ensures faults { faults_of self.new ≡ faults_of self.old }
     {
-        let target = match spot_of(name) {
-            Ok(target) => target,
-            Err(why) => return Err(NotPlaced::Barred(why)),
-        };
+        let name = temp_name(target);
         let came = self.came.as_slice();
-        let again = is_again(target.room, self.marks.is_new, came, name, bytes);
-        match place_at(&mut self.disk, &self.marks, again, name, &target, bytes) {
-            Ok(()) => (),
-            Err(DiskFailed) => return Err(NotPlaced::Disk),
-        }
-        self.marks = next_marks(&self.marks, target.room, again, name);
+        let again = is_again(target.room, self.marks.is_new, came, &name, bytes);
+        place_at(&mut self.disk, &self.marks, again, &name, target, bytes)?;
+        self.marks = next_marks(&self.marks, target.room, again, &name);
         Ok(())
     }
 
@@ -168,11 +148,12 @@ fn place_at<D: Disk>(
     target: &Spot,
     bytes: &[u8],
 ) -> Result<(), DiskFailed>
+    requires { name.now ≡ temp_name target.now }
     ensures ok { OnOk result (D.done disk.new
         ≡ also_all (unmark_ops marks.now target.now.room name.now
-        ++ again_ops again name.now bytes.now target.now) (D.done disk.old)) }
+        ++ again_ops again bytes.now target.now) (D.done disk.old)) }
     ensures err { OnErr result (FrontDone (unmark_ops marks.now target.now.room name.now
-        ++ again_ops again name.now bytes.now target.now)
+        ++ again_ops again bytes.now target.now)
         (D.done disk.old) (D.done disk.new)) }
 {
     unmark(disk, marks, target.room, name)?;
@@ -188,9 +169,10 @@ fn store_new<D: Disk>(
     target: &Spot,
     bytes: &[u8],
 ) -> Result<(), DiskFailed>
+    requires { name.now ≡ temp_name target.now }
     ensures ok { OnOk result (D.done disk.new
-        ≡ also_all (again_ops again name.now bytes.now target.now) (D.done disk.old)) }
-    ensures err { OnErr result (FrontDone (again_ops again name.now bytes.now target.now)
+        ≡ also_all (again_ops again bytes.now target.now) (D.done disk.old)) }
+    ensures err { OnErr result (FrontDone (again_ops again bytes.now target.now)
         (D.done disk.old) (D.done disk.new)) }
 {
     if again {
@@ -198,33 +180,7 @@ fn store_new<D: Disk>(
     }
     match target.room {
         Room::Execution => store(disk, name, target, bytes, bytes),
-        Room::Public => store(disk, name, target, name.as_bytes(), bytes),
+        Room::Public => store(disk, name, target, target.name.as_bytes(), bytes),
         _ => store(disk, name, target, &hash_text(bytes), bytes),
-    }
-}
-
-impl<D: Disk, A: Allocator> Folder for SpoolFolder<D, A> {
-    ghost placed = { λ folder. None };
-
-    ghost fault_count = { λ folder. folder.faults };
-
-    ghost barred = { λ folder name. is_barred name };
-
-    fn put(&mut self, name: &Name, bytes: &[u8]) -> Result<(), FolderFailed> {
-        match self.place(name, bytes) {
-            Ok(()) => Ok(()),
-            Err(_) => {
-                self.faults = self.faults.saturating_add(1);
-                Err(FolderFailed)
-            }
-        }
-    }
-
-    fn is_barred(&self, name: &Name) -> bool {
-        spot_of(name).is_err()
-    }
-
-    fn faults(&self) -> u64 {
-        self.faults
     }
 }

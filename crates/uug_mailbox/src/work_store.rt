@@ -1,12 +1,14 @@
 //! The jobs of an end over the C. files of a system.
-ghost use Rattle.std.specs.Prelude.{◌≡◌, ◌≤◌, Some, IfErr, OnErr, OnOk, length};
+ghost use Rattle.std.specs.Prelude.{◌≡◌, ◌≤◌, ◌++◌, Some, IfErr, OnErr, OnOk, length, map};
 ghost use Rattle.uug_folder.specs.TextFiles.{IsReadFault};
 ghost use Rattle.uug_spool.specs.Operations.{FrontDone, HasFault, TellsSome, also_all, also_told};
 ghost use Rattle.uug_mailbox.specs.OpenLines.{jobs_of};
-ghost use Rattle.uug_mailbox.specs.OverOrder.{lines_after, store_ops};
+ghost use Rattle.uug_mailbox.specs.OverOrder.{lines_after};
+ghost use Rattle.uug_mailbox.specs.Rewriting.{replacing, settling_ops, shown_text, texts_settled};
 ghost use Rattle.uug_mailbox.specs.Code.Parting.{parted_ops};
-ghost use Rattle.uug_mailbox.specs.WorkStores.{IsToldFirst, lines_of};
+ghost use Rattle.uug_mailbox.specs.WorkStores.{IsToldFirst, files_of, lines_of};
 
+use crate::command_text::{CommandText, replace_all, rewritten, texts_after};
 use crate::open_line::{OpenLine, Outcome};
 use crate::parted::{Parted, divided};
 use crate::settled::settle_first;
@@ -16,21 +18,29 @@ use uug_session::Job;
 use uug_spool::{Disk, DiskFailed};
 use uug_stream::ToolFault;
 
-/// The jobs of an end over the C. files of a system: their lines that are not over, and the disk from which one goes that is.
+/// The jobs of an end over the C. files of a system: their lines that are not over, the texts in which these stand, and the disk
+/// from which one goes that is.
 #[derive(Drop)]
 pub struct WorkStore<D, A: Allocator> {
     pub disk: D,
     lines: Vec<OpenLine, A>,
+    files: Vec<CommandText<A>, A>,
     alloc: A,
 }
 
 impl<D: Disk, A: Allocator + Copy> WorkStore<D, A> {
-    /// The store of these lines, which were read of this disk.
-    pub fn new(alloc: A, disk: D, lines: Vec<OpenLine, A>) -> Self
+    /// The store of these lines, which were read of these C. files on this disk.
+    pub fn new(alloc: A, disk: D, lines: Vec<OpenLine, A>, files: Vec<CommandText<A>, A>) -> Self
         ensures lines { lines_of result ≡ lines.items }
+        ensures files { files_of result ≡ map shown_text files.items }
         ensures disk { result.disk ≡ disk }
     {
-        WorkStore { disk, lines, alloc }
+        WorkStore {
+            disk,
+            lines,
+            files,
+            alloc,
+        }
     }
 
     /// The lines that are not over.
@@ -41,7 +51,8 @@ impl<D: Disk, A: Allocator + Copy> WorkStore<D, A> {
     }
 
     /// Takes these jobs out, each once: those that were done, and those that have failed. Of a line with two jobs the copy goes
-    /// with the second of them. After a fault the lines are as before, and the disk may have lost some that are over.
+    /// with the second of them. A C. file that has lost a line without a copy, and has others, is written anew. After a fault the
+    /// lines are as before, and the disk may have lost some that are over.
     #[tactic(auto, using(crate::proofs::OverLemmas::none_done, crate::proofs::StoreLemmas::tells_none, crate::proofs::StoreLemmas::tells_all))]
     pub fn settle_jobs<B: Allocator + Copy>(
         &mut self,
@@ -53,10 +64,15 @@ impl<D: Disk, A: Allocator + Copy> WorkStore<D, A> {
         ensures lines { OnOk result (lines_of self.new
             ≡ lines_after struck.now failed.now (lines_of self.old)) }
         ensures done { OnOk result (D.done self.new.disk
-            ≡ also_all (store_ops struck.now failed.now (lines_of self.old)) (D.done self.old.disk)) }
+            ≡ also_all (settling_ops struck.now failed.now (lines_of self.old) (files_of self.old))
+            (D.done self.old.disk)) }
+        ensures files { OnOk result (files_of self.new
+            ≡ texts_settled struck.now failed.now (lines_of self.old) (files_of self.old)) }
         ensures told { OnOk result (D.told self.new.disk ≡ also_told notice.now (D.told self.old.disk)) }
         ensures same { OnErr result (lines_of self.new ≡ lines_of self.old) }
-        ensures front { OnErr result (FrontDone (store_ops struck.now failed.now (lines_of self.old))
+        ensures same_files { OnErr result (files_of self.new ≡ files_of self.old) }
+        ensures front { OnErr result (FrontDone
+            (settling_ops struck.now failed.now (lines_of self.old) (files_of self.old))
             (D.done self.old.disk) (D.done self.new.disk)) }
         ensures told_some { OnErr result (TellsSome notice.now (D.told self.old.disk) (D.told self.new.disk)) }
         // Nothing goes from the disk before all is told.
@@ -67,14 +83,22 @@ impl<D: Disk, A: Allocator + Copy> WorkStore<D, A> {
             IsReadFault fault (D.fault_count self.old.disk) (D.fault_count self.new.disk)) }
     {
         let parted = divided(self.alloc, alloc, self.lines.as_slice(), struck, failed)?;
+        let (gone, _) = parted
+            .order
+            .as_slice()
+            .split_at(parted.done + parted.failed);
+        let left = parted.left.as_slice();
+        let files = texts_after(self.alloc, self.files.as_slice(), gone, left)?;
+        let texts = rewritten(alloc, files.as_slice(), gone, left)?;
         if tell_some(&mut self.disk, notice).is_err() {
             return Err(ToolFault::Device);
         }
-        match settle_parted(&mut self.disk, &parted) {
+        match settle_all(&mut self.disk, &parted, texts.as_slice()) {
             Ok(()) => (),
             Err(DiskFailed) => return Err(ToolFault::Device),
         }
         self.lines = parted.left;
+        self.files = files;
         Ok(())
     }
 }
@@ -92,6 +116,29 @@ fn tell_some<D: Disk>(disk: &mut D, notice: &[u8]) -> Result<(), DiskFailed>
         return Ok(());
     }
     disk.tell(notice)
+}
+
+/// Takes the lines off the disk that go, and then writes these C. files anew.
+#[tactic(auto, using(crate::proofs::OverLemmas::both_done, crate::proofs::OverLemmas::front_of_first, crate::proofs::OverLemmas::front_of_both))]
+fn settle_all<D: Disk, A: Allocator, B: Allocator, C: Allocator>(
+    disk: &mut D,
+    parted: &Parted<A, B>,
+    texts: &[CommandText<C>],
+) -> Result<(), DiskFailed>
+    requires { parted.now.done ≤ length parted.now.order.items }
+    ensures ok { OnOk result (D.done disk.new
+        ≡ also_all (parted_ops parted.now ++ replacing (map shown_text texts.now)) (D.done disk.old)) }
+    ensures err { OnErr result (FrontDone
+        (parted_ops parted.now ++ replacing (map shown_text texts.now))
+        (D.done disk.old) (D.done disk.new)) }
+    ensures told { D.told disk.new ≡ D.told disk.old }
+    ensures calm { OnOk result (D.fault_count disk.new ≡ D.fault_count disk.old) }
+    ensures fault { OnErr result
+        (HasFault u64.MAX (D.fault_count disk.old) (D.fault_count disk.new)) }
+{
+    settle_parted(disk, parted)?;
+    replace_all(disk, texts)?;
+    Ok(())
 }
 
 /// Takes the lines off the disk that go.

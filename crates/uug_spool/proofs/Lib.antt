@@ -4,6 +4,7 @@ mod LogFacts
 pub mod PartsLemmas
 pub mod QuotingLemmas
 mod SequenceFacts
+pub mod ReplacedLemmas
 pub mod SpacedLemmas
 mod SpoolNameFacts
 pub mod StandingLemmas

@@ -12,7 +12,7 @@ use Rattle.uug_spool.proofs.StandingLemmas.{Lasts, all_told, change_elsewhere, f
 
 -- ---- the places
 
-not_temporary : (room : Room) → is_place room ≡ true → is_room rooms.Temporary room ≡ false
+pub not_temporary : (room : Room) → is_place room ≡ true → is_room rooms.Temporary room ≡ false
 not_temporary rooms.Commands h = refl
 not_temporary rooms.Data h = refl
 not_temporary rooms.Text h = refl
@@ -44,25 +44,25 @@ is_not_marked rooms.Preserved h = refl
 
 -- ---- the steps
 
-abbrev held_at : List ℕ → Spot
+abbrev pub held_at : List ℕ → Spot
 held_at temp = spot rooms.Temporary temp
 
 abbrev marker_at : List ℕ → Spot
 marker_at temp = spot rooms.Marked temp
 
-abbrev the_file : List ℕ → Standing → Inode
+abbrev pub the_file : List ℕ → Standing → Inode
 the_file bytes s = record { number = s.next; bytes = bytes }
 
 abbrev the_marker : List ℕ → Standing → Inode
 the_marker text s = record { number = suc s.next; bytes = text }
 
-abbrev first_gone : List ℕ → Standing → Standing
+abbrev pub first_gone : List ℕ → Standing → Standing
 first_gone temp s = noted (gone (held_at temp)) s
 
-abbrev written : (temp bytes : List ℕ) → Standing → Standing
+abbrev pub written : (temp bytes : List ℕ) → Standing → Standing
 written temp bytes s = file_made (held_at temp) bytes (first_gone temp s)
 
-abbrev written_safe : (temp bytes : List ℕ) → Standing → Standing
+abbrev pub written_safe : (temp bytes : List ℕ) → Standing → Standing
 written_safe temp bytes s = made_safe (Some (the_file bytes s)) (written temp bytes s)
 
 abbrev with_marker : (temp text bytes : List ℕ) → Standing → Standing
@@ -94,7 +94,7 @@ from_marker temp target = folder_synced rooms.Marked ∷ renamed (held_at temp) 
 abbrev from_written : (temp : List ℕ) (target : Spot) (text : List ℕ) → List Op
 from_written temp target text = made (marker_at temp) text ∷ synced (marker_at temp) ∷ from_marker temp target
 
-written_is_safe : (temp bytes : List ℕ) (s : Standing) → after (synced (held_at temp)) (written temp bytes s) ≡ written_safe temp bytes s
+pub written_is_safe : (temp bytes : List ℕ) (s : Standing) → after (synced (held_at temp)) (written temp bytes s) ≡ written_safe temp bytes s
 written_is_safe temp bytes s =
     ap (λ b. made_safe (found_by b (put (held_at temp) (the_file bytes s)) (found (held_at temp) (gone (held_at temp) ∷ changes_of s.notes))) (written temp bytes s))
     (same_spot (held_at temp))

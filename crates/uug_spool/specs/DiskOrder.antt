@@ -16,3 +16,10 @@ stored_ops temp target text bytes =
 abbrev pub finished_ops : (temp : List ℕ) → (target : Spot) → List Op
 finished_ops temp target =
     renamed (spot rooms.Temporary temp) target ∷ folder_synced target.room ∷ folder_synced rooms.Temporary ∷ []
+
+-- a file takes the place of one that stands there, once its bytes are on the device
+abbrev pub replaced_ops : (target : Spot) (bytes : List ℕ) → List Op
+replaced_ops target bytes =
+    unlinked (spot rooms.Temporary target.name) ∷ made (spot rooms.Temporary target.name) bytes
+    ∷ synced (spot rooms.Temporary target.name) ∷ renamed (spot rooms.Temporary target.name) target
+    ∷ folder_synced target.room ∷ []

@@ -34,8 +34,8 @@ pub use sent_file::SentFile;
 pub use sequence::next_sequence;
 pub use spool_names::{
     Barred, FAR_NAME_MAX, OWN_DATA_MAX, OWN_TEXT_MAX, Room, Spot, data_spot, far_name,
-    is_data_name, is_system_name, spot_of,
+    is_data_name, is_system_name, local_name, spot_of,
 };
 pub use stats_text::{Amount, Course, StatsHead, stats_line};
 pub use status::{CallState, Status, is_due, read_status, status_failed, status_line};
-pub use stored::{finish, store};
+pub use stored::{finish, replace, store};

@@ -36,7 +36,7 @@ pub enum Room {
     Temporary,
     /// `.Received`, the system's folder there: a marker for each file that has come.
     Marked,
-    /// `.Preserve`: data of jobs that have failed.
+    /// `.Preserve`, the system's folder there: data of jobs that have failed.
     Preserved,
 }
 
@@ -126,7 +126,7 @@ fn spool_spot(room: Room, own_max: usize, name: &Name) -> Result<Spot, Barred>
 }
 
 /// A name without the public folder or the root in front.
-fn local_name(name: &[u8]) -> &[u8]
+pub fn local_name(name: &[u8]) -> &[u8]
     ensures { result.now ≡ local_name name.now }
 {
     if name.starts_with(b"~/") {

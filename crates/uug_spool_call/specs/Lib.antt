@@ -1,2 +1,5 @@
+pub mod Arrivals
+pub mod Budgets
+pub mod GivenData
 pub mod PublicNames
 pub mod Reported

@@ -89,7 +89,7 @@ named_job public (Request source target user) = Request source (public_name publ
 named_job public (Send source target user temp) = Send source target user temp
 
 abbrev pub named_line : (public : List ℕ) → OpenLine → OpenLine
-named_line public line = record { file = line.file; copy = line.copy; job = option_map (named_job public) line.job }
+named_line public line = record { file = line.file; number = line.number; copy = line.copy; job = option_map (named_job public) line.job }
 
 abbrev pub named_lines : (public : List ℕ) → List OpenLine → List OpenLine
 named_lines public lines = map (named_line public) lines

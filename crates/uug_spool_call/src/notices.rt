@@ -6,11 +6,11 @@ use std::alloc::{AllocError, Allocator};
 use std::fs::File;
 use std::rt::Files;
 use std::time::Clock;
-use uug_folder::write_notices;
+use uug_folder::{is_among, write_notices};
 use uug_log::LocalClock;
-use uug_mailbox::{addressee, day_word, is_told_with_data, month_word};
+use uug_mailbox::{Execution, addressee, day_word, is_told_with_data, month_word};
 use uug_session::Job;
-use uug_spool::{Disk, DiskFailed, Moment, Room, Spot, far_name, next_sequence};
+use uug_spool::{Moment, Room, Spot, far_name, next_sequence, replace};
 use uug_spool_disk::{SpoolDisk, SpoolPaths, is_there};
 use uug_talk::Name;
 
@@ -59,11 +59,13 @@ fn mail_job<A: Allocator + Copy, R: Files<File = File> + Clock>(
     let to = addressee(end.executions.as_slice(), job);
     let notice = write_notices(alloc, end.buffered.node().spool(), &[*job]).ok()?;
     let moment = clock.now(rt);
-    let text = mail_text(alloc, &moment, me, paths, &to, notice.as_str()).ok()?;
+    let saved = saved_words(alloc, preserved_at(end, job)).ok()?;
+    let notice = notice.as_str();
+    let text = mail_text(alloc, &moment, me, paths, &to, notice, saved.as_str()).ok()?;
     let command = command_text(alloc, me, &data.name, &to).ok()?;
     let mut disk = SpoolDisk::new(alloc, rt, paths);
-    put(&mut disk, data, text.as_bytes()).ok()?;
-    put(&mut disk, execution, command.as_bytes()).ok()
+    replace(&mut disk, data, text.as_bytes()).ok()?;
+    replace(&mut disk, execution, command.as_bytes()).ok()
 }
 
 /// The places of the next mail: names that no file has, of this number or one behind it.
@@ -93,18 +95,35 @@ fn free_names<A: Allocator + Copy, R: Files>(
     None
 }
 
-/// Puts a file in its place, whole.
-fn put<D: Disk>(disk: &mut D, place: &Spot, bytes: &[u8]) -> Result<(), DiskFailed> {
-    let held = Spot {
-        room: Room::Temporary,
-        name: place.name,
-    };
-    disk.unlink(&held)?;
-    disk.make(&held, bytes)?;
-    disk.sync(&held)?;
-    disk.rename(&held, place)?;
-    disk.sync_folder(place.room)?;
-    Ok(())
+/// Where the copy of this job's data was preserved, if it was: that of a command goes with its text too.
+fn preserved_at<'a, R: Files<File = File>, A: Allocator + Copy>(
+    end: &'a SpoolEnd<'_, '_, R, A>,
+    job: &Job,
+) -> Option<&'a str> {
+    let name = copy_of(end.executions.as_slice(), job)?;
+    for file in end.store.disk.preserved() {
+        if file.name.as_bytes() == name.as_bytes() {
+            return Some(file.path.as_str());
+        }
+    }
+    None
+}
+
+/// The name of the copy of this job's data.
+fn copy_of(executions: &[Execution], job: &Job) -> Option<Name> {
+    for execution in executions {
+        if is_among(&[execution.text], job) {
+            return temp_of(&execution.input);
+        }
+    }
+    temp_of(job)
+}
+
+fn temp_of(job: &Job) -> Option<Name> {
+    match job {
+        Job::Send { temp, .. } => *temp,
+        Job::Request { .. } => None,
+    }
 }
 
 /// The execution file that has the mail delivered.
@@ -125,6 +144,14 @@ fn two_digits(number: u8) -> (u8, u8) {
     (number / 10 % 10, number % 10)
 }
 
+/// What is mailed of data that was preserved at this path.
+fn saved_words<A: Allocator>(alloc: A, path: Option<&str>) -> Result<String<A>, AllocError> {
+    match path {
+        Some(path) => format!(in alloc; "\nFile saved as\n{path}\n"),
+        None => Ok(String::new(alloc)),
+    }
+}
+
 /// What is mailed to somebody, at this moment, of a job that has failed.
 fn mail_text<A: Allocator + Copy>(
     alloc: A,
@@ -133,6 +160,7 @@ fn mail_text<A: Allocator + Copy>(
     paths: &SpoolPaths<A>,
     to: &Name,
     notice: &str,
+    saved: &str,
 ) -> Result<String<A>, AllocError> {
     let (day, month) = (day_word(moment), month_word(moment.month));
     let (date, year) = (moment.day, moment.year);
@@ -142,8 +170,7 @@ fn mail_text<A: Allocator + Copy>(
     let me = me.as_str();
     let user = to.as_str();
     let system = paths.system().as_str();
-    let saved = paths.spool();
     format!(in alloc;
-        "From uucp {day} {month} {date} {h}{hh}:{m}{mm}:{s}{ss} {year} remote from {me}\nTo: {user}\nSubject: UUCP failed\n\nMessage from UUCP on {me}\n\nThis job for {system} was given up:\n{notice}\nThe data, if it was a copy, is in\n{saved}/.Preserve\n"
+        "From uucp {day} {month} {date} {h}{hh}:{m}{mm}:{s}{ss} {year} remote from {me}\nTo: {user}\nSubject: UUCP failed\n\nMessage from UUCP on {me}\n\nThis job for {system} was given up:\n{notice}{saved}"
     )
 }

@@ -11,7 +11,7 @@ use std::rt::Files;
 use uug_failure::RunFault;
 use uug_session::{Side, Stored};
 use uug_spool::{Room, spot_of};
-use uug_spool_disk::{SpoolPaths, is_known, list_room, read_public};
+use uug_spool_disk::{PublicListing, SpoolPaths, is_known, list_public, read_public};
 use uug_talk::{FILE_MAX, Name};
 
 /// So many names of the public folder are looked at.
@@ -20,16 +20,35 @@ const PUBLIC_NAMES_MAX: usize = 1024;
 /// As everybody may read them.
 const GIVEN_MODE: u16 = 0o644;
 
-/// Adds the files of the public folder to those that an end gives, where it calls, or the spool has a folder of the caller: each
-/// that everybody may read, as long as all have so many bytes together at most. One that the system fails to read is noted, and so
-/// is the folder.
-pub(crate) fn add_public<A: Allocator + Copy, R: Files<File = File> + Alloc + Clone + Drop>(
+/// What stands in the public folder. Where the system fails to read it that is noted, and nothing is known of it.
+pub(crate) fn look_at_public<A: Allocator + Copy, R: Files + Alloc + Clone + Drop>(
+    ungiven: &mut Vec<Unread, A>,
+    alloc: A,
+    rt: &R,
+    paths: &SpoolPaths<A>,
+) -> Result<PublicListing<A>, RunFault>
+    ensures { IfErr result IsFolderFault }
+{
+    match list_public(alloc, rt, paths) {
+        Ok(listing) => Ok(listing),
+        Err(fault) => {
+            note_unread(ungiven, &public_folder(), fault)?;
+            Ok(PublicListing::unknown(alloc))
+        }
+    }
+}
+
+/// Adds the files of these names in the public folder to those that an end gives, where it calls, or the spool has a folder of the
+/// caller: each that everybody may read, as long as all have so many bytes together at most. One that the system fails to read is
+/// noted.
+pub(crate) fn add_public<A: Allocator + Copy, R: Files<File = File>>(
     files: &mut Vec<Stored<A>, A>,
     ungiven: &mut Vec<Unread, A>,
     alloc: A,
     rt: &R,
     side: Side,
     paths: &SpoolPaths<A>,
+    names: &[Name],
     most: u64,
 ) -> Result<(), RunFault>
     ensures adds { OnOk result (AddsPublic files.old.items files.new.items) }
@@ -38,14 +57,6 @@ pub(crate) fn add_public<A: Allocator + Copy, R: Files<File = File> + Alloc + Cl
     if side == Side::Called && !is_known(alloc, rt, paths)? {
         return Ok(());
     }
-    let names = match list_room(alloc, rt, paths, Room::Public) {
-        Ok(names) => names,
-        // Without its names there is none to be given.
-        Err(fault) => {
-            note_unread(ungiven, &public_folder(), fault)?;
-            return Ok(());
-        }
-    };
     let mut room = most.saturating_sub(size_of(files.as_slice()));
     for name in names.iter().take(PUBLIC_NAMES_MAX) {
         add_file(files, ungiven, alloc, rt, paths, name, &mut room)?;

@@ -13,23 +13,26 @@ ghost use Rattle.uug_transfer.specs.Ends.{phase_of_end, report_of, status_of_pha
 ghost use Rattle.uug_transfer.specs.SessionFaults.{UnlessUnsettled};
 ghost use Rattle.uug_transfer.specs.Settling.{LosesNoJob, StaysInStore};
 
-use crate::arrivals::finish_arrivals;
+use crate::arrivals::{Arrivals, finish_arrivals};
 use crate::notices::mail_failed;
-use crate::public_files::add_public;
+use crate::public_files::{add_public, look_at_public};
 use crate::spool_call::{SpoolCall, paths_of};
 use crate::spool_end::SpoolEnd;
-use crate::telling::{begin_call, end_call, tell_unread};
+use crate::telling::{begin_call, end_call, tell_passed_over};
 use crate::work::read_work;
 use std::alloc::{AllocError, Allocator};
 use std::fs::File;
+use std::io::ErrorKind;
 use std::rt::{Env, Files};
 use std::time::Clock;
 use uug_disk::NoFile;
-use uug_failure::{RunFault, SystemFailure};
+use uug_failure::{Cause, Resource, RunFault, SystemFailure};
 use uug_folder::{add_failed, add_state};
 use uug_log::LocalClock;
+use uug_mailbox::PublicFolder;
 use uug_session::{Node, Place, Side, Spool};
-use uug_spool_disk::SpoolPaths;
+use uug_spool::Room;
+use uug_spool_disk::{PublicListing, SpoolPaths, linked_room};
 use uug_stream::{Output, ToolFault, write_all};
 use uug_transfer::{BYTES_MAX, EndLine, PatienceLimits, SessionFault, run_session};
 
@@ -101,10 +104,7 @@ where
     };
     let clock = LocalClock::read(rt);
     let begun = begin_call(alloc, rt, call, paths, &clock);
-    let put_off = end.unread.as_slice();
-    tell_unread(alloc, rt, call, paths, &clock, put_off, "is put off");
-    let ungiven = end.ungiven.as_slice();
-    tell_unread(alloc, rt, call, paths, &clock, ungiven, "is not given");
+    tell_passed_over(alloc, rt, call, paths, &clock, &end);
     let session = run_end(alloc, &mut end, line, limits);
     let is_left = !end.unread.is_empty();
     let answer = answer_of(
@@ -159,7 +159,7 @@ where
 }
 
 /// The end over the spool as it stands.
-fn begin<'a, 'p, A: Allocator + Copy, R: Files<File = File> + Alloc + Clone + Drop>(
+fn begin<'a, 'p, A: Allocator + Copy, R: Files<File = File> + Eprint + Alloc + Clone + Drop>(
     alloc: A,
     rt: &'a R,
     call: &SpoolCall<'_>,
@@ -169,25 +169,59 @@ fn begin<'a, 'p, A: Allocator + Copy, R: Files<File = File> + Alloc + Clone + Dr
     ensures calm { IfOk result (λ end. end.store.disk.faults.count ≡ 0) }
     ensures no_other { IfErr result IsFolderFault }
 {
-    let came = finish_arrivals(alloc, rt, paths)?;
+    refuse_links(alloc, rt, paths)?;
     let most = u64::from(call.most);
-    let mut work = match read_work(alloc, rt, paths, &place.me, most) {
-        Ok(work) => work,
-        Err(fault) => {
-            drop(came);
-            return Err(fault);
-        }
+    let mut ungiven = Vec::new(alloc);
+    let listing = look_at_public(&mut ungiven, alloc, rt, paths)?;
+    let PublicListing {
+        files,
+        folders,
+        anothers,
+        is_closed,
+    } = listing;
+    let mut public = PublicFolder {
+        folders,
+        barred: anothers,
+        is_closed,
     };
+    let Arrivals { came, aside } = finish_arrivals(alloc, rt, paths, &mut public)?;
+    let mut work = read_work(alloc, rt, paths, &place.me, most)?;
+    work.aside = aside;
     add_public(
         &mut work.files,
-        &mut work.ungiven,
+        &mut ungiven,
         alloc,
         rt,
         call.side,
         paths,
+        files.as_slice(),
         most,
     )?;
-    Ok(SpoolEnd::begin(alloc, rt, call, place, paths, came, work)?)
+    work.ungiven = ungiven;
+    Ok(SpoolEnd::begin(alloc, rt, call, place, paths, came, work, public)?)
+}
+
+/// A link in the place of a folder of the spool's own could lead anywhere: there is no session then, and it is said which one that is.
+fn refuse_links<A: Allocator + Copy, R: Files + Eprint>(
+    alloc: A,
+    rt: &R,
+    paths: &SpoolPaths<A>,
+) -> Result<(), RunFault>
+    ensures { IfErr result IsFolderFault }
+{
+    let Some(room) = linked_room(alloc, rt, paths)? else {
+        return Ok(());
+    };
+    let folder = match room {
+        Room::Marked => ".Received",
+        _ => ".Temp",
+    };
+    let system = paths.system().as_str();
+    let line = format!(in alloc; "uucpair: {folder}/{system} is a link: take it away\n")?;
+    let line = line.as_str();
+    let _ = eprint!(rt; "{line}");
+    let cause = Cause::Refused(ErrorKind::NotADirectory, None);
+    Err(RunFault::System(paths.end_dir().failure(Resource::Dir, cause)))
 }
 
 /// What the program answers when the session has ended so, where jobs were put off that could not be read, or were not. The report

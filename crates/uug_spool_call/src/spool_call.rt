@@ -4,6 +4,7 @@ ghost use Rattle.std.specs.Prelude.{◌≡◌, IfOk, MatchOption, None, Some, st
 ghost use Rattle.uug_spool_call.specs.PublicNames.{folder_of, public_beside, public_path, without_slash};
 
 use std::alloc::{AllocError, Allocator};
+use uug_mailbox::split_last;
 use uug_session::Side;
 use uug_spool_disk::SpoolPaths;
 use uug_talk::Name;
@@ -87,15 +88,4 @@ fn folder_of(spool: &str) -> Option<&str>
     }
     let (folder, name) = split_last(spool)?;
     if name.is_empty() { None } else { Some(folder) }
-}
-
-/// What stands in front of the last slash of a path, and what stands behind it.
-fn split_last(path: &str) -> Option<(&str, &str)>
-    ensures { MatchOption result (rsplit_once slash path.now ≡ None)
-        (λ parts. rsplit_once slash path.now ≡ Some (parts.0.now, parts.1.now)) }
-{
-    match path.rsplit_once('/') {
-        Some((folder, name)) => Some((folder, name)),
-        None => None,
-    }
 }

@@ -1,8 +1,12 @@
 //! An end over a spool, whose session begins.
-ghost use Rattle.std.specs.Prelude.{◌≡◌, ◌<◌, [], IfOk, IsSome, take};
+ghost use Rattle.std.specs.Prelude.{◌≡◌, ◌<◌, [], IfOk, IsSome, map, min, take};
 ghost use Rattle.uug_conversation.specs.Jobs.{at_start};
 ghost use Rattle.uug_conversation.specs.declared.queue.TheConstants.{JOBS_MAX};
+ghost use Rattle.uug_conversation.specs.MemoryHoldings.{kept_of};
+ghost use Rattle.uug_mailbox.specs.MailHoldings.{mail_holdings};
 ghost use Rattle.uug_mailbox.specs.OpenLines.{jobs_of};
+ghost use Rattle.uug_mailbox.specs.Places.{shown_public};
+ghost use Rattle.uug_mailbox.specs.Placing.{came_of};
 ghost use Rattle.uug_mailbox.specs.WorkStores.{lines_of};
 ghost use Rattle.uug_task.specs.Tasks.{HasBegunAt};
 ghost use Rattle.uug_transfer.specs.BufferedNodes.{node_in, spool_in};
@@ -13,8 +17,7 @@ use std::alloc::{AllocError, Allocator};
 use std::fs::File;
 use std::rt::Files;
 use uug_failure::SystemFailure;
-use uug_folder::{FolderSpool, LocalNames};
-use uug_mailbox::{Came, Execution, SpoolFolder, WorkStore, queue_of};
+use uug_mailbox::{Came, Execution, MailSpool, PublicFolder, SpoolFolder, WorkStore, queue_of};
 use uug_session::{Place, Queue, Spool, Stored};
 use uug_spool_disk::{SpoolDisk, SpoolPaths};
 use uug_talk::Name;
@@ -22,7 +25,7 @@ use uug_task::make_node;
 use uug_transfer::{BufferedNode, FaultInjector};
 
 /// The files of an end over a spool.
-pub(crate) type SpoolFiles<'a, 'p, R, A> = LocalNames<SpoolFolder<SpoolDisk<'a, 'p, R, A>, A>, A>;
+pub(crate) type SpoolFiles<'a, 'p, R, A> = MailSpool<SpoolDisk<'a, 'p, R, A>, A>;
 
 /// An end over a spool.
 #[derive(Drop)]
@@ -39,6 +42,8 @@ pub(crate) struct SpoolEnd<'a, 'p, R: Files<File = File>, A: Allocator + Copy> {
     pub(crate) unread: Vec<Unread, A>,
     /// What is not given since it can't be read.
     pub(crate) ungiven: Vec<Unread, A>,
+    /// What had come, and was set aside.
+    pub(crate) aside: Vec<Unread, A>,
 }
 
 impl<'a, 'p, R: Files<File = File>, A: Allocator + Copy> SpoolEnd<'a, 'p, R, A> {
@@ -51,6 +56,7 @@ impl<'a, 'p, R: Files<File = File>, A: Allocator + Copy> SpoolEnd<'a, 'p, R, A> 
         paths: &'p SpoolPaths<A>,
         came: Vec<Came<A>, A>,
         work: Work<A>,
+        public: PublicFolder<A>,
     ) -> Result<Self, AllocError>
         ensures calm { IfOk result (λ end. end.store.disk.faults.count ≡ 0) }
         ensures lines { IfOk result (λ end. lines_of end.store ≡ work.lines.items) }
@@ -59,11 +65,12 @@ impl<'a, 'p, R: Files<File = File>, A: Allocator + Copy> SpoolEnd<'a, 'p, R, A> 
         ensures unread { IfOk result (λ end. end.unread ≡ work.unread) }
         ensures ungiven { IfOk result (λ end. end.ungiven ≡ work.ungiven) }
         ensures begun { IfOk result (λ end. HasBegunAt call.now.side place
-            (at_start (take JOBS_MAX (jobs_of work.lines.items)) [] []) (node_in end.buffered)) }
+            (at_start (take (min work.offered JOBS_MAX) (jobs_of work.lines.items)) [] []) (node_in end.buffered)) }
     {
-        let queue = match queue_of(alloc, work.lines.as_slice()) {
+        let queue = match queue_of(alloc, work.lines.as_slice(), work.offered) {
             Ok(queue) => queue,
             Err(AllocError) => {
+                drop(public);
                 drop(came);
                 drop(work);
                 return Err(AllocError);
@@ -72,27 +79,33 @@ impl<'a, 'p, R: Files<File = File>, A: Allocator + Copy> SpoolEnd<'a, 'p, R, A> 
         let Work {
             names,
             lines,
+            texts,
             files,
             executions,
             unread,
             ungiven,
+            aside,
+            ..
         } = work;
-        let spool = files_over(alloc, rt, call, paths, came, files);
+        let spool = files_over(alloc, rt, call, paths, came, files, public);
         match at_line(alloc, call, place, queue, spool) {
             Ok(buffered) => Ok(SpoolEnd {
                 buffered,
-                store: WorkStore::new(alloc, SpoolDisk::new(alloc, rt, paths), lines),
+                store: WorkStore::new(alloc, SpoolDisk::new(alloc, rt, paths), lines, texts),
                 names,
                 executions,
                 unread,
                 ungiven,
+                aside,
             }),
             Err(AllocError) => {
                 drop(lines);
+                drop(texts);
                 drop(names);
                 drop(executions);
                 drop(unread);
                 drop(ungiven);
+                drop(aside);
                 Err(AllocError)
             }
         }
@@ -102,7 +115,7 @@ impl<'a, 'p, R: Files<File = File>, A: Allocator + Copy> SpoolEnd<'a, 'p, R, A> 
     pub(crate) fn failure(&self) -> Option<SystemFailure>
         ensures { 0 < self.now.store.disk.faults.count → IsSome result }
     {
-        let folder = self.buffered.node().spool().files().folder();
+        let folder = &self.buffered.node().spool().folder;
         folder.disk.failure().or(self.store.disk.failure())
     }
 }
@@ -115,16 +128,21 @@ fn files_over<'a, 'p, R: Files<File = File>, A: Allocator + Copy>(
     paths: &'p SpoolPaths<A>,
     came: Vec<Came<A>, A>,
     files: Vec<Stored<A>, A>,
+    public: PublicFolder<A>,
 ) -> SpoolFiles<'a, 'p, R, A>
-    ensures lenient { result.lenient ≡ call.now.is_lenient }
-    ensures digests { result.digests ≡ call.now.tells_digests }
-    ensures files { result.files.files ≡ files.items }
+    ensures holdings { ⟦<SpoolFiles<'a, 'p, R, A> as Spool>⟧.holdings result
+        ≡ mail_holdings call.now.is_lenient call.now.tells_digests (shown_public public) (map kept_of files.items) }
+    ensures came { came_of result.folder ≡ came.items }
 {
     let folder = SpoolFolder::new(SpoolDisk::new(alloc, rt, paths), came);
-    let mut spool = LocalNames::new(alloc, FolderSpool::new(alloc, files, folder));
-    spool.set_lenient(call.is_lenient);
-    spool.set_digests(call.tells_digests);
-    spool
+    MailSpool::new(
+        alloc,
+        files,
+        public,
+        folder,
+        call.is_lenient,
+        call.tells_digests,
+    )
 }
 
 /// An end with these jobs and files at its line, whose session begins.

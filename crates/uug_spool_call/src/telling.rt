@@ -103,8 +103,25 @@ pub fn tell_locked<A: Allocator + Copy, R: Files<File = File> + Clock + Env + Al
     }
 }
 
+/// Tells what is put off, what is not given, and what was set aside.
+pub(crate) fn tell_passed_over<A: Allocator + Copy, R: Files<File = File> + Clock + Eprint>(
+    alloc: A,
+    rt: &R,
+    call: &SpoolCall<'_>,
+    paths: &SpoolPaths<A>,
+    clock: &LocalClock,
+    end: &SpoolEnd<'_, '_, R, A>,
+) {
+    let put_off = end.unread.as_slice();
+    tell_unread(alloc, rt, call, paths, clock, put_off, "is put off");
+    let ungiven = end.ungiven.as_slice();
+    tell_unread(alloc, rt, call, paths, clock, ungiven, "is not given");
+    let aside = end.aside.as_slice();
+    tell_unread(alloc, rt, call, paths, clock, aside, "is set aside");
+}
+
 /// Tells, in the log and to a person who listens, of each file that can't be read, what becomes of it.
-pub(crate) fn tell_unread<A: Allocator + Copy, R: Files<File = File> + Clock + Eprint>(
+fn tell_unread<A: Allocator + Copy, R: Files<File = File> + Clock + Eprint>(
     alloc: A,
     rt: &R,
     call: &SpoolCall<'_>,
@@ -178,7 +195,7 @@ pub(crate) fn end_call<A: Allocator + Copy, R: Files<File = File> + Clock>(
     let sent = tell_sent(alloc, rt, call, paths, clock, end);
     tell_failed(alloc, rt, call, paths, clock, end);
     tell_unoffered(alloc, rt, call, paths, clock, end);
-    let folder = end.buffered.node().spool().files().folder();
+    let folder = &end.buffered.node().spool().folder;
     let taken = tell_arrived(alloc, rt, call, paths, clock, folder.disk.arrived());
     tell_status(alloc, rt, call, paths, phase);
     let seconds = seconds_since_1970(rt).saturating_sub(begun);
@@ -201,7 +218,7 @@ fn tidy<A: Allocator + Copy, R: Files<File = File>>(
     for name in end.names.as_slice() {
         let _ = settle_file(&mut disk, name, end.store.lines());
     }
-    let marks = end.buffered.node().spool().files().folder().marks();
+    let marks = end.buffered.node().spool().folder.marks();
     let _ = remove_markers(&mut disk, &marks);
 }
 
@@ -269,7 +286,8 @@ fn tell_failed<A: Allocator + Copy, R: Files<File = File> + Clock>(
     }
 }
 
-/// Tells of each line that stays since no session offers it: one with a wildcard or with a name in quotes, or that is none.
+/// Tells, once of each C. file, that a line stays since no session offers it: one with a wildcard or with a name in quotes, or that is
+/// none.
 fn tell_unoffered<A: Allocator + Copy, R: Files<File = File> + Clock>(
     alloc: A,
     rt: &R,
@@ -278,11 +296,13 @@ fn tell_unoffered<A: Allocator + Copy, R: Files<File = File> + Clock>(
     clock: &LocalClock,
     end: &SpoolEnd<'_, '_, R, A>,
 ) {
+    let mut last: Option<Name> = None;
     for line in end.store.lines() {
         // One whose data can't be read was told already.
-        if line.job.is_some() || line.copy.is_some() {
+        if line.job.is_some() || line.copy.is_some() || last == Some(line.file) {
             continue;
         }
+        last = Some(line.file);
         let file = line.file.as_str();
         if let Ok(text) = format!(in alloc; "{file}: a line that can't be sent stays") {
             let event = LogEvent::Fault(text.as_bytes());

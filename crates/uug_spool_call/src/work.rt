@@ -1,9 +1,11 @@
 //! What waits for a system in its spool.
-ghost use Rattle.std.specs.Prelude.{◌≡◌, ◌≤◌, ◌++◌, IfErr, IfOk, MatchOption, None, Some, codes, map};
+ghost use Rattle.std.specs.Prelude.{◌≡◌, ◌≤◌, ◌++◌, IfErr, IfOk, MatchOption, None, OnOk, Some, codes, false, map, true};
 ghost use Rattle.uug_failure.specs.Faults.{IsFolderFault};
 ghost use Rattle.uug_mailbox.specs.HeldLines.{held_lines};
 ghost use Rattle.uug_mailbox.specs.OpenLines.{file_lines};
 ghost use Rattle.uug_spool_call.specs.PublicNames.{behind_public, named_job, named_line, named_lines, public_name};
+ghost use Rattle.uug_spool_call.specs.Budgets.{budget_after, budget_fits};
+ghost use Rattle.uug_spool_call.specs.GivenData.{AddsNamed, data_name};
 ghost use Rattle.uug_talk.specs.Lines.{lines as lines_of_text};
 ghost use Rattle.uug_talk.specs.Name.{name_of};
 ghost use Rattle.uug_talk.specs.declared.mode.TheConstants.{MODE_MAX};
@@ -13,11 +15,13 @@ use std::alloc::{AllocError, Allocator};
 use std::cmp::Ordering;
 use std::rt::Files;
 use uug_failure::{Cause, RunFault};
-use uug_mailbox::{Execution, OpenLine, add_file, held_lines, read_execution};
+use uug_mailbox::{
+    CommandText, Execution, OpenLine, add_file, held_lines, read_execution, read_offer, text_name,
+};
 use uug_session::{JOBS_MAX, Job, Stored};
 use uug_spool::{
-    Command, Fields, Room, SentFile, Spot, data_spot, execution_temp, execution_text, grade_of,
-    has_option, read_command, work_order,
+    Command, Fields, Room, SentFile, Spot, data_spot, execution_text, grade_of, has_option,
+    read_command, work_order,
 };
 use uug_spool_disk::{SpoolPaths, list_room, read_source, read_spot, read_whole};
 use uug_talk::{FILE_MAX, NAME_MAX, Name, split_line};
@@ -28,11 +32,50 @@ const COMMANDS_MAX: usize = 1_048_576;
 /// Only this system may read the text of a command that is run with a file.
 const TEXT_MODE: u16 = 0o600;
 
-/// A file that can't be read now, and why: a C. file, the data of a job, or one of the public folder.
+/// A file that can't be read now, or not be put in its place, and why: a C. file, the data of a job, or one of the public folder.
 #[derive(Clone, Copy)]
 pub(crate) struct Unread {
     pub(crate) name: Name,
     pub(crate) cause: Cause,
+}
+
+/// How much a session may still offer.
+#[derive(Clone, Copy)]
+struct Budget {
+    /// So many bytes.
+    bytes: u64,
+    /// So many jobs.
+    jobs: usize,
+    /// Whether nothing is offered yet.
+    is_first: bool,
+    /// Whether nothing more is.
+    is_full: bool,
+}
+
+impl Budget {
+    /// That of a session whose files have so many bytes together at most.
+    fn of(bytes: u64) -> Self
+        ensures { result ≡ record { bytes = bytes; jobs = JOBS_MAX; is_first = true; is_full = false } }
+    {
+        Budget {
+            bytes,
+            jobs: JOBS_MAX,
+            is_first: true,
+            is_full: false,
+        }
+    }
+
+    /// Whether a job with a file of this size is offered still. The first is; behind one that is not, none is.
+    fn take(&mut self, size: u64) -> bool
+        ensures { (result ≡ budget_fits self.old size) × (self.new ≡ budget_after self.old size) }
+    {
+        let fits = self.is_first || (size <= self.bytes && self.jobs > 0);
+        self.is_first = false;
+        self.bytes = self.bytes.saturating_sub(size);
+        self.jobs = self.jobs.saturating_sub(1);
+        self.is_full = self.is_full || !fits;
+        fits
+    }
 }
 
 /// What waits for a system: the lines of its C. files that are not over, and the files that these send.
@@ -41,6 +84,10 @@ pub(crate) struct Work<A: Allocator> {
     /// The names of the C. files that were read.
     pub(crate) names: Vec<Name, A>,
     pub(crate) lines: Vec<OpenLine, A>,
+    /// Their texts.
+    pub(crate) texts: Vec<CommandText<A>, A>,
+    /// So many of the jobs of these lines are offered, from the front.
+    pub(crate) offered: usize,
     pub(crate) files: Vec<Stored<A>, A>,
     /// The commands that these lines have run.
     pub(crate) executions: Vec<Execution, A>,
@@ -48,6 +95,8 @@ pub(crate) struct Work<A: Allocator> {
     pub(crate) unread: Vec<Unread, A>,
     /// What is not given since it can't be read.
     pub(crate) ungiven: Vec<Unread, A>,
+    /// What had come, and was set aside.
+    pub(crate) aside: Vec<Unread, A>,
 }
 
 impl<A: Allocator + Copy> Work<A> {
@@ -56,16 +105,19 @@ impl<A: Allocator + Copy> Work<A> {
         Work {
             names: Vec::new(alloc),
             lines: Vec::new(alloc),
+            texts: Vec::new(alloc),
+            offered: 0,
             files: Vec::new(alloc),
             executions: Vec::new(alloc),
             unread: Vec::new(alloc),
             ungiven: Vec::new(alloc),
+            aside: Vec::new(alloc),
         }
     }
 }
 
-/// Reads what waits for a system, C. file after C. file, as long as the files have so many bytes together at most; the first C.
-/// file always. What this node is called stands in the texts of commands.
+/// Reads what waits for a system, C. file after C. file and line after line, as long as the files that are offered have so many
+/// bytes together at most; the first file always. What this node is called stands in the texts of commands.
 pub(crate) fn read_work<A: Allocator + Copy, R: Files + Alloc + Clone + Drop>(
     alloc: A,
     rt: &R,
@@ -78,9 +130,12 @@ pub(crate) fn read_work<A: Allocator + Copy, R: Files + Alloc + Clone + Drop>(
     let names = work_names(alloc, rt, paths)?;
     let there = data_names(alloc, rt, paths)?;
     let mut work = Work::none(alloc);
-    let mut room = most;
+    let mut budget = Budget::of(most);
     for name in names.as_slice() {
-        let fits = add_commands(
+        if budget.is_full {
+            break;
+        }
+        add_commands(
             &mut work,
             alloc,
             rt,
@@ -88,11 +143,8 @@ pub(crate) fn read_work<A: Allocator + Copy, R: Files + Alloc + Clone + Drop>(
             me,
             name,
             there.as_slice(),
-            &mut room,
+            &mut budget,
         )?;
-        if !fits {
-            break;
-        }
     }
     Ok(work)
 }
@@ -139,8 +191,8 @@ fn data_names<A: Allocator + Copy, R: Files + Alloc + Clone + Drop>(
     Ok(names)
 }
 
-/// Adds what waits in a C. file, if there is room for it. One that is gone by now is none, and one that can't be read is put off, as
-/// is one with a file that a person named and that can't be read now.
+/// Adds what waits in a C. file. One that is gone by now is none, and one that can't be read is put off, as is one with a file that a
+/// person named and that can't be read now.
 fn add_commands<A: Allocator + Copy, R: Files>(
     work: &mut Work<A>,
     alloc: A,
@@ -149,26 +201,18 @@ fn add_commands<A: Allocator + Copy, R: Files>(
     me: &Name,
     name: &Name,
     there: &[Name],
-    room: &mut u64,
-) -> Result<bool, RunFault>
+    budget: &mut Budget,
+) -> Result<(), RunFault>
     ensures { IfErr result IsFolderFault }
 {
-    let mut more = match read_commands(alloc, rt, paths, me, name, there) {
-        Ok(Some(more)) => more,
-        Ok(None) => return Ok(true),
-        Err(fault) => {
-            note_unread(&mut work.unread, name, fault)?;
-            return Ok(true);
+    match read_commands(alloc, rt, paths, me, name, there, budget) {
+        Ok(Some(mut more)) => {
+            append(work, &mut more)?;
+            Ok(())
         }
-    };
-    let size = size_of(more.files.as_slice());
-    let is_first = work.lines.is_empty();
-    if !is_first && (size > *room || work.lines.len().saturating_add(more.lines.len()) > JOBS_MAX) {
-        return Ok(false);
+        Ok(None) => Ok(()),
+        Err(fault) => note_unread(&mut work.unread, name, fault),
     }
-    *room = room.saturating_sub(size);
-    append(work, &mut more)?;
-    Ok(true)
 }
 
 /// What waits in a C. file, if it is there. One that is too long is a fault.
@@ -179,6 +223,7 @@ fn read_commands<A: Allocator + Copy, R: Files>(
     me: &Name,
     name: &Name,
     there: &[Name],
+    budget: &mut Budget,
 ) -> Result<Option<Work<A>>, RunFault>
     ensures { IfErr result IsFolderFault }
 {
@@ -189,21 +234,49 @@ fn read_commands<A: Allocator + Copy, R: Files>(
     let Some(text) = read_whole(alloc, rt, paths, &spot, COMMANDS_MAX)? else {
         return Ok(None);
     };
-    let text = text.as_slice();
     let mut more = Work::none(alloc);
-    add_files(&mut more, alloc, rt, paths, me, text, there)?;
+    let front = add_files(
+        &mut more,
+        alloc,
+        rt,
+        paths,
+        me,
+        text.as_slice(),
+        there,
+        budget,
+    )?;
     let unread = names_of(alloc, more.unread.as_slice())?;
     let public = paths.public().as_bytes();
-    more.lines = lines_in(alloc, name, text, there, unread.as_slice(), public)?;
+    more.lines = lines_in(
+        alloc,
+        name,
+        text.as_slice(),
+        there,
+        unread.as_slice(),
+        public,
+    )?;
+    more.offered = count_jobs(more.lines.as_slice(), front);
+    more.texts.reserve(1)?;
+    more.texts.push_reserved(CommandText { name: *name, text });
     more.names.reserve(1)?;
     more.names.push_reserved(*name);
     Ok(Some(more))
+}
+
+/// So many jobs have the lines before which less than so many stand in their file.
+fn count_jobs(lines: &[OpenLine], front: usize) -> usize {
+    lines
+        .iter()
+        .filter(|line| line.number < front && line.job.is_some())
+        .count()
 }
 
 /// Appends what waits in one C. file to what waits in those before.
 fn append<A: Allocator>(work: &mut Work<A>, more: &mut Work<A>) -> Result<(), AllocError> {
     work.names.append(&mut more.names)?;
     work.lines.append(&mut more.lines)?;
+    work.texts.append(&mut more.texts)?;
+    work.offered = work.offered.saturating_add(more.offered);
     work.files.append(&mut more.files)?;
     work.executions.append(&mut more.executions)?;
     work.unread.append(&mut more.unread)?;
@@ -254,7 +327,7 @@ fn lines_in<A: Allocator + Copy>(
     public: &[u8],
 ) -> Result<Vec<OpenLine, A>, AllocError>
     ensures { IfOk result (λ lines. lines.items ≡ held_lines unread.now
-        (named_lines public.now (file_lines there.now name.now (lines_of_text text.now)))) }
+        (named_lines public.now (file_lines there.now name.now 0 (lines_of_text text.now)))) }
 {
     let mut lines = Vec::new(alloc);
     add_file(&mut lines, name, text, there)?;
@@ -286,6 +359,7 @@ fn named_line(line: &OpenLine, public: &[u8]) -> OpenLine
     };
     OpenLine {
         file: line.file,
+        number: line.number,
         copy: line.copy,
         job,
     }
@@ -361,7 +435,8 @@ pub(crate) fn size_of<A: Allocator>(files: &[Stored<A>]) -> u64 {
     size
 }
 
-/// Adds the files that the lines of a C. file send, and the commands that they have run.
+/// Adds the files that the lines of a C. file send, and the commands that they have run, as long as they are offered. So many lines
+/// are.
 fn add_files<A: Allocator + Copy, R: Files>(
     work: &mut Work<A>,
     alloc: A,
@@ -370,18 +445,24 @@ fn add_files<A: Allocator + Copy, R: Files>(
     me: &Name,
     text: &[u8],
     there: &[Name],
-) -> Result<(), RunFault>
+    budget: &mut Budget,
+) -> Result<usize, RunFault>
     ensures { IfErr result IsFolderFault }
 {
     let mut rest = text;
+    let mut number = 0;
     while let Some((line, behind)) = split_line(rest) {
-        add_line(work, alloc, rt, paths, me, line, there)?;
+        add_line(work, alloc, rt, paths, me, line, there, budget)?;
+        if budget.is_full {
+            return Ok(number);
+        }
         rest = behind;
+        number += 1;
     }
-    Ok(())
+    Ok(number)
 }
 
-/// Adds the files that a line sends, and the command that it has run.
+/// Adds the files that a line sends, and the command that it has run, if a session offers it.
 fn add_line<A: Allocator + Copy, R: Files>(
     work: &mut Work<A>,
     alloc: A,
@@ -390,30 +471,38 @@ fn add_line<A: Allocator + Copy, R: Files>(
     me: &Name,
     line: &[u8],
     there: &[Name],
+    budget: &mut Budget,
 ) -> Result<(), RunFault>
     ensures { IfErr result IsFolderFault }
 {
+    if read_offer(line).is_err() {
+        return Ok(());
+    }
     match read_command(line) {
         Ok(Command::Send(fields, file)) => {
-            let _ = add_sent(work, alloc, rt, paths, &fields, &file, there)?;
+            let _ = add_sent(work, alloc, rt, paths, &fields, &file, there, budget)?;
         }
         Ok(Command::Execute(fields, file, command)) => {
             // Without its data an execution file would wait at the other system for ever.
-            if add_sent(work, alloc, rt, paths, &fields, &file, there)? {
+            if add_sent(work, alloc, rt, paths, &fields, &file, there, budget)? {
                 add_text(&mut work.files, alloc, me, &fields, &file, command)?;
+                budget.take(0);
             }
             if let Some(execution) = read_execution(line) {
                 work.executions.reserve(1)?;
                 work.executions.push_reserved(execution);
             }
         }
+        Ok(Command::Request(_)) => {
+            budget.take(0);
+        }
         _ => (),
     }
     Ok(())
 }
 
-/// Adds the file that a line sends: its copy, or the file that a person named. A copy that can't be read is put off; what a person
-/// named, and this program may not read, is gone, as far as this system is concerned. Whether there is one.
+/// Adds the file that a line sends, if it is offered: its copy, or the file that a person named. A copy that can't be read is put
+/// off; what a person named, and this program may not read, is gone, as far as this system is concerned. Whether there is one.
 fn add_sent<A: Allocator + Copy, R: Files>(
     work: &mut Work<A>,
     alloc: A,
@@ -422,34 +511,52 @@ fn add_sent<A: Allocator + Copy, R: Files>(
     fields: &Fields<'_>,
     file: &SentFile<'_>,
     there: &[Name],
+    budget: &mut Budget,
 ) -> Result<bool, RunFault>
-    ensures { IfErr result IsFolderFault }
+    ensures named { OnOk result (AddsNamed
+        (data_name fields.now.options.now fields.now.source.now file.now.temp.now)
+        work.old.files.items work.new.files.items) }
+    ensures no_other { IfErr result IsFolderFault }
 {
-    let Ok(name) = Name::new(file.temp) else {
+    let is_copy = has_option(fields.options, b'C');
+    let word = if is_copy { file.temp } else { fields.source };
+    let Ok(name) = Name::new(word) else {
         return Ok(false);
     };
-    let found = if !has_option(fields.options, b'C') {
+    let found = if !is_copy {
         Ok(read_source(alloc, rt, paths, fields.source, FILE_MAX)?)
-    } else if there
-        .iter()
-        .any(|other| other.as_bytes() == name.as_bytes())
-    {
+    } else if is_among(there, &name) {
         read_spot(alloc, rt, paths, &data_spot(&name), FILE_MAX)
     } else {
         Ok(None)
     };
     match found {
         Ok(Some(bytes)) => {
+            if !budget.take(bytes.len() as u64) {
+                return Ok(false);
+            }
             work.files.reserve(1)?;
             work.files.push_reserved(stored(name, file.mode, bytes));
             Ok(true)
         }
-        Ok(None) => Ok(false),
+        Ok(None) => {
+            if !is_copy {
+                budget.take(0);
+            }
+            Ok(false)
+        }
         Err(fault) => {
             note_unread(&mut work.unread, &name, fault)?;
             Ok(false)
         }
     }
+}
+
+/// Whether this is one of these names.
+fn is_among(names: &[Name], name: &Name) -> bool {
+    names
+        .iter()
+        .any(|other| other.as_bytes() == name.as_bytes())
 }
 
 /// Adds the execution file of a line that has a command run.
@@ -461,7 +568,7 @@ fn add_text<A: Allocator + Copy>(
     file: &SentFile<'_>,
     command: &[u8],
 ) -> Result<(), AllocError> {
-    let Some(name) = execution_temp(file.temp) else {
+    let Some(name) = text_name(fields.options, fields.target, file.temp) else {
         return Ok(());
     };
     let bytes = execution_text(alloc, me, fields, file, command)?;

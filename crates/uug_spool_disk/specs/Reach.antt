@@ -10,3 +10,14 @@ is_out_of_reach kinds.PermissionDenied = true
 is_out_of_reach kinds.FilesystemLoop = true
 is_out_of_reach kinds.InvalidFilename = true
 is_out_of_reach _ = false
+
+-- Which of them say that a file can't be put at a path, whatever is tried.
+abbrev pub is_no_place : ErrorKind → Bool
+is_no_place kinds.IsADirectory = true
+is_no_place kinds.NotADirectory = true
+is_no_place kinds.DirectoryNotEmpty = true
+is_no_place kinds.PermissionDenied = true
+is_no_place kinds.ReadOnlyFilesystem = true
+is_no_place kinds.CrossesDevices = true
+is_no_place kinds.InvalidFilename = true
+is_no_place _ = false

@@ -4,7 +4,8 @@ use crate::spool_files::read_file;
 use crate::spool_paths::SpoolPaths;
 use std::alloc::Allocator;
 use std::fs::{File, OpenFile, OpenOptions};
-use std::io::Write;
+use std::io::{ErrorKind, Write};
+use std::os::unix::fs::FileTypeExt;
 use std::rt::Files;
 use std::{fs, io};
 use uug_spool::{Status, read_status, status_line};
@@ -45,10 +46,25 @@ pub fn write_status_file<A: Allocator + Copy, R: Files>(
     fs::rename(rt, part.as_str(), path.as_str())
 }
 
-/// Appends a line to the file at a path, by one write.
+/// Appends a line to the file at a path, by one write. A pipe with a name of its own is none: nobody may read it.
 pub fn append_line<R: Files<File = File>>(rt: &R, path: &str, line: &[u8]) -> io::Result<()> {
+    if is_named_pipe(rt, path) {
+        return Err(io::Error::from(ErrorKind::Unsupported));
+    }
     let mut file = OpenOptions::new().append(true).create(true).open(rt, path)?;
     file.write_all(line)
+}
+
+/// Whether there is a pipe at a path, which would be waited for when it is opened. One that this process has already, as its
+/// standard output, is none of these.
+pub(crate) fn is_named_pipe<R: Files>(rt: &R, path: &str) -> bool {
+    if path.starts_with("/dev/") || path.starts_with("/proc/") {
+        return false;
+    }
+    match fs::metadata(rt, path) {
+        Ok(seen) => seen.file_type().is_fifo(),
+        Err(_) => false,
+    }
 }
 
 /// The number of this process, or 0 where the system does not tell it.

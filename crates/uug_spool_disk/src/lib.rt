@@ -3,14 +3,17 @@
 
 mod call_files;
 mod moments;
+mod public_listing;
 mod spool_disk;
 mod spool_files;
 mod spool_paths;
 
 pub use call_files::{append_line, process_number, read_status_file, write_status_file};
 pub use moments::seconds_since_1970;
-pub use spool_disk::{Arrived, SpoolDisk};
+pub use public_listing::{PublicListing, list_public};
+pub use spool_disk::{Arrived, Preserved, SpoolDisk};
 pub use spool_files::{
-    is_known, is_there, list_room, read_public, read_source, read_spot, read_whole,
+    is_known, is_no_place, is_there, linked_room, list_room, read_public, read_source, read_spot,
+    read_whole,
 };
 pub use spool_paths::SpoolPaths;

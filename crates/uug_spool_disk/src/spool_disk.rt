@@ -5,6 +5,8 @@ ghost use Rattle.uug_spool.specs.declared.spool_names.Room.TheVariants as rooms;
 ghost use Rattle.uug_spool.specs.declared.spool_names.Spot.{Spot};
 ghost use Rattle.uug_spool.specs.Operations.{HasFault};
 
+use crate::call_files::is_named_pipe;
+use crate::spool_files::is_found;
 use crate::spool_paths::SpoolPaths;
 use std::alloc::Allocator;
 use std::fs::{File, OpenFile, OpenOptions};
@@ -14,9 +16,13 @@ use std::rt::Files;
 use std::{fs, io};
 use uug_failure::{Cause, Faults, Resource, SystemFailure};
 use uug_spool::{Disk, DiskFailed, Room, Spot, spot_of};
+use uug_talk::Name;
 
 /// The name, in the folder of what is preserved, of the file that tells of jobs that have failed.
 const TOLD: &str = "failed";
+
+/// So many preserved files may have one name, but for the number behind it.
+const PRESERVED_MAX: u32 = 10_000;
 
 /// The mode of a file that everybody may read, and write where the mask of the process lets them.
 const PUBLIC_MODE: u32 = 0o666;
@@ -33,6 +39,15 @@ pub struct Arrived {
     pub size: u64,
 }
 
+/// A file that was preserved.
+#[derive(Drop)]
+pub struct Preserved<A: Allocator> {
+    /// What it was called before.
+    pub name: Name,
+    /// Its path.
+    pub path: String<A>,
+}
+
 /// The folders of a spool on a disk. A folder that lacks is made where a file comes into it.
 #[derive(Drop)]
 pub struct SpoolDisk<'a, 'p, R, A: Allocator> {
@@ -43,6 +58,7 @@ pub struct SpoolDisk<'a, 'p, R, A: Allocator> {
     /// So many bytes has the file that came last, beside its place.
     size: u64,
     arrived: Vec<Arrived, A>,
+    preserved: Vec<Preserved<A>, A>,
 }
 
 impl<'a, 'p, R: Files<File = File>, A: Allocator + Copy> SpoolDisk<'a, 'p, R, A> {
@@ -57,6 +73,7 @@ impl<'a, 'p, R: Files<File = File>, A: Allocator + Copy> SpoolDisk<'a, 'p, R, A>
             faults: Faults::none(),
             size: 0,
             arrived: Vec::new(alloc),
+            preserved: Vec::new(alloc),
         }
     }
 }
@@ -74,11 +91,23 @@ impl<R, A: Allocator> SpoolDisk<'_, '_, R, A> {
         self.arrived.as_slice()
     }
 
+    /// The files that were preserved, as far as there was memory to keep that.
+    pub fn preserved(&self) -> &[Preserved<A>] {
+        self.preserved.as_slice()
+    }
+
+    /// Keeps that a file was preserved.
+    fn note_preserved(&mut self, name: &Name, path: String<A>)
+        ensures { self.new.faults ≡ self.old.faults }
+    {
+        let _ = self.preserved.push(Preserved { name: *name, path });
+    }
+
     /// Keeps that a file has moved, if it was one that came.
     fn note_moved(&mut self, from: &Spot, to: &Spot)
         ensures { self.new.faults ≡ self.old.faults }
     {
-        if from.room == Room::Temporary {
+        if from.room == Room::Temporary && to.room != Room::Commands {
             let arrived = Arrived {
                 spot: *to,
                 size: self.size,
@@ -137,9 +166,15 @@ impl<R: Files<File = File>, A: Allocator + Copy> Disk for SpoolDisk<'_, '_, R, A
         self.answer(moved)
     }
 
+    /// What has that place already stays there, and this gets the next free name.
     fn put_away(&mut self, from: &Spot, to: &Spot) -> Result<(), DiskFailed> {
-        let moved = move_file(self.alloc, self.rt, self.paths, from, to);
-        self.answer(unless_gone(moved))
+        match preserve_file(self.alloc, self.rt, self.paths, from, to) {
+            Ok(path) => {
+                self.note_preserved(&from.name, path);
+                Ok(())
+            }
+            Err(error) => self.answer(unless_gone(Err(error))),
+        }
     }
 
     fn unlink(&mut self, spot: &Spot) -> Result<(), DiskFailed> {
@@ -247,7 +282,8 @@ fn see_file<A: Allocator + Copy, R: Files>(
     File::open(rt, path.as_str())?.sync_all()
 }
 
-/// Gives a file another place. The folder there is made if it lacks.
+/// Gives a file another place. The folder there is made if it lacks. A C. file only takes the place of one that is still there:
+/// `uustat` may have taken that away meanwhile, and with it the job.
 fn move_file<A: Allocator + Copy, R: Files>(
     alloc: A,
     rt: &R,
@@ -257,14 +293,75 @@ fn move_file<A: Allocator + Copy, R: Files>(
 ) -> io::Result<()> {
     let source = paths.file(alloc, from)?;
     let target = paths.file(alloc, to)?;
-    match fs::rename(rt, source.as_str(), target.as_str()) {
+    if to.room == Room::Commands && !is_found(fs::symlink_metadata(rt, target.as_str()))? {
+        return fs::remove_file(rt, source.as_str());
+    }
+    move_path(alloc, rt, paths, to.room, source.as_str(), target.as_str())?;
+    see_below(rt, to, target.as_str())
+}
+
+/// Gives the file at a path another one, in this room, whose folder is made if it lacks.
+fn move_path<A: Allocator + Copy, R: Files>(
+    alloc: A,
+    rt: &R,
+    paths: &SpoolPaths<A>,
+    room: Room,
+    source: &str,
+    target: &str,
+) -> io::Result<()> {
+    match fs::rename(rt, source, target) {
         Err(error) if error.kind() == ErrorKind::NotFound => {
-            fs::symlink_metadata(rt, source.as_str())?;
-            make_room(alloc, rt, paths, to.room)?;
-            fs::rename(rt, source.as_str(), target.as_str())
+            fs::symlink_metadata(rt, source)?;
+            make_room(alloc, rt, paths, room)?;
+            fs::rename(rt, source, target)
         }
         moved => moved,
     }
+}
+
+/// Sees a name on the device that is in a folder of its room: the room itself is seen apart.
+fn see_below<R: Files>(rt: &R, spot: &Spot, path: &str) -> io::Result<()> {
+    if !spot.name.as_bytes().contains(&b'/') {
+        return Ok(());
+    }
+    match path.rsplit_once('/') {
+        Some((folder, _)) => File::open(rt, folder)?.sync_all(),
+        None => Ok(()),
+    }
+}
+
+/// Gives a file a place that nothing has: this one, or one with a number behind it. Its path is given back.
+fn preserve_file<A: Allocator + Copy, R: Files>(
+    alloc: A,
+    rt: &R,
+    paths: &SpoolPaths<A>,
+    from: &Spot,
+    to: &Spot,
+) -> io::Result<String<A>> {
+    let source = paths.file(alloc, from)?;
+    let first = paths.file(alloc, to)?;
+    let target = free_path(alloc, rt, first)?;
+    move_path(alloc, rt, paths, to.room, source.as_str(), target.as_str())?;
+    Ok(target)
+}
+
+/// This path, or the first with a number behind it, at which nothing is.
+fn free_path<A: Allocator + Copy, R: Files>(
+    alloc: A,
+    rt: &R,
+    first: String<A>,
+) -> io::Result<String<A>> {
+    if !is_found(fs::symlink_metadata(rt, first.as_str()))? {
+        return Ok(first);
+    }
+    let front = first.as_str();
+    for number in 1..PRESERVED_MAX {
+        let path = format!(in alloc; "{front}.{number}")?;
+        if !is_found(fs::symlink_metadata(rt, path.as_str()))? {
+            return Ok(path);
+        }
+    }
+    Err(io::Error::from(ErrorKind::AlreadyExists))
 }
 
 /// Takes a name away.
@@ -300,6 +397,9 @@ fn append_told<A: Allocator + Copy, R: Files<File = File>>(
     let room = paths.room(alloc, Room::Preserved)?;
     let front = room.as_str();
     let path = format!(in alloc; "{front}/{TOLD}")?;
+    if is_named_pipe(rt, path.as_str()) {
+        return Err(io::Error::from(ErrorKind::Unsupported));
+    }
     let mut file = OpenOptions::new()
         .append(true)
         .create(true)

@@ -2,7 +2,7 @@
 ghost use Rattle.std.specs.Prelude.{◌<◌, ◌≡◌, ◌≢◌, ◌≤◌, false, true, Err, IfErr, IfOk, IfSome, IsErr, None, Ok, Some, length};
 ghost use Rattle.std.specs.IoError.{error_kind};
 ghost use Rattle.uug_failure.specs.Faults.{IsFolderFault};
-ghost use Rattle.uug_spool_disk.specs.Reach.{is_out_of_reach};
+ghost use Rattle.uug_spool_disk.specs.Reach.{is_no_place, is_out_of_reach};
 
 use crate::spool_paths::SpoolPaths;
 use std::alloc::{AllocError, Allocator};
@@ -99,7 +99,7 @@ pub fn is_there<A: Allocator + Copy, R: Files>(
 }
 
 /// Whether what was looked at is there. Only where the system says that nothing is, it is not.
-fn is_found(seen: io::Result<Metadata>) -> io::Result<bool>
+pub(crate) fn is_found(seen: io::Result<Metadata>) -> io::Result<bool>
     ensures found { IfOk seen (λ _. result ≡ Ok true) }
     ensures gone { IfErr seen (λ error. error_kind error ≡ ErrorKind.NotFound → result ≡ Ok false) }
     ensures failed { IfErr seen (λ error. error_kind error ≢ ErrorKind.NotFound → IsErr result) }
@@ -231,6 +231,50 @@ fn is_out_of_reach(kind: ErrorKind) -> bool
             | ErrorKind::FilesystemLoop
             | ErrorKind::InvalidFilename
     )
+}
+
+/// Whether an error of this kind says that a file can't be put at a path, whatever is tried.
+pub fn is_no_place(kind: ErrorKind) -> bool
+    ensures { result ≡ is_no_place kind }
+{
+    matches!(
+        kind,
+        ErrorKind::IsADirectory
+            | ErrorKind::NotADirectory
+            | ErrorKind::DirectoryNotEmpty
+            | ErrorKind::PermissionDenied
+            | ErrorKind::ReadOnlyFilesystem
+            | ErrorKind::CrossesDevices
+            | ErrorKind::InvalidFilename
+    )
+}
+
+/// The first folder of files that come, and of their markers, that is a link and so none of the spool's own.
+pub fn linked_room<A: Allocator + Copy, R: Files>(
+    alloc: A,
+    rt: &R,
+    paths: &SpoolPaths<A>,
+) -> Result<Option<Room>, RunFault>
+    ensures { IfErr result IsFolderFault }
+{
+    for room in [Room::Marked, Room::Temporary] {
+        let path = paths.room(alloc, room)?;
+        match is_link(fs::symlink_metadata(rt, path.as_str())) {
+            Ok(true) => return Ok(Some(room)),
+            Ok(false) => (),
+            Err(error) => return Err(RunFault::of(&error, paths.end_dir(), Resource::Dir)),
+        }
+    }
+    Ok(None)
+}
+
+/// Whether what was looked at is a link. What is not there is none.
+fn is_link(seen: io::Result<Metadata>) -> io::Result<bool> {
+    match seen {
+        Ok(seen) => Ok(seen.is_symlink()),
+        Err(error) if error.kind() == ErrorKind::NotFound => Ok(false),
+        Err(error) => Err(error),
+    }
 }
 
 /// The bytes of the file of this name in the public folder, if it is a regular one that everybody may read, and has so many at

@@ -84,6 +84,13 @@ impl<A: Allocator> SpoolPaths<A> {
         let room = self.room(alloc, spot.room)?;
         let front = room.as_str();
         let name = spot.name.as_str();
-        format!(in alloc; "{front}/{name}")
+        match spot.room {
+            Room::Preserved => {
+                // All systems have one folder there, and data of the same names.
+                let system = self.system.as_str();
+                format!(in alloc; "{front}/{system}.{name}")
+            }
+            _ => format!(in alloc; "{front}/{name}"),
+        }
     }
 }

@@ -169,6 +169,7 @@ fn open_line(rt: &impl Abort, file: &str, has_copy: bool) -> OpenLine {
     let file = name(rt, file);
     OpenLine {
         file,
+        number: 0,
         copy,
         job: None,
     }

@@ -20,6 +20,10 @@ mod names;
 #[cfg(test)]
 mod notices;
 #[cfg(test)]
+mod places;
+#[cfg(test)]
+mod rewriting;
+#[cfg(test)]
 mod statuses;
 #[cfg(test)]
 mod stops;

@@ -3,10 +3,9 @@
 use crate::assertions::{assert_same_at, assert_so_at, name};
 use std::alloc::Global;
 use std::process::Abort;
-use uug_folder::Folder;
 use uug_mailbox::{Came, OpenLine, SpoolFolder, add_file};
 use uug_session::Job;
-use uug_spool::{MemoryDisk, Operation, Room};
+use uug_spool::{MemoryDisk, Operation, Room, spot_of};
 use uug_talk::Name;
 
 // ---- what is read
@@ -240,21 +239,14 @@ fn assert_arrival(rt: &impl Abort, alloc: Global, row: Arrival) {
     let (came, files, placed, unmarked) = row;
     let came = markers(rt, alloc, came);
     let mut folder = SpoolFolder::new(MemoryDisk::new(alloc, 1000), came);
-    let mut barred: u64 = 0;
     for coming in files {
         let (file, text) = *coming;
-        let file = name(rt, file);
-        assert_same_at(
-            rt,
-            folder.put(&file, text.as_bytes()).is_ok(),
-            !folder.is_barred(&file),
-            placed,
-        );
-        if folder.is_barred(&file) {
-            barred = barred.saturating_add(1);
-        }
+        let Ok(place) = spot_of(&name(rt, file)) else {
+            continue;
+        };
+        let done = folder.place(&place, text.as_bytes());
+        assert_so_at(rt, done.is_ok(), placed);
     }
-    assert_same_at(rt, folder.faults(), barred, placed);
     let operations = folder.disk.operations();
     assert_same_at(
         rt,

@@ -94,10 +94,11 @@ fn settle_mail(heap: Heap<'_>, node: &Name) -> bool {
     if add_file(&mut lines, node, LINE, &[data]).is_err() {
         return false;
     }
-    let Ok(queue) = queue_of(heap, lines.as_slice()) else {
+    let Ok(queue) = queue_of(heap, lines.as_slice(), 1024) else {
         return false;
     };
-    let mut mail = WorkStore::new(heap, MemoryDisk::new(heap, 1000), lines);
+    let files = Vec::new(heap);
+    let mut mail = WorkStore::new(heap, MemoryDisk::new(heap, 1000), lines, files);
     mail.settle_jobs(heap, queue.pending(), &[], b"told")
         .is_ok()
 }

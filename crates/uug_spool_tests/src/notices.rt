@@ -140,9 +140,10 @@ fn names_data(operation: &Operation<Global>, text: &str) -> bool {
 /// All that is offered of these lines is done. The others, their data and their C. file stay.
 fn assert_held(rt: &impl Abort, alloc: Global, unread: &[Name], offered: usize, held: &str) {
     let lines = read_lines(rt, alloc, unread);
-    let queue = queue_of(alloc, lines.as_slice()).expect(rt, "memory");
+    let queue = queue_of(alloc, lines.as_slice(), 1024).expect(rt, "memory");
     assert_same_at(rt, queue.pending().len(), offered, held);
-    let mut store = WorkStore::new(alloc, MemoryDisk::new(alloc, 1000), lines);
+    let files = Vec::new(alloc);
+    let mut store = WorkStore::new(alloc, MemoryDisk::new(alloc, 1000), lines, files);
     let done = store.settle_jobs(alloc, queue.pending(), &[], b"");
     assert_so_at(rt, done.is_ok(), held);
     let done = store.disk.operations();

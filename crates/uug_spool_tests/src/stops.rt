@@ -4,7 +4,7 @@
 use crate::assertions::{assert_same_at, assert_so_at, name};
 use std::alloc::Global;
 use std::process::Abort;
-use uug_folder::{Folder, JobStore};
+use uug_folder::JobStore;
 use uug_mailbox::{Came, OpenLine, SpoolFolder, WorkStore, add_file, queue_of, settle_file};
 use uug_session::Job;
 use uug_spool::{Disk, MemoryDisk, Operation, Room, Spot, finish, spot_of};
@@ -291,7 +291,10 @@ fn take(taker: &mut Taker, job: &Job) -> bool {
     };
     for i in 0..TARGETS.len() {
         if is_name(target, TARGETS[i]) {
-            return taker.put(target, BYTES[i].as_bytes()).is_ok();
+            return match spot_of(target) {
+                Ok(place) => taker.place(&place, BYTES[i].as_bytes()).is_ok(),
+                Err(_) => false,
+            };
         }
     }
     false
@@ -319,7 +322,7 @@ fn send_all(
     taker: &mut Taker,
     stop: Stop,
 ) -> bool {
-    let queue = queue_of(alloc, sender.lines()).expect(rt, "memory");
+    let queue = queue_of(alloc, sender.lines(), 1024).expect(rt, "memory");
     for (i, job) in queue.pending().iter().enumerate() {
         if !send(alloc, sender, taker, (i, job), stop) {
             return false;
@@ -347,7 +350,7 @@ fn session(rt: &impl Abort, alloc: Global, world: &mut World, stop: Stop) -> boo
     let mut taker = SpoolFolder::new(MemoryDisk::new(alloc, taker_fails_after(stop)), came);
     let lines = read(rt, alloc, world);
     let disk = MemoryDisk::new(alloc, sender_fails_after(stop));
-    let mut sender = WorkStore::new(alloc, disk, lines);
+    let mut sender = WorkStore::new(alloc, disk, lines, Vec::new(alloc));
     let is_done = finish_all(rt, &mut taker.disk, world)
         && send_all(rt, alloc, &mut sender, &mut taker, stop)
         && end(rt, &mut sender, &mut taker);

@@ -1,7 +1,8 @@
-pub mod JobRemarks
-pub mod NumberRemarks
 pub mod Callers
-pub mod UnreadRemarks
+pub mod HubFaults
+pub mod JobRemarks
 pub mod LineEnds
-pub mod SpoolLocks
+pub mod NumberRemarks
 pub mod SpoolCalls
+pub mod SpoolLocks
+pub mod UnreadRemarks

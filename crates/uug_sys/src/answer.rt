@@ -1,7 +1,8 @@
 //! An end that is called at a socket. It goes on listening until the last of its callers has been let in.
-ghost use Rattle.std.specs.Prelude.{◌≡◌, ◌≢◌, ◌≤◌, Err, IfErr, IfOk, IsSome, OnOk, max};
+ghost use Rattle.std.specs.Prelude.{◌≡◌, ◌≢◌, ◌≤◌, Err, IfErr, IfNone, IfOk, IfSome, IsSome, Ok, OnOk, Some, max};
 ghost use Rattle.uug_stream.specs.Streams.{CountsFault};
 ghost use Rattle.uug_failure.specs.Faults.{IsCallFault};
+ghost use Rattle.uug_sys.specs.HubFaults.{is_of_files, is_of_spool};
 
 use crate::call::{stream_line, talk_over};
 use crate::doorkeeper::Doorkeeper;
@@ -14,6 +15,7 @@ use std::rt::{Env, Files};
 use std::time::Clock;
 use uug_failure::{Cause, Resource, SystemFailure};
 use uug_port::{Deadline, Listener, Listening, SilentLine, SystemLine};
+use uug_reason::reason_line;
 use uug_stream::{Output, ToolFault, write_all};
 use uug_task::{CallTask, Station};
 use uug_transfer::SessionObserver;
@@ -32,7 +34,8 @@ struct Served<A: Allocator> {
 /// The end waits to be called at this socket, and talks with each caller whom it lets in, up to as many as its task says, one
 /// after the other. Of the others, whose greeting was refused or broke off, nothing is left but what the observer has said. Where
 /// nobody has called when the time to wait is over it has the session of an end that nobody has called, and waits for no other.
-/// Its status is the greatest of its sessions; a fault is the last of them.
+/// Its status is the greatest of its sessions. A fault is the last of them, unless it is one of a spool's files: the next system has
+/// others, and what failed is said at once, and answered in the end.
 pub(crate) fn answer_at<A, R, T, W, O, B>(
     alloc: A,
     rt: &R,
@@ -98,6 +101,7 @@ where
     let sessions = sessions_of(&station);
     let mut doorkeeper = Doorkeeper::new(observer, listening, sessions);
     let mut status = 0;
+    let mut failed: Option<SystemFailure> = None;
     for _ in 0..sessions {
         tell(rt, remark);
         *why = None;
@@ -106,9 +110,12 @@ where
         match give(served, output) {
             Ok(next) => status = greater(status, next),
             Err(fault) => {
-                doorkeeper.close();
-                drop(doorkeeper);
-                return Err(fault);
+                if !is_of_files(task.is_spool, fault, &*why) {
+                    doorkeeper.close();
+                    drop(doorkeeper);
+                    return Err(fault);
+                }
+                note_failure(alloc, rt, task, &*why, &mut failed);
             }
         }
         if !doorkeeper.is_open() {
@@ -117,7 +124,68 @@ where
     }
     doorkeeper.close();
     drop(doorkeeper);
-    Ok(status)
+    ended(status, failed, why)
+}
+
+/// Whether a session ended so since a call of the system on the files of a spool has failed. The line is another's affair, and so is
+/// memory.
+fn is_of_files(is_spool: bool, fault: ToolFault, why: &Option<SystemFailure>) -> bool
+    ensures { result ≡ is_of_files is_spool fault why.now }
+{
+    match (fault, why) {
+        (ToolFault::Device, Some(failure)) => is_spool && is_of_spool(failure),
+        _ => false,
+    }
+}
+
+/// Whether a call of the system has failed that was made on a file of the spool: the folder of the end's locks has another number.
+fn is_of_spool(failure: &SystemFailure) -> bool
+    ensures { result ≡ is_of_spool failure.now }
+{
+    match failure.resource {
+        Resource::Dir => failure.end == 0,
+        _ => false,
+    }
+}
+
+/// What an end answers whose sessions had this status at most, where the files of one have failed first so, or of none.
+fn ended(
+    status: u8,
+    failed: Option<SystemFailure>,
+    why: &mut Option<SystemFailure>,
+) -> Result<u8, ToolFault>
+    ensures failed { IfSome failed (λ failure.
+        (result ≡ Err ToolFault.Device) × (why.new ≡ Some failure)) }
+    ensures well { IfNone failed (result ≡ Ok status) }
+{
+    match failed {
+        Some(failure) => {
+            *why = Some(failure);
+            Err(ToolFault::Device)
+        }
+        None => Ok(status),
+    }
+}
+
+/// Says at once why a session has ended of which the next ones know nothing, and keeps the first of these failures.
+fn note_failure<A: Allocator + Copy, R: Eprint>(
+    alloc: A,
+    rt: &R,
+    task: &CallTask<'_>,
+    why: &Option<SystemFailure>,
+    failed: &mut Option<SystemFailure>,
+) {
+    let Some(failure) = why else {
+        return;
+    };
+    if failed.is_none() {
+        *failed = Some(*failure);
+    }
+    let Ok(line) = reason_line(alloc, "", task.line, task.dir, "", *failure) else {
+        return;
+    };
+    let line = line.as_str();
+    let _ = eprint!(rt; "{line}");
 }
 
 /// So many sessions the end has at most.
@@ -267,6 +335,7 @@ fn give<A: Allocator, O: Output>(served: Served<A>, output: &mut O) -> Result<u8
     ensures no_usage { result ≢ Err ToolFault.Usage }
     ensures device { result ≡ Err ToolFault.Device → served.answer ≡ Err ToolFault.Device }
     ensures calm { OnOk result (O.fault_count output.new ≡ O.fault_count output.old) }
+    ensures grows { O.fault_count output.old ≤ O.fault_count output.new }
 {
     let printed = write_all(output, served.report.bytes());
     match (served.answer, printed) {

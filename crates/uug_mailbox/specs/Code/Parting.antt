@@ -1,8 +1,8 @@
 -- Lines in the order in which they go, and those that stay.
-use Rattle.std.specs.Prelude.{◌≡◌, ◌≤◌, ℕ, zero, suc, List, [], ◌∷◌, ◌++◌, length, drop}
+use Rattle.std.specs.Prelude.{◌≡◌, ◌≤◌, ◌+◌, ℕ, zero, suc, List, [], ◌∷◌, ◌++◌, length, take, drop}
 use Rattle.uug_conversation.specs.declared.job.Job.{Job}
 use Rattle.uug_spool.specs.Operations.{Op}
-use Rattle.uug_mailbox.specs.OverOrder.{lines_after, settled_ops, store_ops}
+use Rattle.uug_mailbox.specs.OverOrder.{gone_lines, lines_after, settled_ops, store_ops}
 use Rattle.uug_mailbox.specs.declared.open_line.OpenLine.{OpenLine}
 use Rattle.uug_mailbox.specs.declared.open_line.Outcome.{Outcome}
 use Rattle.uug_mailbox.specs.declared.open_line.Outcome.TheVariants.{Done, Failed}
@@ -19,5 +19,7 @@ parted_ops p = first_ops Done p.done p.order.items ++ first_ops Failed p.failed 
 
 pub record IsParted {A B : Type 0} (struck failed : List Job) (lines : List OpenLine) (p : Parted A B) : Type 0 where
   pub fits : p.done ≤ length p.order.items
+  pub fits_both : p.done + p.failed ≤ length p.order.items
+  pub gone : take (p.done + p.failed) p.order.items ≡ gone_lines struck failed lines
   pub ops : parted_ops p ≡ store_ops struck failed lines
   pub left : p.left.items ≡ lines_after struck failed lines

@@ -44,12 +44,12 @@ const ROWS: &[Row<'static>] = &[
         is_given: true,
         offered: 2,
     },
-    // more files than may be given: that of a job is one of them
+    // more files than may be given beside those of the jobs
     Row {
         given: &[Given::Files("a/send/f", 300), Given::File("a/send/z", b"z")],
         jobs: "request q q u\nsend ~/z y u\nsend z z u\n",
         most: MOST,
-        count: 256,
+        count: 257,
         name: b"z",
         is_given: true,
         offered: 3,
@@ -97,7 +97,7 @@ const ROWS: &[Row<'static>] = &[
     },
 ];
 
-/// 300 files, each of which a job names: as many jobs are offered as there may be files.
+/// 300 files, each of which a job names: all of them are offered.
 fn offer_many(
     rt: &(impl Files<File = File> + Net + Eprint + Abort + AllocGlobal + Clone + Drop),
     dir: &str,
@@ -110,7 +110,7 @@ fn offer_many(
     place_all(rt, dir, &[Given::Files("a/send/f", 300)]);
     let folder = within(rt, dir, "a");
     let given = given_at(rt, folder.as_str(), jobs.as_str(), MOST);
-    assert_same(rt, (given.files.len(), given.offered), (256, 256));
+    assert_same(rt, (given.files.len(), given.offered), (300, 300));
     drop(given);
     remove(rt, dir);
 }

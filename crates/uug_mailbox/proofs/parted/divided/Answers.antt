@@ -15,4 +15,4 @@ returns g c =
     (c.in_ok-part-2.ensures.left ∙ ap (λ (ls : List OpenLine). ls ++ lines_left c.args.failed.now c.as_slice.result.now) c.new-left.ensures.items)
     (c.in_ok-extend_from_slice.ensures.items ∙ ap (λ (ls : List OpenLine). c.part-2.new.gone.items ++ ls) c.as_slice-2.ensures.value)
     (search rules) (search rules) in
-    record { fits = is.fits; ops = is.ops; left = is.left_is }
+    record { fits = is.fits; fits_both = is.fits_both; gone = is.gone_is; ops = is.ops; left = is.left_is }

@@ -1,7 +1,7 @@
 use Rattle.std.proofs.Common.{Some, None, sym, arith}
 use Rattle.std.specs.Path.{slash}
 use Rattle.uug_folder.proofs.LastPlaceLemmas.{split_at_last}
-use Rattle.uug_spool_call.proofs.spool_call.split_last.Goals as goal
+use Rattle.uug_mailbox.proofs.places.split_last.Goals as goal
 
 pub returns-in-Some : goal.returns-in-Some
 returns-in-Some c = sym (split_at_last slash c.args.path.now (Some (c.in-Some.folder, c.in-Some.name)) c.in-Some.ensures.cases (omega arith))

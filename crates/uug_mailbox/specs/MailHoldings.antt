@@ -1,0 +1,33 @@
+-- What an end over a spool gives and takes (this project's profile).
+use Rattle.std.specs.Prelude.{ℕ, Bool, List, is_none, Option, Some, None, if◌then◌else◌}
+use Rattle.uug_conversation.specs.Holdings.{File, Holdings, Kept}
+use Rattle.uug_conversation.specs.MemoryHoldings.{first_named}
+use Rattle.uug_conversation.specs.declared.verdict.Verdict.TheVariants.{Never, Yes}
+use Rattle.uug_folder.specs.LocalNames.{local_source}
+use Rattle.uug_mailbox.specs.Places.{Public, landing, place_in}
+
+abbrev pub file_at : List Kept → Option (List ℕ) → Option File
+file_at files None = None
+file_at files (Some name) = first_named files name
+
+-- the file under just this name, which is that of a copy or a path; else that of this name in the public folder
+abbrev pub given_by : List Kept → (name : List ℕ) → Option File → Option File
+given_by files name None = file_at files (local_source name)
+given_by files name (Some file) = Some file
+
+abbrev pub given : List Kept → (name : List ℕ) → Option File
+given files name = given_by files name (first_named files name)
+
+-- a file is taken that has a place
+abbrev pub is_refused : Public → (name : List ℕ) → Bool
+is_refused public name = is_none (place_in public name)
+
+abbrev pub mail_holdings : (lenient digests : Bool) → Public → List Kept → Holdings
+mail_holdings lenient digests public files = record {
+  file = given files;
+  verdict = λ name. if is_refused public name then Never else Yes;
+  immovable = is_refused public;
+  landing = landing public;
+  lenient = lenient;
+  digests = digests;
+}

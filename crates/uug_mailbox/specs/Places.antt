@@ -1,0 +1,110 @@
+-- Where a file goes that another system sends, by what stands in the public folder when the session begins (that a folder takes a
+-- file under its source's last name is what Taylor UUCP 1.07 does; which places are barred is this project's profile).
+use Rattle.std.specs.Option.{option_map, unwrap_or}
+use Rattle.std.specs.Path.{rsplit_once, slash}
+use Rattle.std.specs.Prelude.{◌==◌, ◌&&◌, ◌||◌, ◌-◌, not, ℕ, Bool, true, false, List, [], ◌++◌, length, take, codes, nat_eq, is_none, Option, Some, None, Result, Ok, Err, if◌then◌else◌}
+use Rattle.std.specs.List.{ends_with}
+use Rattle.uug_talk.specs.Name.{name_of}
+use Rattle.uug_spool.specs.SpoolNames.{local_name, spot, spot_of}
+use Rattle.uug_spool.specs.declared.spool_names.Barred.{Barred}
+use Rattle.uug_spool.specs.declared.spool_names.Room.{Room}
+use Rattle.uug_spool.specs.declared.spool_names.Room.TheVariants as rooms
+use Rattle.uug_spool.specs.declared.spool_names.Spot.{Spot}
+use Rattle.uug_mailbox.specs.OpenLines.{has_name}
+use Rattle.uug_mailbox.specs.declared.places.PublicFolder.{PublicFolder}
+
+-- the public folder, as it is when the session begins
+pub record Public : Type 0 where
+  -- the folders in it
+  pub folders : List (List ℕ)
+  -- the names under which nothing can be put there
+  pub barred : List (List ℕ)
+  -- nothing can be put there at all
+  pub is_closed : Bool
+
+abbrev pub shown_public : {A : Type 0} → PublicFolder A → Public
+shown_public p = record { folders = p.folders.items; barred = p.barred.items; is_closed = p.is_closed }
+
+-- ---- names
+
+-- what stands behind the last slash of a path
+abbrev pub last_part : List ℕ → List ℕ
+last_part path = unwrap_or (option_map (λ parts. parts.1) (rsplit_once slash path)) path
+
+abbrev pub is_public : Room → Bool
+is_public rooms.Public = true
+is_public _ = false
+
+abbrev pub goes_public : Result Spot Barred → Bool
+goes_public (Ok target) = is_public target.room
+goes_public (Err why) = false
+
+-- a name that is in the public folder by itself, and no path
+abbrev pub is_public_name : List ℕ → Bool
+is_public_name name = goes_public (spot_of name) && is_none (rsplit_once slash name)
+
+-- ---- the place
+
+-- a folder's place is not that of a file
+abbrev pub is_taken : Public → (name : List ℕ) → Bool
+is_taken public name = public.is_closed || (has_name name public.folders || has_name name public.barred)
+
+-- right in the public folder
+abbrev pub top_place : Public → (name : List ℕ) → Option Spot
+top_place public name =
+    if is_public_name name && not (is_taken public name) then Some (spot rooms.Public name) else None
+
+abbrev pub is_public_last : Option (List ℕ) → Bool
+is_public_last None = false
+is_public_last (Some name) = is_public_name name
+
+-- in a folder there
+abbrev pub deep_by : Public → (name : List ℕ) → Option (List ℕ × List ℕ) → Option Spot
+deep_by public name None = None
+deep_by public name (Some parts) =
+    if has_name parts.0 public.folders && (is_public_last (name_of parts.1) && not (has_name name public.barred)) then Some (spot rooms.Public name)
+    else None
+
+abbrev pub deep_place : Public → (name : Option (List ℕ)) → Option Spot
+deep_place public None = None
+deep_place public (Some name) = deep_by public name (rsplit_once slash name)
+
+abbrev pub placed : Public → (name : List ℕ) → Result Spot Barred → Option Spot
+placed public name (Ok target) = if is_public target.room then top_place public target.name else Some target
+placed public name (Err why) = deep_place public (name_of (local_name name))
+
+-- the place of a file that comes under this name, if it has one
+abbrev pub place_in : Public → (name : List ℕ) → Option Spot
+place_in public name = placed public name (spot_of name)
+
+-- the name that a file of this place has while it comes
+abbrev pub temp_name : Spot → List ℕ
+temp_name target = unwrap_or (name_of (last_part target.name)) target.name
+
+-- ---- a target that is a folder
+
+abbrev pub is_spooled : Result Spot Barred → Bool
+is_spooled (Ok target) = not (is_public target.room)
+is_spooled (Err why) = false
+
+abbrev pub without_slash : List ℕ → List ℕ
+without_slash name = if ends_with nat_eq name (codes "/") then take (length name - 1) name else name
+
+-- what stands in front of the names in this folder: nothing in the public folder itself
+abbrev pub front_of : (folder : List ℕ) → List ℕ
+front_of folder = if length folder == 0 then [] else folder ++ codes "/"
+
+abbrev pub front_in : Public → (folder : List ℕ) → Option (List ℕ)
+front_in public folder =
+    if length folder == 0 || has_name folder public.folders then Some (front_of folder) else None
+
+abbrev pub landing_by : (source target : List ℕ) → (front : Option (List ℕ)) → List ℕ
+landing_by source target None = target
+landing_by source target (Some front) = unwrap_or (name_of (codes "~/" ++ front ++ last_part source)) target
+
+-- A file that is sent to the public folder, or to a folder in it, goes there under the last part of its own name. Each other name
+-- stays, and so does one that would get too long.
+abbrev pub landing : Public → (source target : List ℕ) → List ℕ
+landing public source target =
+    if is_spooled (spot_of target) then target
+    else landing_by source target (front_in public (without_slash (local_name target)))

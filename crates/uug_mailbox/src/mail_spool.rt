@@ -1,0 +1,183 @@
+//! The files of an end over a spool: those that it gives, and the folders into which those go that come.
+ghost use Rattle.std.specs.Prelude.{◌≡◌, ◌≢◌, ◌<◌, ◌≤◌, ◌⊎◌, ◌↔◌, [], ◌∷◌, ◌++◌, IfOk, OnErr, OnOk, length, map, true, vec_len, vec_capacity};
+ghost use Rattle.uug_conversation.specs.FileView.{shown_file};
+ghost use Rattle.uug_conversation.specs.Holdings.{kept_file};
+ghost use Rattle.uug_conversation.specs.MemoryHoldings.{first_named, kept_of};
+ghost use Rattle.uug_folder.specs.LocalNames.{local_source};
+ghost use Rattle.uug_mailbox.specs.Code.MailModes.{mail_modes};
+ghost use Rattle.uug_mailbox.specs.MailHoldings.{file_at, given, is_refused, mail_holdings};
+ghost use Rattle.uug_mailbox.specs.Places.{place_in, shown_public};
+ghost use Rattle.uug_mailbox.specs.Placing.{came_of, marks_of, place_ops};
+ghost use Rattle.uug_spool.specs.Operations.{FrontDone, also_all};
+ghost use Rattle.uug_talk.specs.declared.mode.TheConstants.{MODE_MAX};
+
+use crate::places::PublicFolder;
+use crate::spool_folder::SpoolFolder;
+use std::alloc::{AllocError, Allocator};
+use std::snapshot::Snapshot;
+use uug_folder::local_source;
+use uug_session::{FileView, KeepFault, Spool, Stored, Verdict};
+use uug_spool::Disk;
+use uug_talk::{MODE_MAX, Name};
+
+/// The files of an end over a spool. A file that it gives is named by its copy or its path, or by its name in the public folder; one
+/// that comes goes where its name says, as the public folder was when the session began.
+#[derive(Drop)]
+pub struct MailSpool<D, A: Allocator> {
+    given: Vec<Stored<A>, A>,
+    public: PublicFolder<A>,
+    /// What was kept, for clauses alone: the bytes are in the spool, and no longer in memory.
+    kept: Vec<Snapshot<Stored<A>>, A>,
+    /// The folders in which it is.
+    pub folder: SpoolFolder<D, A>,
+    lenient: bool,
+    digests: bool,
+    faults: u64,
+    alloc: A,
+}
+
+impl<D: Disk, A: Allocator + Copy> MailSpool<D, A> {
+    /// The spool with these files to give, over these folders, that has kept none. It takes no memory.
+    pub fn new(
+        alloc: A,
+        given: Vec<Stored<A>, A>,
+        public: PublicFolder<A>,
+        folder: SpoolFolder<D, A>,
+        lenient: bool,
+        digests: bool,
+    ) -> Self
+        ensures holdings { ⟦<MailSpool<D, A> as Spool>⟧.holdings result
+            ≡ mail_holdings lenient digests (shown_public public) (map kept_of given.items) }
+        ensures kept { ⟦<MailSpool<D, A> as Spool>⟧.kept result ≡ [] }
+        ensures folder { result.folder ≡ folder }
+        ensures faults { result.faults ≡ 0 }
+    {
+        MailSpool {
+            given,
+            public,
+            kept: Vec::new(alloc),
+            folder,
+            lenient,
+            digests,
+            faults: 0,
+            alloc,
+        }
+    }
+}
+
+impl<D: Disk, A: Allocator + Copy> Spool for MailSpool<D, A> {
+    ghost holdings = { λ s. mail_holdings s.lenient s.digests (shown_public s.public) (map kept_of s.given.items) };
+
+    ghost kept = { λ s. map kept_of (map (λ f. f.value) s.kept.items) };
+
+    ghost faults = { λ s. s.faults };
+
+    fn may_keep(&self, name: &Name) -> Verdict {
+        if self.public.place_in(name).is_none() {
+            Verdict::Never
+        } else {
+            Verdict::Yes
+        }
+    }
+
+    fn landing(&self, source: &Name, target: &Name) -> Name {
+        self.public.landing(source, target)
+    }
+
+    fn fetch(&self, name: &Name) -> Option<FileView<'_>> {
+        given(self.given.as_slice(), name)
+    }
+
+    fn keep(&mut self, name: &Name, mode: u16, bytes: &[u8]) -> Result<(), KeepFault> {
+        let Some(target) = self.public.place_in(name) else {
+            return Err(KeepFault::Refused);
+        };
+        // All memory is taken before the disk is touched.
+        let Ok(file) = copy_beside_room(&mut self.kept, self.alloc, name, mode, bytes) else {
+            return Err(KeepFault::Memory);
+        };
+        if self.folder.place(&target, bytes).is_err() {
+            self.faults = self.faults.saturating_add(1);
+            return Err(KeepFault::Device);
+        }
+        push_kept(&mut self.kept, &file);
+        Ok(())
+    }
+
+    fn is_lenient(&self) -> bool {
+        self.lenient
+    }
+
+    fn tells_digests(&self) -> bool {
+        self.digests
+    }
+
+    fn faults(&self) -> u64 {
+        self.faults
+    }
+
+    ghost modes = { λ s. mail_modes s.lenient s.digests (shown_public s.public) s.given.items };
+}
+
+/// The file under just this name; else that of this name in the public folder.
+fn given<'a, A: Allocator>(files: &'a [Stored<A>], name: &Name) -> Option<FileView<'a>>
+    ensures { shown_file result ≡ given (map kept_of files.now) name.now }
+{
+    match first_named(files, name) {
+        Some(file) => Some(file),
+        None => file_at(files, &local_source(name)),
+    }
+}
+
+fn file_at<'a, A: Allocator>(files: &'a [Stored<A>], name: &Option<Name>) -> Option<FileView<'a>>
+    ensures { shown_file result ≡ file_at (map kept_of files.now) name.now }
+{
+    match name {
+        Some(name) => first_named(files, name),
+        None => None,
+    }
+}
+
+fn first_named<'a, A: Allocator>(files: &'a [Stored<A>], name: &Name) -> Option<FileView<'a>>
+    ensures { shown_file result ≡ first_named (map kept_of files.now) name.now }
+{
+    for file in files {
+        if file.name.as_bytes() == name.as_bytes() {
+            return Some(FileView {
+                mode: file.mode,
+                bytes: file.bytes.as_slice(),
+            });
+        }
+    }
+    None
+}
+
+/// Makes room for one file more, and makes a file of these bytes.
+fn copy_beside_room<A: Allocator + Copy>(
+    kept: &mut Vec<Snapshot<Stored<A>>, A>,
+    alloc: A,
+    name: &Name,
+    mode: u16,
+    bytes: &[u8],
+) -> Result<Stored<A>, AllocError>
+    requires { mode ≤ MODE_MAX }
+    ensures kept { kept.new.items ≡ kept.old.items }
+    ensures room { OnOk result (vec_len kept.new < vec_capacity kept.new) }
+    ensures file { IfOk result (λ file. kept_of file ≡ kept_file name.now mode bytes.now) }
+{
+    kept.reserve(1)?;
+    Ok(Stored {
+        name: *name,
+        mode,
+        bytes: bytes.to_vec(alloc)?,
+    })
+}
+
+/// Adds a file to those that were kept, in room that is there.
+fn push_kept<A: Allocator>(kept: &mut Vec<Snapshot<Stored<A>>, A>, file: &Stored<A>)
+    requires { vec_len kept.old < vec_capacity kept.old }
+    ensures { map kept_of (map (λ f. f.value) kept.new.items)
+        ≡ map kept_of (map (λ f. f.value) kept.old.items) ++ kept_of file.now ∷ [] }
+{
+    kept.push_reserved(Snapshot::of(file));
+}

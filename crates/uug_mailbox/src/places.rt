@@ -1,0 +1,213 @@
+//! Where a file goes that another system sends, by what stands in the public folder when the session begins.
+ghost use Rattle.std.specs.Path.{rsplit_once, slash};
+ghost use Rattle.std.specs.Prelude.{◌≡◌, ◌++◌, MatchOption, None, Some, codes};
+ghost use Rattle.uug_mailbox.specs.Places.{deep_by, deep_place, front_of, is_public_last, is_public_name, is_spooled, is_taken, landing, last_part, place_in, placed, shown_public, temp_name, top_place, without_slash};
+ghost use Rattle.uug_spool.specs.SpoolNames.{local_name, spot_of};
+ghost use Rattle.uug_talk.specs.Name.{name_of};
+
+use crate::command_file::{has_bytes, has_name};
+use arrayvec::ArrayVec;
+use std::alloc::Allocator;
+use uug_spool::{Barred, Room, Spot, local_name, spot_of};
+use uug_talk::{NAME_MAX, Name};
+
+/// The most bytes of a path below the public folder: two names, a tilde and two slashes.
+const PATH_MAX: usize = NAME_MAX + 3;
+
+/// What stands in the public folder when a session begins.
+#[derive(Drop)]
+pub struct PublicFolder<A: Allocator> {
+    /// The names of its folders.
+    pub folders: Vec<Name, A>,
+    /// The names under which nothing can be put there.
+    pub barred: Vec<Name, A>,
+    /// Whether nothing can be put there at all.
+    pub is_closed: bool,
+}
+
+/// Splits a path at its last slash, if it has one.
+pub fn split_last(path: &str) -> Option<(&str, &str)>
+    ensures { MatchOption result (rsplit_once slash path.now ≡ None)
+        (λ parts. rsplit_once slash path.now ≡ Some (parts.0.now, parts.1.now)) }
+{
+    match path.rsplit_once('/') {
+        Some((folder, name)) => Some((folder, name)),
+        None => None,
+    }
+}
+
+/// What stands behind the last slash of a name.
+fn last_part(name: &Name) -> &[u8]
+    ensures { result.now ≡ last_part name.now }
+{
+    match split_last(name.as_str()) {
+        Some((_, last)) => last.as_bytes(),
+        None => name.as_bytes(),
+    }
+}
+
+/// Whether a name is in the public folder by itself, and no path.
+fn is_public_name(name: &Name) -> bool
+    ensures { result ≡ is_public_name name.now }
+{
+    match spot_of(name) {
+        Ok(target) => target.room == Room::Public && split_last(name.as_str()).is_none(),
+        Err(_) => false,
+    }
+}
+
+impl<A: Allocator> PublicFolder<A> {
+    /// The place of a file that comes under this name, if it has one: a folder there takes the files whose names begin with its
+    /// own and a slash, and no name with a further slash is taken.
+    pub fn place_in(&self, name: &Name) -> Option<Spot>
+        ensures { result ≡ place_in (shown_public self.now) name.now }
+    {
+        self.placed(name, spot_of(name))
+    }
+
+    fn placed(&self, name: &Name, target: Result<Spot, Barred>) -> Option<Spot>
+        ensures { result ≡ placed (shown_public self.now) name.now target }
+    {
+        match target {
+            Ok(target) => {
+                if target.room == Room::Public {
+                    self.top_place(&target.name)
+                } else {
+                    Some(target)
+                }
+            }
+            Err(_) => self.deep_place(&Name::new(local_name(name.as_bytes())).ok()),
+        }
+    }
+
+    /// Whether nothing can be put right in the folder under this name.
+    fn is_taken(&self, name: &Name) -> bool
+        ensures { result ≡ is_taken (shown_public self.now) name.now }
+    {
+        self.is_closed
+            || has_name(self.folders.as_slice(), name)
+            || has_name(self.barred.as_slice(), name)
+    }
+
+    fn top_place(&self, name: &Name) -> Option<Spot>
+        ensures { result ≡ top_place (shown_public self.now) name.now }
+    {
+        if is_public_name(name) && !self.is_taken(name) {
+            Some(Spot {
+                room: Room::Public,
+                name: *name,
+            })
+        } else {
+            None
+        }
+    }
+
+    fn deep_place(&self, name: &Option<Name>) -> Option<Spot>
+        ensures { result ≡ deep_place (shown_public self.now) name.now }
+    {
+        match name {
+            Some(name) => self.deep_by(name),
+            None => None,
+        }
+    }
+
+    /// The place of this name in a folder there.
+    fn deep_by(&self, name: &Name) -> Option<Spot>
+        ensures { result ≡ deep_by (shown_public self.now) name.now (rsplit_once slash name.now) }
+    {
+        let Some((folder, last)) = split_last(name.as_str()) else {
+            return None;
+        };
+        let is_there = has_bytes(self.folders.as_slice(), folder.as_bytes());
+        if is_there && is_public_last(last.as_bytes()) && !has_name(self.barred.as_slice(), name) {
+            Some(Spot {
+                room: Room::Public,
+                name: *name,
+            })
+        } else {
+            None
+        }
+    }
+}
+
+impl<A: Allocator> PublicFolder<A> {
+    /// Under which name a file of this name is kept that is sent to this one: in the public folder, or in a folder there, under the
+    /// last part of its own.
+    pub fn landing(&self, source: &Name, target: &Name) -> Name
+        ensures { result ≡ landing (shown_public self.now) source.now target.now }
+    {
+        if is_spooled(target) {
+            return *target;
+        }
+        let folder = without_slash(local_name(target.as_bytes()));
+        if !folder.is_empty() && !has_bytes(self.folders.as_slice(), folder) {
+            return *target;
+        }
+        match below_home(folder, last_part(source)) {
+            Some(name) => name,
+            None => *target,
+        }
+    }
+}
+
+/// Whether a name is that of a file of the spool.
+fn is_spooled(target: &Name) -> bool
+    ensures { result ≡ is_spooled (spot_of target.now) }
+{
+    match spot_of(target) {
+        Ok(target) => target.room != Room::Public,
+        Err(_) => false,
+    }
+}
+
+/// A name without a slash at its end.
+fn without_slash(name: &[u8]) -> &[u8]
+    ensures { result.now ≡ without_slash name.now }
+{
+    match name.strip_suffix(b"/".as_slice()) {
+        Some(front) => front,
+        None => name,
+    }
+}
+
+/// The name with this last part in this folder of the public folder, or right in it where the folder has no name; if that is one.
+fn below_home(folder: &[u8], last: &[u8]) -> Option<Name>
+    ensures { result ≡ name_of (codes "~/" ++ front_of folder.now ++ last.now) }
+{
+    if folder.len() + last.len() > NAME_MAX {
+        return None;
+    }
+    let mut path: ArrayVec<u8, PATH_MAX> = ArrayVec::new();
+    path.push(b'~');
+    path.push(b'/');
+    let Ok(()) = path.try_extend_from_slice(folder) else {
+        unreachable!();
+    };
+    if !folder.is_empty() {
+        path.push(b'/');
+    }
+    let Ok(()) = path.try_extend_from_slice(last) else {
+        unreachable!();
+    };
+    Name::new(path.as_slice()).ok()
+}
+
+/// Whether these bytes are a name that is in the public folder by itself.
+fn is_public_last(last: &[u8]) -> bool
+    ensures { result ≡ is_public_last (name_of last.now) }
+{
+    match Name::new(last) {
+        Ok(name) => is_public_name(&name),
+        Err(_) => false,
+    }
+}
+
+/// The name that a file of this place has while it comes: what stands behind the last slash of its own.
+pub fn temp_name(target: &Spot) -> Name
+    ensures { result ≡ temp_name target.now }
+{
+    match Name::new(last_part(&target.name)) {
+        Ok(name) => name,
+        Err(_) => target.name,
+    }
+}

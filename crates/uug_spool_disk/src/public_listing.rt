@@ -1,0 +1,139 @@
+//! What stands in the public folder.
+ghost use Rattle.std.specs.Prelude.{◌≡◌, IfErr};
+ghost use Rattle.uug_failure.specs.Faults.{IsFolderFault};
+ghost use Rattle.uug_spool_disk.specs.Access.{is_anothers, is_closed};
+
+use crate::spool_paths::SpoolPaths;
+use std::alloc::Allocator;
+use std::fs::{DirEntry, Metadata};
+use std::io::ErrorKind;
+use std::os::unix::fs::MetadataExt;
+use std::rt::Files;
+use std::{fs, io};
+use uug_failure::{Resource, RunFault};
+use uug_talk::Name;
+
+/// The names in the public folder that a session can say.
+#[derive(Drop)]
+pub struct PublicListing<A: Allocator> {
+    /// Those of its files.
+    pub files: Vec<Name, A>,
+    /// Those of its folders.
+    pub folders: Vec<Name, A>,
+    /// Those of files that this program can't replace.
+    pub anothers: Vec<Name, A>,
+    /// Whether this program can't put anything there.
+    pub is_closed: bool,
+}
+
+/// Who owns a file, and what its mode says.
+#[derive(Clone, Copy)]
+struct Access {
+    owner: u32,
+    mode: u32,
+}
+
+impl Access {
+    fn of(metadata: &Metadata) -> Self {
+        Access {
+            owner: metadata.uid(),
+            mode: metadata.mode(),
+        }
+    }
+}
+
+/// Whether a user can surely put nothing in a folder: it is another's, and neither a group nor everybody may write there; or it is
+/// their own, and they may not. Root may.
+fn is_closed(folder: Access, me: u32) -> bool
+    ensures { result ≡ is_closed folder.owner folder.mode me }
+{
+    let bits = if folder.owner == me { 0o200 } else { 0o022 };
+    me != 0 && folder.mode & bits == 0
+}
+
+/// Whether a file is one that a user can't replace: that of another, in a folder of another from which each may take only their
+/// own. Root may.
+fn is_anothers(folder: Access, owner: u32, me: u32) -> bool
+    ensures { result ≡ is_anothers folder.owner folder.mode owner me }
+{
+    me != 0 && folder.mode & 0o1000 != 0 && folder.owner != me && owner != me
+}
+
+impl<A: Allocator + Copy> PublicListing<A> {
+    /// That of a folder of which nothing is known.
+    pub fn unknown(alloc: A) -> Self {
+        PublicListing {
+            files: Vec::new(alloc),
+            folders: Vec::new(alloc),
+            anothers: Vec::new(alloc),
+            is_closed: false,
+        }
+    }
+
+    /// Adds the name of an entry, if a session can say it. One that is gone by now is none.
+    fn add<R: Files + Alloc + Clone + Drop>(
+        &mut self,
+        entry: &DirEntry<R, R::A>,
+        folder: Access,
+        me: u32,
+    ) -> io::Result<()> {
+        let Ok(name) = Name::new(entry.file_name().as_bytes()) else {
+            return Ok(());
+        };
+        match entry.metadata() {
+            Ok(seen) if seen.is_dir() => self.folders.push(name)?,
+            Ok(seen) => {
+                if is_anothers(folder, seen.uid(), me) {
+                    self.anothers.push(name)?;
+                }
+                self.files.push(name)?;
+            }
+            Err(error) if error.kind() == ErrorKind::NotFound => (),
+            Err(error) => return Err(error),
+        }
+        Ok(())
+    }
+}
+
+/// What stands in the public folder. Nothing does where it lacks.
+pub fn list_public<A: Allocator + Copy, R: Files + Alloc + Clone + Drop>(
+    alloc: A,
+    rt: &R,
+    paths: &SpoolPaths<A>,
+) -> Result<PublicListing<A>, RunFault>
+    ensures { IfErr result IsFolderFault }
+{
+    match read_listing(alloc, rt, paths.public()) {
+        Ok(listing) => Ok(listing),
+        Err(error) if error.kind() == ErrorKind::NotFound => Ok(PublicListing::unknown(alloc)),
+        Err(error) => Err(RunFault::of(&error, paths.end_dir(), Resource::Dir)),
+    }
+}
+
+/// What stands in the folder at this path.
+fn read_listing<A: Allocator + Copy, R: Files + Alloc + Clone + Drop>(
+    alloc: A,
+    rt: &R,
+    path: &str,
+) -> io::Result<PublicListing<A>> {
+    let folder = Access::of(&fs::metadata(rt, path)?);
+    let me = user_of(rt);
+    let mut listing = PublicListing::unknown(alloc);
+    listing.is_closed = is_closed(folder, me);
+    for entry in fs::read_dir(rt, path)? {
+        match entry {
+            Ok(entry) => listing.add(&entry, folder, me)?,
+            Err(error) if error.kind() == ErrorKind::InvalidFilename => (),
+            Err(error) => return Err(error),
+        }
+    }
+    Ok(listing)
+}
+
+/// As whom this program runs; root where the system does not tell it, so that it is tried.
+fn user_of<R: Files>(rt: &R) -> u32 {
+    match fs::metadata(rt, "/proc/self") {
+        Ok(process) => process.uid(),
+        Err(_) => 0,
+    }
+}

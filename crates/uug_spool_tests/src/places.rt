@@ -1,0 +1,71 @@
+//! Places in the public folder, as it is when a session begins.
+
+use crate::assertions::{assert_same_at, name};
+use std::alloc::Global;
+use std::process::Abort;
+use uug_mailbox::{MailSpool, PublicFolder, SpoolFolder};
+use uug_session::{KeepFault, Spool};
+use uug_spool::MemoryDisk;
+
+/// A source, a target, and the name in the public folder of the place where the file goes.
+const ROWS: [(&str, &str, Option<&str>); 9] = [
+    ("/srv/f", "~/x", Some("x")),
+    ("/srv/f", "~/", Some("f")),
+    ("/srv/f", "~/in", Some("in/f")),
+    ("/srv/f", "~/in/", Some("in/f")),
+    ("/srv/f", "~/in/x", Some("in/x")),
+    ("/srv/f", "~/theirs", None),
+    ("/srv/f", "~/out/", None),
+    ("/srv/.f", "~/", None),
+    ("/srv/theirs", "~/", None),
+];
+
+fn public(rt: &impl Abort, alloc: Global) -> PublicFolder<Global> {
+    let mut folders = Vec::new(alloc);
+    folders.push(name(rt, "in")).expect(rt, "memory");
+    let mut barred = Vec::new(alloc);
+    barred.push(name(rt, "theirs")).expect(rt, "memory");
+    PublicFolder {
+        folders,
+        barred,
+        is_closed: false,
+    }
+}
+
+type Files = MailSpool<MemoryDisk<Global>, Global>;
+
+fn files(rt: &impl Abort, alloc: Global) -> Files {
+    let folder = SpoolFolder::new(MemoryDisk::new(alloc, 1000), Vec::new(alloc));
+    MailSpool::new(
+        alloc,
+        Vec::new(alloc),
+        public(rt, alloc),
+        folder,
+        true,
+        false,
+    )
+}
+
+fn assert_place(rt: &impl Abort, alloc: Global, row: (&str, &str, Option<&str>)) {
+    let (source, target, expected) = row;
+    let folder = public(rt, alloc);
+    let landing = folder.landing(&name(rt, source), &name(rt, target));
+    let place = folder.place_in(&landing);
+    let is_same = match (&place, expected) {
+        (Some(place), Some(expected)) => place.name.as_bytes() == expected.as_bytes(),
+        (None, None) => true,
+        _ => false,
+    };
+    assert_same_at(rt, is_same, true, target);
+    let mut files = files(rt, alloc);
+    let kept = files.keep(&landing, 0o644, b"bytes");
+    assert_same_at(rt, kept.is_ok(), place.is_some(), target);
+    assert_same_at(rt, kept == Err(KeepFault::Refused), place.is_none(), target);
+}
+
+#[test]
+fn a_folder_takes_a_file_under_its_own_name(rt: HostRuntime) {
+    for row in ROWS {
+        assert_place(&rt, rt.alloc(), row);
+    }
+}
