@@ -119,7 +119,7 @@ where
     }
 }
 
-/// Which file that one end is to write is a named pipe, where it may be run: its report, its log, or the statistics. None of them is
+/// Returns which file that one end is to write is a named pipe, where it may be run: its report, its log, or the statistics. None of them is
 /// opened then, since that might wait for a reader.
 fn pipe_of<R: Files + AllocGlobal>(
     rt: &R,

@@ -44,7 +44,7 @@ pub fn speakers_alternate()
     ensures then { (a b : Party) → Alternate (conversation a b) }
 {}
 
-/// What is kept is the file that was said in the turn, which a job asked for: under the name where the job lands at its keeper,
+/// States that what is kept is the file that was said in the turn, which a job asked for: under the name where the job lands at its keeper,
 /// and with the mode and bytes that the giver's holdings have.
 pub fn entries_are_asked_for()
     ensures { (a b : Party) → EachTurn (KeepsWell a b) (conversation a b) }

@@ -42,7 +42,7 @@ pub trait Spool {
     fn may_keep(&self, name: &Name) -> Verdict
         ensures { result ≡ (holdings self.now).verdict name.now };
 
-    /// Under which name a file of this name is kept that is sent to this one.
+    /// Returns under which name a file of this name is kept that is sent to this one.
     fn landing(&self, source: &Name, target: &Name) -> Name
         ensures { result ≡ (holdings self.now).landing source.now target.now };
 

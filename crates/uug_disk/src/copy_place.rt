@@ -8,7 +8,7 @@ use uug_folder::{is_given_in, local_source};
 use uug_session::Job;
 use uug_talk::Name;
 
-/// Where a copy belongs.
+/// Tells where a copy belongs.
 #[derive(Clone, Copy)]
 pub(crate) enum CopyPlace {
     /// In `send`: a job waits that needs it.
@@ -19,7 +19,7 @@ pub(crate) enum CopyPlace {
     Nowhere,
 }
 
-/// Where the copy of this name belongs while these jobs wait, and this text tells of those that have failed.
+/// Returns where the copy of this name belongs while these jobs wait, and this text tells of those that have failed.
 pub(crate) fn place_of(waiting: &[Job], failed: &[u8], name: &Name) -> CopyPlace
     ensures { result ≡ place_of name.now waiting.now (jobs_in (lines failed.now)) }
 {
@@ -32,7 +32,7 @@ pub(crate) fn place_of(waiting: &[Job], failed: &[u8], name: &Name) -> CopyPlace
     }
 }
 
-/// Whether a job has its file under this name that waits, or of which this text tells that it has failed. No other copy may get that
+/// Returns whether a job has its file under this name that waits, or of which this text tells that it has failed. No other copy may get that
 /// name, since it would be sent in that job's place.
 pub(crate) fn is_taken(waiting: &[Job], failed: &[u8], name: &Name) -> bool
     ensures { result ≡ is_taken name.now waiting.now (jobs_in (lines failed.now)) }
@@ -44,7 +44,7 @@ pub(crate) fn is_taken(waiting: &[Job], failed: &[u8], name: &Name) -> bool
     }
 }
 
-/// Whether one of these jobs sends the file of this name in `send`.
+/// Returns whether one of these jobs sends the file of this name in `send`.
 fn is_needed_by(jobs: &[Job], name: &Name) -> bool
     ensures { result ≡ is_needed_by name.now jobs.now }
 {
@@ -56,7 +56,7 @@ fn is_needed_by(jobs: &[Job], name: &Name) -> bool
     false
 }
 
-/// Whether a job sends the file of this name in `send`.
+/// Returns whether a job sends the file of this name in `send`.
 fn needs(job: &Job, name: &Name) -> bool
     ensures { result ≡ needs name.now job.now }
 {

@@ -192,7 +192,7 @@ fn source_path<A: Allocator + Copy, R: Files>(
     }
 }
 
-/// Whether the file of this name, which a job names, is at this path.
+/// Returns whether the file of this name, which a job names, is at this path.
 fn has_file<R: Files>(rt: &R, dir: EndDir<'_>, name: Name, path: &str) -> Result<bool, RunFault>
     ensures { IfErr result IsFolderFault }
 {
@@ -224,7 +224,7 @@ fn fits<A: Allocator>(files: &mut Vec<Stored<A>, A>, before: usize, room: &mut u
     }
 }
 
-/// What is left of the room behind a file of this size, if that fits.
+/// Returns what is left of the room behind a file of this size, if that fits.
 fn room_behind(room: u64, size: u64) -> Option<u64>
     ensures { result ≡ room_behind room size }
 {

@@ -9,10 +9,10 @@ use std::io::ErrorKind;
 use std::os::unix::fs::FileTypeExt;
 use std::rt::Files;
 
-/// So many links in a row are followed, as many as Linux follows.
+/// Limits how many links in a row are followed, as many as Linux follows.
 const LINKS_MAX: u32 = 40;
 
-/// Whether there is a pipe at a path that a folder has. One that a process holds open, to which `/dev/stdout` and
+/// Returns whether there is a pipe at a path that a folder has. One that a process holds open, to which `/dev/stdout` and
 /// `/proc/self/fd/1` may lead, is none.
 pub fn is_named_pipe<A: Allocator + Copy, R: Files>(
     alloc: A,
@@ -32,7 +32,7 @@ pub fn is_named_pipe<A: Allocator + Copy, R: Files>(
     Ok(is_pipe(rt, place.as_str()))
 }
 
-/// Whether there is a pipe at a path, at the end of links too.
+/// Returns whether there is a pipe at a path, at the end of links too.
 pub(crate) fn is_pipe<R: Files>(rt: &R, path: &str) -> bool {
     match fs::metadata(rt, path) {
         Ok(metadata) => metadata.file_type().is_fifo(),
@@ -40,14 +40,14 @@ pub(crate) fn is_pipe<R: Files>(rt: &R, path: &str) -> bool {
     }
 }
 
-/// Whether a path is of what a process holds open.
+/// Returns whether a path is of what a process holds open.
 fn is_of_process(path: &str) -> bool
     ensures { result ≡ is_of_process path.now }
 {
     path.starts_with("/proc/") || path.starts_with("/dev/fd/")
 }
 
-/// Where a link leads, if there is one at a path.
+/// Returns where a link leads, if there is one at a path.
 fn end_of_link<A: Allocator + Copy, R: Files>(
     alloc: A,
     rt: &R,

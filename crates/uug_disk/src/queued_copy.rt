@@ -76,7 +76,7 @@ pub(crate) struct Copied<A: Allocator> {
     pub(crate) name: Name,
     path: String<A>,
     mark: String<A>,
-    /// Where it goes when its job has failed.
+    /// Holds the path where it goes when its job has failed.
     aside: String<A>,
 }
 
@@ -94,7 +94,7 @@ impl<A: Allocator> Copied<A> {
         }
     }
 
-    /// Whether it is still the file of its mark.
+    /// Returns whether it is still the file of its mark.
     fn is_marked<R: Files>(&self, rt: &R) -> bool {
         is_same(rt, self.path.as_str(), self.mark.as_str())
     }
@@ -215,7 +215,7 @@ fn link_free<A: Allocator + Copy, R: Files>(
     Err(RunFault::of(&taken, dir, Resource::Given(*base)))
 }
 
-/// Whether there is anything at a path, as far as that can be seen.
+/// Returns whether there is anything at a path, as far as that can be seen.
 fn is_there<R: Files>(rt: &R, path: &str) -> bool {
     fs::symlink_metadata(rt, path).is_ok()
 }
@@ -247,7 +247,7 @@ pub(crate) fn path_with_failed<A: Allocator + Copy>(
     format!(in alloc; "{front}/{FAILED_FILES}/{name}")
 }
 
-/// Whether the file of this name in `send` is a copy that `queue` has made.
+/// Returns whether the file of this name in `send` is a copy that `queue` has made.
 pub(crate) fn is_copy<A: Allocator + Copy, R: Files>(
     alloc: A,
     rt: &R,
@@ -258,7 +258,7 @@ pub(crate) fn is_copy<A: Allocator + Copy, R: Files>(
     Ok(copy.is_marked(rt))
 }
 
-/// Whether two paths are names of one file.
+/// Returns whether two paths are names of one file.
 fn is_same<R: Files>(rt: &R, path: &str, other: &str) -> bool {
     match (fs::metadata(rt, path), fs::metadata(rt, other)) {
         (Ok(file), Ok(other)) => file.dev() == other.dev() && file.ino() == other.ino(),

@@ -164,7 +164,7 @@ fn source_bytes(name: &Name) -> Option<&[u8]>
     Some(local)
 }
 
-/// Under which name a file is kept: one that is sent to the public folder itself, or to the root, under the last part of its own
+/// Returns under which name a file is kept: one that is sent to the public folder itself, or to the root, under the last part of its own
 /// name.
 fn local_landing(source: &Name, target: &Name) -> Name
     ensures { result ≡ local_landing source.now target.now }
@@ -175,7 +175,7 @@ fn local_landing(source: &Name, target: &Name) -> Name
     }
 }
 
-/// What stands behind the last slash of a name.
+/// Returns what stands behind the last slash of a name.
 fn last_part(name: &str) -> &str
     ensures { result.now ≡ last_part name.now }
 {

@@ -13,7 +13,7 @@ use uug_folder::first_jobs;
 use uug_session::{JOBS_MAX, Job, Queue};
 use uug_talk::{Name, split_line, split_word};
 
-/// Whether these are the bytes of one of these names.
+/// Returns whether these are the bytes of one of these names.
 pub(crate) fn has_bytes(names: &[Name], bytes: &[u8]) -> bool
     ensures { result ≡ has_name bytes.now names.now }
 {
@@ -37,7 +37,7 @@ fn is_over(there: &[Name], copy: &Option<Name>) -> bool
     }
 }
 
-/// Whether a line has no word.
+/// Returns whether a line has no word.
 pub(crate) fn is_blank(line: &[u8]) -> bool
     ensures { result ≡ is_blank line.now }
 {

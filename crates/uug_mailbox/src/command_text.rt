@@ -20,21 +20,21 @@ pub struct CommandText<A: Allocator> {
     pub text: Vec<u8, A>,
 }
 
-/// Whether one of these lines stands there in the file of this name, behind so many.
+/// Returns whether one of these lines stands there in the file of this name, behind so many.
 fn has_number(lines: &[OpenLine], file: &Name, number: usize) -> bool
     ensures { result ≡ has_number file.now number lines.now }
 {
     lines.iter().any(|line| line.number == number && line.file.as_bytes() == file.as_bytes())
 }
 
-/// Whether the line there is over, where these lines have gone and those stay.
+/// Returns whether the line there is over, where these lines have gone and those stay.
 fn is_over_in(gone: &[OpenLine], left: &[OpenLine], file: &Name, number: usize) -> bool
     ensures { result ≡ is_over_in file.now number gone.now left.now }
 {
     has_number(gone, file, number) && !has_number(left, file, number)
 }
 
-/// Whether a line of this file has gone that had no copy, by which it would be known that it is over.
+/// Returns whether a line of this file has gone that had no copy, by which it would be known that it is over.
 fn has_lost(gone: &[OpenLine], left: &[OpenLine], file: &Name) -> bool
     ensures { result ≡ has_lost file.now gone.now left.now }
 {
@@ -45,7 +45,7 @@ fn has_lost(gone: &[OpenLine], left: &[OpenLine], file: &Name) -> bool
     })
 }
 
-/// Whether the file of this name is to be written anew.
+/// Returns whether the file of this name is to be written anew.
 fn is_rewritten(gone: &[OpenLine], left: &[OpenLine], file: &Name) -> bool
     ensures { result ≡ is_rewritten file.now gone.now left.now }
 {

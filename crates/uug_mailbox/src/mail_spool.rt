@@ -26,7 +26,7 @@ use uug_talk::{MODE_MAX, Name};
 pub struct MailSpool<D, A: Allocator> {
     given: Vec<Stored<A>, A>,
     public: PublicFolder<A>,
-    /// What was kept, for clauses alone: the bytes are in the spool, and no longer in memory.
+    /// Records what was kept, for clauses alone: the bytes are in the spool, and no longer in memory.
     kept: Vec<Snapshot<Stored<A>>, A>,
     /// The folders in which it is.
     pub folder: SpoolFolder<D, A>,

@@ -15,7 +15,7 @@ pub enum Outcome {
 pub struct OpenLine {
     /// The name of the C. file in which it stands.
     pub file: Name,
-    /// How many lines stand before it there.
+    /// Counts the lines before it there.
     pub number: usize,
     /// The name of its data, if the data is a copy.
     pub copy: Option<Name>,

@@ -14,14 +14,14 @@ use uug_talk::{NAME_MAX, Name};
 /// The most bytes of a path below the public folder: two names, a tilde and two slashes.
 const PATH_MAX: usize = NAME_MAX + 3;
 
-/// What stands in the public folder when a session begins.
+/// Lists what stands in the public folder when a session begins.
 #[derive(Drop)]
 pub struct PublicFolder<A: Allocator> {
     /// The names of its folders.
     pub folders: Vec<Name, A>,
     /// The names under which nothing can be put there.
     pub barred: Vec<Name, A>,
-    /// Whether nothing can be put there at all.
+    /// Tells whether nothing can be put there at all.
     pub is_closed: bool,
 }
 
@@ -36,7 +36,7 @@ pub fn split_last(path: &str) -> Option<(&str, &str)>
     }
 }
 
-/// What stands behind the last slash of a name.
+/// Returns what stands behind the last slash of a name.
 fn last_part(name: &Name) -> &[u8]
     ensures { result.now ≡ last_part name.now }
 {
@@ -46,7 +46,7 @@ fn last_part(name: &Name) -> &[u8]
     }
 }
 
-/// Whether a name is in the public folder by itself, and no path.
+/// Returns whether a name is in the public folder by itself, and no path.
 fn is_public_name(name: &Name) -> bool
     ensures { result ≡ is_public_name name.now }
 {
@@ -80,7 +80,7 @@ impl<A: Allocator> PublicFolder<A> {
         }
     }
 
-    /// Whether nothing can be put right in the folder under this name.
+    /// Returns whether nothing can be put right in the folder under this name.
     fn is_taken(&self, name: &Name) -> bool
         ensures { result ≡ is_taken (shown_public self.now) name.now }
     {
@@ -131,7 +131,7 @@ impl<A: Allocator> PublicFolder<A> {
 }
 
 impl<A: Allocator> PublicFolder<A> {
-    /// Under which name a file of this name is kept that is sent to this one: in the public folder, or in a folder there, under the
+    /// Returns under which name a file of this name is kept that is sent to this one: in the public folder, or in a folder there, under the
     /// last part of its own.
     pub fn landing(&self, source: &Name, target: &Name) -> Name
         ensures { result ≡ landing (shown_public self.now) source.now target.now }
@@ -150,7 +150,7 @@ impl<A: Allocator> PublicFolder<A> {
     }
 }
 
-/// Whether a name is that of a file of the spool.
+/// Returns whether a name is that of a file of the spool.
 fn is_spooled(target: &Name) -> bool
     ensures { result ≡ is_spooled (spot_of target.now) }
 {
@@ -192,7 +192,7 @@ fn below_home(folder: &[u8], last: &[u8]) -> Option<Name>
     Name::new(path.as_slice()).ok()
 }
 
-/// Whether these bytes are a name that is in the public folder by itself.
+/// Returns whether these bytes are a name that is in the public folder by itself.
 fn is_public_last(last: &[u8]) -> bool
     ensures { result ≡ is_public_last (name_of last.now) }
 {

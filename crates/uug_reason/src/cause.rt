@@ -38,7 +38,7 @@ fn much_words(resource: Resource) -> &'static str
     }
 }
 
-/// What there is in place of a regular file: of what is written a named pipe, since a device or a socket is taken there.
+/// Returns what there is in place of a regular file: of what is written a named pipe, since a device or a socket is taken there.
 fn no_file_words(resource: Resource) -> &'static str
     ensures { result.now ≡ no_file_words resource }
 {

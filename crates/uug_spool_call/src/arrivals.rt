@@ -14,7 +14,7 @@ use uug_spool::{Disk, Room, Spot, finish, spot_of};
 use uug_spool_disk::{SpoolDisk, SpoolPaths, is_no_place, is_there, list_room, read_spot};
 use uug_talk::{FILE_MAX, Name};
 
-/// What became of the files that had arrived.
+/// Tells what became of the files that had arrived.
 #[derive(Drop)]
 pub(crate) struct Arrivals<A: Allocator> {
     /// The markers that stand now.
@@ -23,7 +23,7 @@ pub(crate) struct Arrivals<A: Allocator> {
     pub(crate) aside: Vec<Unread, A>,
 }
 
-/// What became of a file that had arrived.
+/// Tells what became of a file that had arrived.
 #[derive(Clone, Copy)]
 enum Landing {
     /// Its marker stands.
@@ -194,7 +194,7 @@ fn land_public<A: Allocator + Copy, R: Files<File = File>>(
     Ok(Landing::Aside(Some(place), failure.cause))
 }
 
-/// Whether the system says that a file can't be put at a path, whatever is tried.
+/// Returns whether the system says that a file can't be put at a path, whatever is tried.
 fn is_refused(cause: Cause) -> bool {
     match cause {
         Cause::Refused(kind, _) => is_no_place(kind),

@@ -95,7 +95,7 @@ fn free_names<A: Allocator + Copy, R: Files>(
     None
 }
 
-/// Where the copy of this job's data was preserved, if it was: that of a command goes with its text too.
+/// Returns where the copy of this job's data was preserved, if it was: that of a command goes with its text too.
 fn preserved_at<'a, R: Files<File = File>, A: Allocator + Copy>(
     end: &'a SpoolEnd<'_, '_, R, A>,
     job: &Job,
@@ -144,7 +144,7 @@ fn two_digits(number: u8) -> (u8, u8) {
     (number / 10 % 10, number % 10)
 }
 
-/// What is mailed of data that was preserved at this path.
+/// Returns what is mailed of data that was preserved at this path.
 fn saved_words<A: Allocator>(alloc: A, path: Option<&str>) -> Result<String<A>, AllocError> {
     match path {
         Some(path) => format!(in alloc; "\nFile saved as\n{path}\n"),

@@ -20,7 +20,7 @@ const PUBLIC_NAMES_MAX: usize = 1024;
 /// As everybody may read them.
 const GIVEN_MODE: u16 = 0o644;
 
-/// What stands in the public folder. Where the system fails to read it that is noted, and nothing is known of it.
+/// Lists what stands in the public folder. Notes where the system fails to read it: nothing is known of it then.
 pub(crate) fn look_at_public<A: Allocator + Copy, R: Files + Alloc + Clone + Drop>(
     ungiven: &mut Vec<Unread, A>,
     alloc: A,

@@ -42,7 +42,7 @@ pub(crate) struct SpoolEnd<'a, 'p, R: Files<File = File>, A: Allocator + Copy> {
     pub(crate) unread: Vec<Unread, A>,
     /// What is not given since it can't be read.
     pub(crate) ungiven: Vec<Unread, A>,
-    /// What had come, and was set aside.
+    /// Names what had come and was set aside.
     pub(crate) aside: Vec<Unread, A>,
 }
 

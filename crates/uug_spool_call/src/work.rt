@@ -39,16 +39,16 @@ pub(crate) struct Unread {
     pub(crate) cause: Cause,
 }
 
-/// How much a session may still offer.
+/// Tells how much a session may still offer.
 #[derive(Clone, Copy)]
 struct Budget {
-    /// So many bytes.
+    /// Limits the bytes.
     bytes: u64,
-    /// So many jobs.
+    /// Limits the jobs.
     jobs: usize,
-    /// Whether nothing is offered yet.
+    /// Tells whether nothing is offered yet.
     is_first: bool,
-    /// Whether nothing more is.
+    /// Tells whether nothing more is.
     is_full: bool,
 }
 
@@ -65,7 +65,7 @@ impl Budget {
         }
     }
 
-    /// Whether a job with a file of this size is offered still. The first is; behind one that is not, none is.
+    /// Returns whether a job with a file of this size is offered still. The first is; behind one that is not, none is.
     fn take(&mut self, size: u64) -> bool
         ensures { (result ≡ budget_fits self.old size) × (self.new ≡ budget_after self.old size) }
     {
@@ -86,7 +86,7 @@ pub(crate) struct Work<A: Allocator> {
     pub(crate) lines: Vec<OpenLine, A>,
     /// Their texts.
     pub(crate) texts: Vec<CommandText<A>, A>,
-    /// So many of the jobs of these lines are offered, from the front.
+    /// Counts the jobs of these lines that are offered, from the front.
     pub(crate) offered: usize,
     pub(crate) files: Vec<Stored<A>, A>,
     /// The commands that these lines have run.
@@ -95,7 +95,7 @@ pub(crate) struct Work<A: Allocator> {
     pub(crate) unread: Vec<Unread, A>,
     /// What is not given since it can't be read.
     pub(crate) ungiven: Vec<Unread, A>,
-    /// What had come, and was set aside.
+    /// Names what had come and was set aside.
     pub(crate) aside: Vec<Unread, A>,
 }
 
@@ -263,7 +263,7 @@ fn read_commands<A: Allocator + Copy, R: Files>(
     Ok(Some(more))
 }
 
-/// So many jobs have the lines before which less than so many stand in their file.
+/// Counts the jobs of the lines before which fewer than so many stand in their file.
 fn count_jobs(lines: &[OpenLine], front: usize) -> usize {
     lines
         .iter()
@@ -552,7 +552,7 @@ fn add_sent<A: Allocator + Copy, R: Files>(
     }
 }
 
-/// Whether this is one of these names.
+/// Returns whether this is one of these names.
 fn is_among(names: &[Name], name: &Name) -> bool {
     names
         .iter()

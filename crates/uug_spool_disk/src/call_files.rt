@@ -55,7 +55,7 @@ pub fn append_line<R: Files<File = File>>(rt: &R, path: &str, line: &[u8]) -> io
     file.write_all(line)
 }
 
-/// Whether there is a pipe at a path, which would be waited for when it is opened. One that this process has already, as its
+/// Returns whether there is a pipe at a path, which would be waited for when it is opened. One that this process has already, as its
 /// standard output, is none of these.
 pub(crate) fn is_named_pipe<R: Files>(rt: &R, path: &str) -> bool {
     if path.starts_with("/dev/") || path.starts_with("/proc/") {

@@ -22,7 +22,7 @@ pub struct PublicListing<A: Allocator> {
     pub folders: Vec<Name, A>,
     /// Those of files that this program can't replace.
     pub anothers: Vec<Name, A>,
-    /// Whether this program can't put anything there.
+    /// Tells whether this program can't put anything there.
     pub is_closed: bool,
 }
 
@@ -42,7 +42,7 @@ impl Access {
     }
 }
 
-/// Whether a user can surely put nothing in a folder: it is another's, and neither a group nor everybody may write there; or it is
+/// Returns whether a user can surely put nothing in a folder: it is another's, and neither a group nor everybody may write there; or it is
 /// their own, and they may not. Root may.
 fn is_closed(folder: Access, me: u32) -> bool
     ensures { result ≡ is_closed folder.owner folder.mode me }
@@ -51,7 +51,7 @@ fn is_closed(folder: Access, me: u32) -> bool
     me != 0 && folder.mode & bits == 0
 }
 
-/// Whether a file is one that a user can't replace: that of another, in a folder of another from which each may take only their
+/// Returns whether a file is one that a user can't replace: that of another, in a folder of another from which each may take only their
 /// own. Root may.
 fn is_anothers(folder: Access, owner: u32, me: u32) -> bool
     ensures { result ≡ is_anothers folder.owner folder.mode owner me }
@@ -95,7 +95,7 @@ impl<A: Allocator + Copy> PublicListing<A> {
     }
 }
 
-/// What stands in the public folder. Nothing does where it lacks.
+/// Lists what stands in the public folder. Nothing does where it lacks.
 pub fn list_public<A: Allocator + Copy, R: Files + Alloc + Clone + Drop>(
     alloc: A,
     rt: &R,
@@ -110,7 +110,7 @@ pub fn list_public<A: Allocator + Copy, R: Files + Alloc + Clone + Drop>(
     }
 }
 
-/// What stands in the folder at this path.
+/// Lists what stands in the folder at this path.
 fn read_listing<A: Allocator + Copy, R: Files + Alloc + Clone + Drop>(
     alloc: A,
     rt: &R,

@@ -21,7 +21,7 @@ use uug_talk::Name;
 /// The name, in the folder of what is preserved, of the file that tells of jobs that have failed.
 const TOLD: &str = "failed";
 
-/// So many preserved files may have one name, but for the number behind it.
+/// Limits how many preserved files may have one name, but for the number behind it.
 const PRESERVED_MAX: u32 = 10_000;
 
 /// The mode of a file that everybody may read, and write where the mask of the process lets them.
@@ -42,7 +42,7 @@ pub struct Arrived {
 /// A file that was preserved.
 #[derive(Drop)]
 pub struct Preserved<A: Allocator> {
-    /// What it was called before.
+    /// Gives its former name.
     pub name: Name,
     /// Its path.
     pub path: String<A>,
@@ -166,7 +166,7 @@ impl<R: Files<File = File>, A: Allocator + Copy> Disk for SpoolDisk<'_, '_, R, A
         self.answer(moved)
     }
 
-    /// What has that place already stays there, and this gets the next free name.
+    /// Leaves what has that place already, and takes the next free name.
     fn put_away(&mut self, from: &Spot, to: &Spot) -> Result<(), DiskFailed> {
         match preserve_file(self.alloc, self.rt, self.paths, from, to) {
             Ok(path) => {

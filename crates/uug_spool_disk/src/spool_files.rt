@@ -233,7 +233,7 @@ fn is_out_of_reach(kind: ErrorKind) -> bool
     )
 }
 
-/// Whether an error of this kind says that a file can't be put at a path, whatever is tried.
+/// Returns whether an error of this kind says that a file can't be put at a path, whatever is tried.
 pub fn is_no_place(kind: ErrorKind) -> bool
     ensures { result ≡ is_no_place kind }
 {
@@ -268,7 +268,7 @@ pub fn linked_room<A: Allocator + Copy, R: Files>(
     Ok(None)
 }
 
-/// Whether what was looked at is a link. What is not there is none.
+/// Returns whether what was looked at is a link. What is not there is none.
 fn is_link(seen: io::Result<Metadata>) -> io::Result<bool> {
     match seen {
         Ok(seen) => Ok(seen.is_symlink()),

@@ -26,7 +26,7 @@ fn store_of(rt: &impl Abort, alloc: Global, count: u32) -> Store {
     WorkStore::new(alloc, MemoryDisk::new(alloc, 100_000), lines, files)
 }
 
-/// So many lines were written last, or none.
+/// Counts the lines that were written last, if any were.
 fn lines_written(store: &Store) -> Option<usize> {
     let mut written = None;
     for operation in store.disk.operations() {

@@ -127,7 +127,7 @@ where
     ended(status, failed, why)
 }
 
-/// Whether a session ended so since a call of the system on the files of a spool has failed. The line is another's affair, and so is
+/// Returns whether a session ended so since a call of the system on the files of a spool has failed. The line is another's affair, and so is
 /// memory.
 fn is_of_files(is_spool: bool, fault: ToolFault, why: &Option<SystemFailure>) -> bool
     ensures { result ≡ is_of_files is_spool fault why.now }
@@ -138,7 +138,7 @@ fn is_of_files(is_spool: bool, fault: ToolFault, why: &Option<SystemFailure>) ->
     }
 }
 
-/// Whether a call of the system has failed that was made on a file of the spool: the folder of the end's locks has another number.
+/// Returns whether a call of the system has failed that was made on a file of the spool: the folder of the end's locks has another number.
 fn is_of_spool(failure: &SystemFailure) -> bool
     ensures { result ≡ is_of_spool failure.now }
 {
@@ -148,7 +148,7 @@ fn is_of_spool(failure: &SystemFailure) -> bool
     }
 }
 
-/// What an end answers whose sessions had this status at most, where the files of one have failed first so, or of none.
+/// Returns what an end answers whose sessions had this status at most, where the files of one have failed first so, or of none.
 fn ended(
     status: u8,
     failed: Option<SystemFailure>,
