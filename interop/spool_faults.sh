@@ -46,21 +46,23 @@ offer() {
     cp "$work/$1/src/$2" "$work/$1/pub/$2"
 }
 
-# work_file NODE NAME: what comes in is this C. file
-work_file() {
+# spool_file NODE FOLDER NAME: what comes in is this file of the spool, in that folder of the other system
+spool_file() {
     local folder
-    folder=$work/$1/spool/$(other "$1")/C.
+    folder=$work/$1/spool/$(other "$1")/$2
     as_uucp mkdir -p "$folder"
     as_uucp tee "$folder/TMP" >/dev/null
-    mv "$folder/TMP" "$folder/$2"
+    mv "$folder/TMP" "$folder/$3"
+}
+
+# work_file NODE NAME: what comes in is this C. file
+work_file() {
+    spool_file "$1" C. "$2"
 }
 
 # data_file NODE NAME: what comes in is a copy of this name
 data_file() {
-    local folder
-    folder=$work/$1/spool/$(other "$1")/D.
-    as_uucp mkdir -p "$folder"
-    as_uucp tee "$folder/$2" >/dev/null
+    spool_file "$1" D. "$2"
 }
 
 # same FILE FILE
