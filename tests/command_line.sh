@@ -11,10 +11,12 @@ find_program "${1:-}"
 new_passing_work
 line_feed='
 '
+usage="uucpair: bad usage${line_feed}uucpair: "
+device="uucpair: device fault$line_feed"
 
 # row NAME STATUS SAID PRINTED WORD..: runs the program with the words on standard input, by the function that `by` names,
-# if it does. What it says on standard error begins with SAID, and is nothing where SAID is; what it prints is PRINTED, to
-# the last byte.
+# if it does. What it says on standard error is SAID, to the last byte, or where `begins` is set begins with it: the parser's
+# texts, and what has a time in it. What it prints is PRINTED.
 row() {
     local name=$1 status=$2 said=$3 printed=$4 ended=0 text fault=
     shift 4
@@ -22,7 +24,7 @@ row() {
     text=$(cat "$work/said" && echo .)
     text=${text%.}
     [ "$ended" -eq "$status" ] || fault="$fault ended with $ended, not $status;"
-    [[ $text == "$said"* && (-n $said || -z $text) ]] || fault="$fault said $text;"
+    [ "$text" = "$said" ] || [[ -n ${begins:-} && $text == "$said"* ]] || fault="$fault said $text;"
     printf '%s' "$printed" | cmp -s - "$work/printed" || fault="$fault printed $(cat "$work/printed");"
     report "$name" "$fault"
 }
@@ -254,61 +256,62 @@ row "a ladder that ends at once" 1 "" "${silent_report}session 1${line_feed}even
 row "a script that is too much for a picture" 2 "uucpair: bad usage${line_feed}uucpair: a picture has at most 1000000 rungs$line_feed" "" \
     play --svg < <(printf 'caller a 2 32\ncalled b 2 32\n'; yes call | head -n 250000)
 row "a bad script that is not drawn" 2 "uucpair: bad script at line 2$line_feed" "" play --ladder < <(printf '\ncall me\n')
-row "a ladder and a picture at once" 2 "error: " "" play --ladder --svg </dev/null
-row "a ladder that settles" 2 "error: " "" play --ladder --settle </dev/null
-row "two options that exclude each other" 2 "error: " "" play --settle -v </dev/null
+begins=yes row "a ladder and a picture at once" 2 "error: " "" play --ladder --svg </dev/null
+begins=yes row "a ladder that settles" 2 "error: " "" play --ladder --settle </dev/null
+begins=yes row "two options that exclude each other" 2 "error: " "" play --settle -v </dev/null
 
-row "no tool" 2 "error: " "" </dev/null
-row "an unknown tool" 2 "error: " "" copy s a b </dev/null
-row "two words after scan" 2 "error: " "" scan file file </dev/null
-row "two words after play" 2 "error: " "" play file file </dev/null
-row "a pair without a folder" 2 "error: " "" pair s a </dev/null
-row "a pair with a number that is none" 2 "error: " "" pair s a b --drop-every x </dev/null
-row "a pair with a number out of range" 2 "uucpair: bad usage$line_feed" "" pair s a b --flip-every 1 </dev/null
-row "a call without names" 2 "error: " "" call l a </dev/null
-row "a call with a window of 8" 2 "uucpair: bad usage$line_feed" "" call l a --me a --peer b --window 8 </dev/null
-row "a call with a size of 65" 2 "uucpair: bad usage$line_feed" "" call l a --me a --peer b --size 65 </dev/null
-row "a call that never waits" 2 "uucpair: bad usage$line_feed" "" call l a --me a --peer b --timeout 0 </dev/null
-row "a call over a line without a speed" 2 "uucpair: bad usage$line_feed" "" call l a --me a --peer b --speed 0 </dev/null
-row "a call over a line that is too slow" 2 "uucpair: bad usage$line_feed" "" call l a --me a --peer b --speed 299 </dev/null
-row "a call over a line that is too fast" 2 "uucpair: bad usage$line_feed" "" call l a --me a --peer b --speed 10000001 </dev/null
-row "a call that waits to be called" 2 "error: " "" call l a --me a --peer b --wait 5 </dev/null
-row "an answer that doesn't wait" 2 "uucpair: bad usage$line_feed" "" answer l a --me a --peer b --wait 0 </dev/null
-row "an answer that waits too long" 2 "uucpair: bad usage$line_feed" "" answer l a --me a --peer b --wait 1000000001 </dev/null
-row "a call to a port that is none" 2 "uucpair: bad usage$line_feed" "" call tcp:h:x a --me a --peer b </dev/null
-row "a call to a socket without a path" 2 "uucpair: bad usage$line_feed" "" call unix: a --me a --peer b </dev/null
-row "a call over a line without a name" 2 "uucpair: bad usage$line_feed" "" call "" a --me a --peer b </dev/null
-row "an answer with a name that is none" 2 "uucpair: bad usage$line_feed" "" answer l a --me "a b" --peer b </dev/null
+begins=yes row "no tool" 2 "error: " "" </dev/null
+begins=yes row "an unknown tool" 2 "error: " "" copy s a b </dev/null
+begins=yes row "two words after scan" 2 "error: " "" scan file file </dev/null
+begins=yes row "two words after play" 2 "error: " "" play file file </dev/null
+begins=yes row "a pair without a folder" 2 "error: " "" pair s a </dev/null
+begins=yes row "a pair with a number that is none" 2 "error: " "" pair s a b --drop-every x </dev/null
+row "a pair with a number out of range" 2 "${usage}flip-every 1 is not 2 to 1000000$line_feed" "" pair s a b --flip-every 1 </dev/null
+begins=yes row "a call without names" 2 "error: " "" call l a </dev/null
+row "a call with a window of 8" 2 "${usage}window 8 is not 1 to 7$line_feed" "" call l a --me a --peer b --window 8 </dev/null
+row "a call with a size of 65" 2 "${usage}size 65 is not 32, 64, 128, 256, 512, 1024, 2048 or 4096$line_feed" "" call l a --me a --peer b --size 65 </dev/null
+row "a call that never waits" 2 "${usage}timeout 0 is not 1 to 600$line_feed" "" call l a --me a --peer b --timeout 0 </dev/null
+row "a call over a line without a speed" 2 "${usage}speed 0 is not 300 to 10000000$line_feed" "" call l a --me a --peer b --speed 0 </dev/null
+row "a call over a line that is too slow" 2 "${usage}speed 299 is not 300 to 10000000$line_feed" "" call l a --me a --peer b --speed 299 </dev/null
+row "a call over a line that is too fast" 2 "${usage}speed 10000001 is not 300 to 10000000$line_feed" "" call l a --me a --peer b --speed 10000001 </dev/null
+begins=yes row "a call that waits to be called" 2 "error: " "" call l a --me a --peer b --wait 5 </dev/null
+row "an answer that doesn't wait" 2 "${usage}wait 0 is not 1 to 1000000000$line_feed" "" answer l a --me a --peer b --wait 0 </dev/null
+row "an answer that waits too long" 2 "${usage}wait 1000000001 is not 1 to 1000000000$line_feed" "" answer l a --me a --peer b --wait 1000000001 </dev/null
+row "a call to a port that is none" 2 "${usage}tcp:h:x has no port of 0 to 65535$line_feed" "" call tcp:h:x a --me a --peer b </dev/null
+row "a call to a socket without a path" 2 "${usage}unix: has no path$line_feed" "" call unix: a --me a --peer b </dev/null
+row "a call over a line without a name" 2 "${usage}the line has no name$line_feed" "" call "" a --me a --peer b </dev/null
+row "an answer with a name that is none" 2 \
+    "${usage}\"a b\" is no name of a system: 1 to 200 printing characters without a space$line_feed" "" answer l a --me "a b" --peer b </dev/null
 row "an answer without the name of the other end" 2 \
-    "uucpair: bad usage${line_feed}uucpair: the name of the other end is missing: --peer$line_feed" "" answer l a --me a </dev/null
-row "a call without the name of the other end" 2 "error: " "" call l a --spool --me a </dev/null
+    "${usage}the name of the other end is missing: --peer$line_feed" "" answer l a --me a </dev/null
+begins=yes row "a call without the name of the other end" 2 "error: " "" call l a --spool --me a </dev/null
 row "a word that is no text" 2 "uucpair: bad usage$line_feed" "" $'\377' </dev/null
-row "help" 2 "Tools for the" "" --help </dev/null
+begins=yes row "help" 2 "Tools for the" "" --help </dev/null
 helps "help on scan" "scan    Reads bytes"
 helps "help on play" "play    Reads a script"
 helps "help on pair" "pair    Moves files"
 helps "help on call" "call    Calls another system"
 helps "help on answer" "answer  Waits for the call"
 helps "help on queue" "queue   Queues a job"
-row "help of scan" 2 "Reads bytes" "" scan --help </dev/null
+begins=yes row "help of scan" 2 "Reads bytes" "" scan --help </dev/null
 helps "a line of a listing" "  DATA N ACK N SIZE N VALID N"
 helps "a line of a detailed listing" "  CONTROL BAD checksum"
 helps "the statuses of scan" "Status: 0 done, 2 bad usage"
 helps "an example of scan" "printf '\\020\\011\\157\\252\\073\\367' | uucpair scan"
-row "help of play" 2 "Reads a script" "" play --help </dev/null
+begins=yes row "help of play" 2 "Reads a script" "" play --help </dev/null
 helps "a line of a script" "  immovable SIDE NAME "
 helps "the statuses of play" "5 the line fooled an end"
 helps "an example of play" "flow 20\\n' | uucpair play"
-row "help of pair" 2 "Moves files" "" pair --help </dev/null
+begins=yes row "help of pair" 2 "Moves files" "" pair --help </dev/null
 helps "a line of jobs" "request SOURCE TARGET USER"
 helps "the statuses of pair" "Status: 0 both sessions are done"
 helps "an example of pair" "uucpair pair line a b --drop-every 7"
-row "help of call" 2 "Calls another system" "" call --help </dev/null
+begins=yes row "help of call" 2 "Calls another system" "" call --help </dev/null
 helps "a name of a line" "  tcp:HOST:PORT  "
 helps "the statuses of call" "Status: 0 the session is done"
 helps "an example of call" "uucpair call unix:line a --me alpha --peer beta"
 helps "the log of a call" "--log <FILE>"
-row "help of answer" 2 "Waits for the call" "" answer --help </dev/null
+begins=yes row "help of answer" 2 "Waits for the call" "" answer --help </dev/null
 row "the version" 0 "" "uucpair 0.1.0$line_feed" --version </dev/null
 row "the version in short" 0 "" "uucpair 0.1.0$line_feed" -V </dev/null
 
@@ -320,14 +323,18 @@ row "a play of a file" 0 "" "$idle_report" play "$work/script" <"$work"
 row "a bad script in a file" 2 "uucpair: bad script at line 1$line_feed" "" play "$work/packet" </dev/null
 row "what is wrong with a bad script in a file" 2 "uucpair: bad script at line 1${line_feed}uucpair: unknown statement$line_feed" "" \
     play -v "$work/packet" </dev/null
-absent="uucpair: device fault${line_feed}uucpair: can't read $work/absent$line_feed"
-row "a scan of no file" 3 "$absent" "" scan "$work/absent" </dev/null
+absent="${device}uucpair: can't read $work/absent${line_feed}uucpair: $work/absent: no such file or directory$line_feed"
+row "a scan of no file" 3 "$device" "" scan "$work/absent" </dev/null
 row "a detailed scan of no file" 3 "$absent" "" scan -v "$work/absent" </dev/null
-row "a play of no file" 3 "$absent" "" play "$work/absent" </dev/null
+row "a play of no file" 3 "$device" "" play "$work/absent" </dev/null
+row "a play of no file that would settle" 3 "$device" "" play --settle "$work/absent" </dev/null
+row "a play of no file that would be drawn" 3 "$device" "" play --ladder "$work/absent" </dev/null
 row "what is wrong with no file" 3 "$absent" "" play -v "$work/absent" </dev/null
-folder="uucpair: device fault${line_feed}uucpair: can't read $work$line_feed"
-row "a scan of a folder by name" 3 "$folder" "" scan "$work" </dev/null
-row "a play of a folder by name" 3 "$folder" "" play "$work" </dev/null
+folder="${device}uucpair: can't read $work${line_feed}uucpair: $work: is a directory$line_feed"
+row "a scan of a folder by name" 3 "$device" "" scan "$work" </dev/null
+row "a detailed scan of a folder by name" 3 "$folder" "" scan -v "$work" </dev/null
+row "a play of a folder by name" 3 "$device" "" play "$work" </dev/null
+row "what is wrong with a folder by name" 3 "$folder" "" play -v "$work" </dev/null
 reading="uucpair: reading standard input, up to Ctrl-D$line_feed"
 by=at_a_terminal row "a scan at a terminal" 0 "$reading" "REST 0$line_feed" scan
 by=at_a_terminal row "a detailed scan at a terminal" 0 "$reading" "REST 0 AT 0 LENGTH 0$line_feed" scan -v
@@ -335,7 +342,7 @@ by=at_a_terminal row "a play at a terminal" 2 "${reading}uucpair: bad script at 
 by=at_a_terminal row "a scan of a file at a terminal" 0 "" "INITA 3${line_feed}REST 0$line_feed" scan "$work/packet"
 
 cp "$root/uucpair" "$work/launcher"
-program=$work/launcher row "a launcher that was copied away" 125 "uucpair: the launcher runs only in the folder" "" scan </dev/null
+begins=yes program=$work/launcher row "a launcher that was copied away" 125 "uucpair: the launcher runs only in the folder" "" scan </dev/null
 helps "what the launcher misses" "$work has no crates.txt"
 
 a=$work/a
@@ -393,10 +400,18 @@ rm -r "$a/b"
 hears "a caller of a hub that knows no such system" "<Shere=a><RYou are unknown to me>"
 folders "send x y"
 row "a pair with a bad job" 2 "uucpair: bad jobs at line 1$line_feed" "" pair "$socket" "$a" "$b" </dev/null
+row "what is wrong with a bad job" 2 \
+    "uucpair: bad jobs at line 1${line_feed}uucpair: $a/jobs: line 1: USER is missing$line_feed" "" pair "$socket" "$a" "$b" -v </dev/null
+row "a call with a bad job" 2 \
+    "uucpair: bad jobs at line 1${line_feed}uucpair: $a/jobs: line 1: USER is missing$line_feed" "" \
+    call "unix:$socket" "$a" --me a --peer b </dev/null
 holds "the bad job" "$a/jobs" "send x y$line_feed"
 folders "send x y u"
 touch "$socket"
-row "a pair whose socket has no place" 3 "uucpair: device fault$line_feed" "" pair "$socket" "$a" "$b" </dev/null
+row "a pair whose socket has no place" 3 "$device" "" pair "$socket" "$a" "$b" </dev/null
+row "why that socket has none" 3 "${device}uucpair: $socket: address in use$line_feed" "" pair "$socket" "$a" "$b" --verbose </dev/null
+row "a pair without a folder to read" 3 "$device" "" pair "$socket" "$a/none" "$b" </dev/null
+row "why there is none" 3 "${device}uucpair: $a/none: no such file or directory$line_feed" "" pair "$socket" "$a/none" "$b" -v </dev/null
 holds "the job that was not begun" "$a/jobs" "send x y u$line_feed"
 
 # answer_in_the_background [OPTION]: waits until the socket is there.
@@ -449,7 +464,7 @@ row "a call that tells no digests" 0 "" "caller done pending 0 struck 1 failed 0
 wait "$answerer" || true
 folders "send ~/x y u"
 answer_in_the_background
-row "a call that is followed" 0 "uucpair: 0 s: " "caller done pending 0 struck 1 failed 0$line_feed" \
+begins=yes row "a call that is followed" 0 "uucpair: 0 s: " "caller done pending 0 struck 1 failed 0$line_feed" \
     call "unix:$socket" "$a" --me a --peer b -v </dev/null
 wait "$answerer" || true
 helps "the job that begins" " s: send ~/x y"
@@ -501,9 +516,10 @@ row "a call with a bad number file" 2 "uucpair: bad number file$line_feed" "" \
 holds "the bad number" "$a/number" "seven$line_feed"
 holds "the job that is left behind a bad number" "$a/jobs" "send x y u$line_feed"
 folders "send x y u"
-row "a call where nobody listens" 3 "uucpair: device fault$line_feed" "" \
+row "a call where nobody listens" 3 "${device}uucpair: unix:$socket: no such file or directory$line_feed" "" \
     call "unix:$socket" "$a" --me a --peer b </dev/null
-row "a call over what is no device" 3 "uucpair: device fault$line_feed" "" call "$a/jobs" "$a" --me a --peer b </dev/null
+# EPERM: a regular file can't be waited for
+row "a call over what is no device" 3 "${device}uucpair: $a/jobs: permission denied$line_feed" "" call "$a/jobs" "$a" --me a --peer b </dev/null
 holds "the job that is left after no call" "$a/jobs" "send x y u$line_feed"
 
 by=at_a_terminal row "an answer at a terminal" 1 "uucpair: waiting on unix:$socket${line_feed}uucpair: heard nothing$line_feed" \
@@ -525,15 +541,29 @@ announces "those of one on a slow line" 256 --speed 1199
 announces "those of one on a line that is not so slow" 1024 --speed 1200
 announces "those of one that is told a size" 64 --size 64 --speed 300
 
-fault="uucpair: device fault$line_feed"
-row "a scan of a folder" 3 "$fault" "" scan <"$work"
-row "a play of a folder" 3 "$fault" "" play <"$work"
-by=on_a_broken_line row "a scan whose input fails" 3 "$fault" "INITA 3$line_feed" scan < <(packet)
-by=on_a_broken_line row "a detailed scan whose input fails" 3 "$fault" "INITA 3 AT 0 LENGTH 6$line_feed" scan -v < <(packet)
-by=on_a_broken_line row "a play whose input fails" 3 "$fault" "" play < <(printf '%s' "$idle")
-by=to_a_full_disk row "a scan whose output fails" 3 "$fault" "" scan < <(packet)
-by=to_a_full_disk row "a detailed scan whose output fails" 3 "$fault" "" scan -v < <(packet)
-by=to_a_full_disk row "a play whose output fails" 3 "$fault" "" play < <(printf '%s' "$idle")
+row "a scan of a folder" 3 "$device" "" scan <"$work"
+row "a detailed scan of a folder" 3 "${device}uucpair: standard input: is a directory$line_feed" "" scan -v <"$work"
+row "a play of a folder" 3 "$device" "" play <"$work"
+row "why a folder is not played" 3 "${device}uucpair: standard input: is a directory$line_feed" "" play -v <"$work"
+# EIO
+broken="${device}uucpair: standard input: error 5$line_feed"
+by=on_a_broken_line row "a scan whose input fails" 3 "$device" "INITA 3$line_feed" scan < <(packet)
+by=on_a_broken_line row "a detailed scan whose input fails" 3 "$broken" "INITA 3 AT 0 LENGTH 6$line_feed" scan -v < <(packet)
+by=on_a_broken_line row "a play whose input fails" 3 "$device" "" play < <(printf '%s' "$idle")
+by=on_a_broken_line row "why the input of a play fails" 3 "$broken" "" play -v < <(printf '%s' "$idle")
+full="${device}uucpair: standard output: no space left$line_feed"
+by=to_a_full_disk row "a scan whose output fails" 3 "$device" "" scan < <(packet)
+by=to_a_full_disk row "a detailed scan whose output fails" 3 "$full" "" scan -v < <(packet)
+by=to_a_full_disk row "a play whose output fails" 3 "$device" "" play < <(printf '%s' "$idle")
+by=to_a_full_disk row "why the output of a play fails" 3 "$full" "" play -v < <(printf '%s' "$idle")
+by=to_a_full_disk row "a ladder whose output fails" 3 "$device" "" play --ladder < <(printf '%s' "$idle")
+folders "send x y u"
+rm -f "$socket"
+by=to_a_full_disk row "a pair whose output fails" 3 "$device" "" pair "$socket" "$a" "$b" </dev/null
+folders "send x y u"
+by=to_a_full_disk row "why the output of a pair fails" 3 "$full" "" pair "$socket" "$a" "$b" -v </dev/null
+folders "send x y u"
+by=to_a_full_disk row "a list whose output fails" 3 "$full" "" queue "$a" </dev/null
 by=with_little_memory row "a script that memory does not hold" 4 "uucpair: out of memory$line_feed" "" \
     play < <(head -c 67108864 /dev/zero)
 

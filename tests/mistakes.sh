@@ -89,14 +89,14 @@ call_of a unix:line
 mistake "line and folder exchanged" 3 "${fault}unix:line: no such file or directory" "${call[@]}"
 : >"$work/taken"
 mistake "a place of a socket that is taken" 3 "${fault}unix:taken: address in use" answer unix:taken a --me alpha --peer beta
-mistake "the same of a pair" 3 "${fault}taken: address in use" pair taken a b
+mistake "the same of a pair" 3 "${fault}taken: address in use" pair taken a b -v
 python3 -c 'import socket, sys
 socket.socket(socket.AF_UNIX).bind(sys.argv[1])' "$work/old"
 chmod 777 "$work/old"
 call_of unix:old a
 mistake "a socket at which nobody listens" 3 "${fault}unix:old: connection refused" "${call[@]}"
-mistake "a socket in a folder that is not there" 3 "${fault}none/s: no such file or directory" pair none/s a b
-mistake "what can't be seen in the name of a socket" 3 "${fault}none\\x1b[31m/s: no such file or directory" pair $'none\e[31m/s' a b
+mistake "a socket in a folder that is not there" 3 "${fault}none/s: no such file or directory" pair none/s a b -v
+mistake "what can't be seen in the name of a socket" 3 "${fault}none\\x1b[31m/s: no such file or directory" pair $'none\e[31m/s' a b -v
 call_of - a
 mistake "standard input that is no line" 3 "${fault}-: not supported" "${call[@]}"
 : >"$work/device"
@@ -124,7 +124,7 @@ for ((i = 1; i < 257; i++)); do
     : >"$work/a/send/$i"
 done
 chmod -R a+rX "$work/a/send"
-mistake "too many files" 3 "${fault}a/send: more than 256 files" pair s a b
+mistake "too many files" 3 "${fault}a/send: more than 256 files" pair s a b -v
 
 # ---- jobs
 
@@ -141,7 +141,7 @@ folders $'send x ~/\a me'
 mistake "a target that is no name" 2 "$jobs 1"$'\n''a/jobs: line 1: "~/\x07" is no name: 1 to 200 printing characters' "${call[@]}"
 folders "send x ~/y me"
 echo "get x y me" >"$work/b/jobs"
-mistake "the same of the called end of a pair" 2 "$jobs 1"$'\n''b/jobs: line 1: "get" is neither send nor request' pair s a b
+mistake "the same of the called end of a pair" 2 "$jobs 1"$'\n''b/jobs: line 1: "get" is neither send nor request' pair s a b -v
 
 # ---- jobs that fail
 
@@ -289,8 +289,8 @@ heard_last "the same, of which not all can be seen" '\x10ROK\x1b[31m\0' '"ROK\x1
 # ---- what is read
 
 folders
-mistake "no file to list" 3 "${fault}can't read none"$'\n'"none: no such file or directory" scan none
-mistake "a folder to play" 3 "${fault}can't read a"$'\n'"a: is a directory" play a
+mistake "no file to list" 3 "${fault}can't read none"$'\n'"none: no such file or directory" scan -v none
+mistake "a folder to play" 3 "${fault}can't read a"$'\n'"a: is a directory" play -v a
 mistake "nothing to queue in" 3 "${fault}none: no such file or directory" queue none
 mistake "no file to queue" 3 "${fault}can't read none"$'\n'"none: no such file or directory" queue a send none
 head -c 1048577 /dev/zero >"$work/large"

@@ -251,14 +251,14 @@ run_by() {
 }
 
 scan() {
-    run_by scan "$root/examples/noise.bytes"
+    run_by scan -v "$root/examples/noise.bytes"
 }
 done_scan() {
     :
 }
 
 play() {
-    run_by play "$root/examples/clean.script"
+    run_by play -v "$root/examples/clean.script"
 }
 done_play() {
     :
@@ -288,7 +288,7 @@ done_queue() {
 
 pair() {
     printf 'send near1 near1 u\nrequest far2 far2 u\n' >"$scene/near/jobs"
-    run_by pair "$scene/socket" "$scene/near" "$scene/far"
+    run_by pair "$scene/socket" "$scene/near" "$scene/far" -v
 }
 done_pair() {
     all_moved ours
@@ -333,7 +333,7 @@ closed() {
 # input_closed TOOL: it reads standard input, and there is none.
 input_closed() {
     by=()
-    run_by "$1" <&- >"$scene/out"
+    run_by "$1" -v <&- >"$scene/out"
     # EBADF
     [ "$status" -eq 3 ] && same $'uucpair: device fault\nuucpair: standard input: error 9\n' "$scene/said" && same "" "$scene/out"
 }

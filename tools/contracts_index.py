@@ -1,7 +1,7 @@
 #!/usr/bin/env python3
 """Makes the parts of the documents that say what stands where in the sources.
 
-    tools/contracts_index.py [--check | --regroup]
+    tools/contracts_index.py [--check | --regroup | definitions]
 
 Each part stands in its document between two lines:
 
@@ -15,10 +15,11 @@ KIND NAME is one of
                     that no row does
     crates          the crates, in the order of crates.txt, with the first sentence of the comment that each begins
                     with, and what it stands on
-    definitions     each file of specs/ with the first sentence of the comment that it begins with, and the
-                    definitions in it that clauses of public functions name
     believed        how many definitions main promises rest on (tools/believed.py)
     edits           how many wrong bodies each crate has
+
+With `definitions` it prints each file of specs/ with the first sentence of the comment that it begins with, and the
+definitions in it that clauses of public functions name.
 
 The parts are written anew. With --check nothing is written, and the exit is 1 if one is out of date. A crate of
 crates.txt with public functions whose section in docs/CONTRACTS.md has no part is told too. With --regroup, for after
@@ -273,8 +274,6 @@ def made(kind, text):
     words = kind.split()
     if words[0] == "calls" and len(words) == 2:
         return calls(words[1], text)
-    if words == ["definitions"]:
-        return definitions()
     if words == ["crates"]:
         return crates()
     if words == ["believed"]:
@@ -371,6 +370,9 @@ def write(path, text):
 
 
 def main():
+    if sys.argv[1:] == ["definitions"]:
+        print(definitions(), end="")
+        return
     check = sys.argv[1:] == ["--check"]
     if sys.argv[1:] not in ([], ["--check"], ["--regroup"]):
         sys.exit(__doc__)

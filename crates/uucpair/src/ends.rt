@@ -14,7 +14,7 @@ use uug_conversation::Side;
 use uug_disk::is_named_pipe;
 use uug_failure::{Cause, Resource, SystemFailure};
 use uug_log::{LogFile, SessionLog, end_text, words_of};
-use uug_pair::pair_run;
+use uug_pair::pair_run_with_reason;
 use uug_port::{ReportFile, StandardStreams, SystemOutput};
 use uug_reason::{jobs_remark, reason_line};
 use uug_stop::{LOG, REPORT, STATS};
@@ -37,7 +37,7 @@ where
     ensures status { IfOk result (λ status. status ≤ 1) }
     ensures named { result ≡ Err ToolFault.Device → IsSome why.new }
 {
-    let answer = pair_run(
+    let answer = pair_run_with_reason(
         rt.alloc(),
         rt,
         pair.socket,

@@ -61,19 +61,23 @@ send_alternates master slave digests source target user temp (Some file) name Ye
   alternate = (inl s.to_slave, (inl s.to_master, (inl s.to_slave, (by_other (moving slave (the_answer answer.DoneNever) (fail ∷ next)) master rest s.to_master h.begins, h.alternate))));
 }
 
-request_alternates : (master slave : Side) (digests : Bool) (source target user : List ℕ) (file : Option File) (name : List ℕ) (immovable : Bool)
+request_alternates : (master slave : Side) (digests : Bool) (source target user : List ℕ) (file : Option File) (delayed : Bool) (name : List ℕ) (immovable : Bool)
     (next : List Move) (rest : List Turn)
     → AreSides master slave → AreMasters master rest
-    → AreMasters master (request_exchange master slave digests source target user file name immovable next rest)
-request_alternates master slave digests source target user None name immovable next rest s h = record {
+    → AreMasters master (request_exchange master slave digests source target user file delayed name immovable next rest)
+request_alternates master slave digests source target user None false name immovable next rest s h = record {
   begins = (refl, order.Request source target user, None, refl);
   alternate = (inl s.to_slave, (by_other (moving slave (the_answer answer.GiveNever) (fail ∷ next)) master rest s.to_master h.begins, h.alternate));
 }
-request_alternates master slave digests source target user (Some file) name false next rest s h = record {
+request_alternates master slave digests source target user None true name immovable next rest s h = record {
+  begins = (refl, order.Request source target user, None, refl);
+  alternate = (inl s.to_slave, (by_other (moving slave (the_answer answer.GiveLater) (pass ∷ next)) master rest s.to_master h.begins, h.alternate));
+}
+request_alternates master slave digests source target user (Some file) delayed name false next rest s h = record {
   begins = (refl, order.Request source target user, None, refl);
   alternate = (inl s.to_slave, (inr (refl, with_file), (inl s.to_master, (by_same (plain master (the_answer answer.DoneYes)) rest (λ o told. after_done) h.begins, h.alternate))));
 }
-request_alternates master slave digests source target user (Some file) name true next rest s h = record {
+request_alternates master slave digests source target user (Some file) delayed name true next rest s h = record {
   begins = (refl, order.Request source target user, None, refl);
   alternate = (inl s.to_slave, (inr (refl, with_file), (inl s.to_master, (by_same (plain master (the_answer answer.DoneNever)) rest (λ o told. after_never) h.begins, h.alternate))));
 }
@@ -86,7 +90,7 @@ exchanges_alternate master slave own others (job.Send source target user temp �
     (others.immovable (others.landing source target)) (choice own jobs).failing (exchanges master slave own others jobs rest) s
     (exchanges_alternate master slave own others jobs rest s h)
 exchanges_alternate master slave own others (job.Request source target user ∷ jobs) rest s h =
-    request_alternates master slave others.digests source target user (to_give others source) (own.landing source target) (own.immovable (own.landing source target))
+    request_alternates master slave others.digests source target user (to_give others source) (others.delayed source) (own.landing source target) (own.immovable (own.landing source target))
     (choice own jobs).failing (exchanges master slave own others jobs rest) s
     (exchanges_alternate master slave own others jobs rest s h)
 

@@ -10,8 +10,8 @@ use Rattle.uug_talk.specs.declared.order.Order.{Order}
 use Rattle.uug_talk.specs.declared.order.Order.TheVariants as order
 use Rattle.uug_talk.specs.Answer.{answer_of}
 use Rattle.uug_talk.specs.Gathering.{Kind, OfFile, Gathering, limit_of}
+use Rattle.uug_talk.specs.Lenient.{or_wished, refused_letter_of}
 use Rattle.uug_talk.specs.Order.{order_of}
-use Rattle.uug_talk.specs.Unread.{refusal_of}
 use Rattle.uug_conversation.specs.declared.awaits.Awaits.{Awaits}
 use Rattle.uug_conversation.specs.declared.awaits.Awaits.TheVariants as awaits
 use Rattle.uug_conversation.specs.declared.job.Job.{Job}
@@ -121,28 +121,29 @@ after_send Yes target mode told l = refl
 after_send Never target mode told l = tt
 after_send Later target mode told l = tt
 
-after_request : (told : Option FileDigest) (digests : Bool) (found : Option File) (l : Lists) →
-    HasHeard told (on_request digests found l).state.awaits
-after_request told digests None l = tt
-after_request told digests (Some file) l = tt
+after_request : (told : Option FileDigest) (digests : Bool) (found : Option File) (delayed : Bool) (l : Lists) →
+    HasHeard told (on_request digests found delayed l).state.awaits
+after_request told digests None false l = tt
+after_request told digests None true l = tt
+after_request told digests (Some file) delayed l = tt
 
 after_hang_up : (told : Option FileDigest) (h : Holdings) (next : Option Order) (l : Lists) →
     HasHeard told (on_hang_up h next l).state.awaits
 after_hang_up told h None l = tt
 after_hang_up told h (Some next) l = after_command told next
 
-after_unread : (told : Option FileDigest) (lenient : Bool) (refusal : Option Answer) (l : Lists) →
-    HasHeard told (on_unread lenient refusal l).state.awaits
-after_unread told true (Some refusal) l = tt
+after_unread : (told : Option FileDigest) (lenient : Bool) (letter : Option ℕ) (l : Lists) →
+    HasHeard told (on_unread lenient letter l).state.awaits
+after_unread told true (Some letter) l = tt
 after_unread told _ _ l = tt
 
-after_order : (h : Holdings) (refusal : Option Answer) (told : Option FileDigest) (read : Result Order BadText) (l : Lists) →
-    HasHeard told (on_order h refusal told read l).state.awaits
-after_order h refusal told (Ok (order.Send source target user temp mode)) l = after_send (send_verdict h (h.landing source target) told) (h.landing source target) mode told l
-after_order h refusal told (Ok (order.Request source target user)) l = after_request told h.digests (to_give h source) l
-after_order h refusal told (Ok order.HangUp) l =
+after_order : (h : Holdings) (letter : Option ℕ) (told : Option FileDigest) (read : Result Order BadText) (l : Lists) →
+    HasHeard told (on_order h letter told read l).state.awaits
+after_order h letter told (Ok (order.Send source target user temp mode)) l = after_send (send_verdict h (h.landing source target) told) (h.landing source target) mode told l
+after_order h letter told (Ok (order.Request source target user)) l = after_request told h.digests (to_give h source) (h.delayed source) l
+after_order h letter told (Ok order.HangUp) l =
     after_hang_up told h (choice h l.ahead).next (moved (choice h l.ahead).failing l)
-after_order h refusal told (Err fault) l = after_unread told h.lenient refusal l
+after_order h letter told (Err fault) l = after_unread told h.lenient letter l
 
 after_request_answer : (h : Holdings) (told : Option FileDigest) (read : Result Answer BadText) (l : Lists) →
     HasHeard told (on_request_answer h told read l).state.awaits
@@ -161,13 +162,13 @@ pub order_heard : (h : Holdings) (text : List ℕ) (l : Lists) (told : FileDiges
     told_awaited (on_text h awaits.Order text l).state.awaits ≡ Some told → heard h.digests (told_by_order text) ≡ Some told
 order_heard h text l told e =
     from_heard (heard h.digests (told_by_order text)) (on_text h awaits.Order text l).state.awaits told
-    (after_order h (refusal_of text) (heard h.digests (told_by_order text)) (order_of text) l) e
+    (after_order h (refused_letter_of text) (heard h.digests (told_by_order text)) (order_of text) l) e
 
 pub answer_heard : (h : Holdings) (text : List ℕ) (l : Lists) (told : FileDigest) →
     told_awaited (on_text h awaits.RequestAnswer text l).state.awaits ≡ Some told → heard h.digests (told_by_answer text) ≡ Some told
 answer_heard h text l told e =
     from_heard (heard h.digests (told_by_answer text)) (on_text h awaits.RequestAnswer text l).state.awaits told
-    (after_request_answer h (heard h.digests (told_by_answer text)) (answer_of text) l) e
+    (after_request_answer h (heard h.digests (told_by_answer text)) (or_wished (answer_of text) h.lenient text) l) e
 
 -- ---- an end that tells and compares none
 

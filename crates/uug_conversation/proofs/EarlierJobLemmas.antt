@@ -1,5 +1,5 @@
 -- Jobs that were struck and failed before a session change nothing of what an end does in it.
-use Rattle.std.proofs.Common.{◌≡◌, ℕ, Bool, true, false, List, [], ◌∷◌, ◌++◌, length, nat_lt, Option, Some, None, Result, Ok, Err, refl, ap, ap₂, ◌∙◌, append_assoc, append-nil}
+use Rattle.std.proofs.Common.{◌≡◌, ◌&&◌, ℕ, Bool, true, false, List, [], ◌∷◌, ◌++◌, length, nat_lt, Option, Some, None, Result, Ok, Err, refl, ap, ap₂, ◌∙◌, append_assoc, append-nil}
 use Rattle.uug_digest.specs.Digests.{told_by_answer, told_by_order}
 use Rattle.uug_digest.specs.declared.file_digest.FileDigest.{FileDigest}
 use Rattle.uug_talk.specs.declared.answer.Answer.{Answer}
@@ -9,8 +9,8 @@ use Rattle.uug_talk.specs.declared.order.Order.{Order}
 use Rattle.uug_talk.specs.declared.order.Order.TheVariants as order
 use Rattle.uug_talk.specs.Answer.{answer_of}
 use Rattle.uug_talk.specs.Gathering.{Kind, OfCommand, OfFile, Gathering, limit_of}
+use Rattle.uug_talk.specs.Lenient.{is_held, or_wished, refused_letter_of}
 use Rattle.uug_talk.specs.Order.{order_of}
-use Rattle.uug_talk.specs.Unread.{refusal_of}
 use Rattle.uug_conversation.specs.declared.awaits.Awaits.{Awaits}
 use Rattle.uug_conversation.specs.declared.awaits.Awaits.TheVariants as awaits
 use Rattle.uug_conversation.specs.declared.job.Job.{Job}
@@ -21,7 +21,7 @@ use Rattle.uug_conversation.specs.Choice.{choice, fetched_by}
 use Rattle.uug_conversation.specs.EarlierJobs.{behind, state_behind, reply_behind}
 use Rattle.uug_conversation.specs.Holdings.{File, Kept, Holdings, to_give}
 use Rattle.uug_conversation.specs.Jobs.{Lists, at_start, Move, pass, strike, fail, move_first, moved, moved_once}
-use Rattle.uug_conversation.specs.Machine.{State, commands, order_or_hang_up, goes_on, on_send, send_verdict, on_request, on_hang_up, on_unread, on_order, on_given_file_done, on_last_hang_up, sends_file, on_send_yes, move_held, on_send_answer, on_sent_file_done, on_sent_job_done, on_request_answer, on_hang_up_answer, on_nothing_more, on_text, keeps, file_verdict, on_sent_file, on_asked_file, on_file_of, on_file, on_whole, on_gathered, on_past_limit, on_part, gathered_with, step, comes_early, unless_early, reply_to, opening}
+use Rattle.uug_conversation.specs.Machine.{State, commands, order_or_hang_up, goes_on, on_send, send_verdict, on_request, on_hang_up, on_unread, on_order, on_given_file_done, on_last_hang_up, sends_file, on_send_yes, move_refused, on_send_answer, on_sent_file_done, on_sent_job_done, on_request_answer, on_hang_up_answer, on_nothing_more, on_text, keeps, file_verdict, on_sent_file, on_asked_file, on_file_of, on_file, on_whole, on_gathered, on_past_limit, on_part, gathered_with, step, comes_early, unless_early, reply_to, opening}
 use Rattle.uug_conversation.specs.Told.{heard}
 use Rattle.uug_conversation.specs.Turns.{Said, the_answer}
 use Rattle.uug_conversation.specs.declared.side.Side.{Side}
@@ -70,29 +70,30 @@ send_behind x y Yes target mode told l = refl
 send_behind x y Never target mode told l = refl
 send_behind x y Later target mode told l = refl
 
-request_behind : (x y : List Job) (digests : Bool) (offered : Option File) (l : Lists) →
-    on_request digests offered (behind x y l) ≡ reply_behind x y (on_request digests offered l)
-request_behind x y digests None l = refl
-request_behind x y digests (Some file) l = refl
+request_behind : (x y : List Job) (digests : Bool) (offered : Option File) (delayed : Bool) (l : Lists) →
+    on_request digests offered delayed (behind x y l) ≡ reply_behind x y (on_request digests offered delayed l)
+request_behind x y digests None false l = refl
+request_behind x y digests None true l = refl
+request_behind x y digests (Some file) delayed l = refl
 
 hang_up_behind : (x y : List Job) (h : Holdings) (next : Option Order) (l : Lists) →
     on_hang_up h next (behind x y l) ≡ reply_behind x y (on_hang_up h next l)
 hang_up_behind x y h None l = refl
 hang_up_behind x y h (Some next) l = refl
 
-unread_behind : (x y : List Job) (lenient : Bool) (refusal : Option Answer) (l : Lists) →
-    on_unread lenient refusal (behind x y l) ≡ reply_behind x y (on_unread lenient refusal l)
-unread_behind x y true (Some refusal) l = refl
+unread_behind : (x y : List Job) (lenient : Bool) (letter : Option ℕ) (l : Lists) →
+    on_unread lenient letter (behind x y l) ≡ reply_behind x y (on_unread lenient letter l)
+unread_behind x y true (Some letter) l = refl
 unread_behind x y _ _ l = refl
 
-order_behind : (x y : List Job) (h : Holdings) (refusal : Option Answer) (told : Option FileDigest) (read : Result Order BadText)
-    (l : Lists) → on_order h refusal told read (behind x y l) ≡ reply_behind x y (on_order h refusal told read l)
-order_behind x y h refusal told (Ok (order.Send source target user temp mode)) l = send_behind x y (send_verdict h (h.landing source target) told) (h.landing source target) mode told l
-order_behind x y h refusal told (Ok (order.Request source target user)) l = request_behind x y h.digests (to_give h source) l
-order_behind x y h refusal told (Ok order.HangUp) l =
+order_behind : (x y : List Job) (h : Holdings) (letter : Option ℕ) (told : Option FileDigest) (read : Result Order BadText)
+    (l : Lists) → on_order h letter told read (behind x y l) ≡ reply_behind x y (on_order h letter told read l)
+order_behind x y h letter told (Ok (order.Send source target user temp mode)) l = send_behind x y (send_verdict h (h.landing source target) told) (h.landing source target) mode told l
+order_behind x y h letter told (Ok (order.Request source target user)) l = request_behind x y h.digests (to_give h source) (h.delayed source) l
+order_behind x y h letter told (Ok order.HangUp) l =
     ap (on_hang_up h (choice h l.ahead).next) (moved_behind x y (choice h l.ahead).failing l)
     ∙ hang_up_behind x y h (choice h l.ahead).next (moved (choice h l.ahead).failing l)
-order_behind x y h refusal told (Err fault) l = unread_behind x y h.lenient refusal l
+order_behind x y h letter told (Err fault) l = unread_behind x y h.lenient letter l
 
 given_file_behind : (x y : List Job) (read : Result Answer BadText) (l : Lists) →
     on_given_file_done read (behind x y l) ≡ reply_behind x y (on_given_file_done read l)
@@ -120,13 +121,12 @@ send_yes_behind x y h (job.Send source target user temp ∷ jobs) l =
     sends_file_behind x y (to_give h (fetched_by source temp)) l
 send_yes_behind x y h _ l = refl
 
-send_answer_behind : (x y : List Job) (h : Holdings) (read : Result Answer BadText) (l : Lists) →
-    on_send_answer h read (behind x y l) ≡ reply_behind x y (on_send_answer h read l)
-send_answer_behind x y h (Ok answer.SendYes) l = send_yes_behind x y h l.ahead l
-send_answer_behind x y h (Ok answer.SendNever) l = goes_on_after x y h fail l []
-send_answer_behind x y h (Ok answer.SendHeld) l = goes_on_after x y h (move_held h.lenient l.ahead) l []
-send_answer_behind x y h (Ok answer.SendLater) l = goes_on_after x y h pass l []
-send_answer_behind x y h _ l = refl
+send_answer_behind : (x y : List Job) (h : Holdings) (held : Bool) (read : Result Answer BadText) (l : Lists) →
+    on_send_answer h held read (behind x y l) ≡ reply_behind x y (on_send_answer h held read l)
+send_answer_behind x y h held (Ok answer.SendYes) l = send_yes_behind x y h l.ahead l
+send_answer_behind x y h held (Ok answer.SendNever) l = goes_on_after x y h fail l []
+send_answer_behind x y h held (Ok answer.SendLater) l = goes_on_after x y h (move_refused held l.ahead) l []
+send_answer_behind x y h held _ l = refl
 
 sent_file_done_behind : (x y : List Job) (h : Holdings) (read : Result Answer BadText) (l : Lists) →
     on_sent_file_done h read (behind x y l) ≡ reply_behind x y (on_sent_file_done h read l)
@@ -164,12 +164,12 @@ nothing_more_behind x y _ l = refl
 
 text_behind : (x y : List Job) (h : Holdings) (awaited : Awaits) (text : List ℕ) (l : Lists) →
     on_text h awaited text (behind x y l) ≡ reply_behind x y (on_text h awaited text l)
-text_behind x y h awaits.Order text l = order_behind x y h (refusal_of text) (heard h.digests (told_by_order text)) (order_of text) l
+text_behind x y h awaits.Order text l = order_behind x y h (refused_letter_of text) (heard h.digests (told_by_order text)) (order_of text) l
 text_behind x y h awaits.GivenFileDone text l = given_file_behind x y (answer_of text) l
 text_behind x y h awaits.LastHangUp text l = last_hang_up_behind x y (answer_of text) l
-text_behind x y h awaits.SendAnswer text l = send_answer_behind x y h (answer_of text) l
+text_behind x y h awaits.SendAnswer text l = send_answer_behind x y h (is_held text && h.lenient) (answer_of text) l
 text_behind x y h awaits.SentFileDone text l = sent_job_done_behind x y h l.ahead (answer_of text) l
-text_behind x y h awaits.RequestAnswer text l = request_answer_behind x y h (heard h.digests (told_by_answer text)) (answer_of text) l
+text_behind x y h awaits.RequestAnswer text l = request_answer_behind x y h (heard h.digests (told_by_answer text)) (or_wished (answer_of text) h.lenient text) l
 text_behind x y h awaits.HangUpAnswer text l = hang_up_answer_behind x y (answer_of text) l
 text_behind x y h awaits.NothingMore text l = nothing_more_behind x y (answer_of text) l
 text_behind x y h _ text l = refl

@@ -38,14 +38,16 @@ send_entries W w master slave digests source target user temp (Some file) name Y
     (w _ refl, (w _ refl, (w _ refl, (w _ refl, r))))
 
 request_entries : (W : Turn → Type 0) → OfSilence W → (master slave : Side) (digests : Bool) (source target user : List ℕ)
-    (file : Option File) (name : List ℕ) (immovable : Bool) (next : List Move) (rest : List Turn)
+    (file : Option File) (delayed : Bool) (name : List ℕ) (immovable : Bool) (next : List Move) (rest : List Turn)
     → ((f : File) (moves : List Move) → file ≡ Some f → W (keeping slave name f moves)) → EachTurn W rest
-    → EachTurn W (request_exchange master slave digests source target user file name immovable next rest)
-request_entries W w master slave digests source target user None name immovable next rest h r =
+    → EachTurn W (request_exchange master slave digests source target user file delayed name immovable next rest)
+request_entries W w master slave digests source target user None false name immovable next rest h r =
     (w _ refl, (w _ refl, r))
-request_entries W w master slave digests source target user (Some file) name false next rest h r =
+request_entries W w master slave digests source target user None true name immovable next rest h r =
+    (w _ refl, (w _ refl, r))
+request_entries W w master slave digests source target user (Some file) delayed name false next rest h r =
     (w _ refl, (w _ refl, (h file (strike ∷ next) refl, (w _ refl, r))))
-request_entries W w master slave digests source target user (Some file) name true next rest h r =
+request_entries W w master slave digests source target user (Some file) delayed name true next rest h r =
     (w _ refl, (w _ refl, (w _ refl, (w _ refl, r))))
 
 -- the turns in which the file of a job is kept have the fact
@@ -67,7 +69,7 @@ exchanges_entries W w master slave own others (job.Send source target user temp 
 exchanges_entries W w master slave own others (job.Request source target user ∷ jobs) rest h r =
     let first = All-head (OfJob W master slave own others) (job.Request source target user) jobs h in
     let later = All-tail (OfJob W master slave own others) (job.Request source target user) jobs h in
-    request_entries W w master slave others.digests source target user (to_give others source) (own.landing source target) (own.immovable (own.landing source target))
+    request_entries W w master slave others.digests source target user (to_give others source) (others.delayed source) (own.landing source target) (own.immovable (own.landing source target))
     (choice own jobs).failing (exchanges master slave own others jobs rest) first
     (exchanges_entries W w master slave own others jobs rest later r)
 

@@ -17,12 +17,12 @@ use Rattle.uug_conversation.specs.Conversation.{exchanges}
 use Rattle.uug_conversation.specs.Exchange.{send_exchange, request_exchange, exchange}
 use Rattle.uug_conversation.specs.Holdings.{File, Kept, Holdings, to_give, kept_as}
 use Rattle.uug_conversation.specs.Jobs.{Lists, Move, pass, strike, fail, moved, moved_once}
-use Rattle.uug_talk.specs.Unread.{refusal_of}
+use Rattle.uug_talk.specs.Lenient.{or_wished, refused_letter_of}
 use Rattle.uug_conversation.specs.Machine.{State, Reply, between, replies, kind_awaited, on_whole, keeps, chooses, file_verdict, goes_on, on_send, on_request, on_order, sends_file, on_request_answer, on_sent_file, on_asked_file}
 use Rattle.uug_conversation.specs.ReadBack.{IsReadBack, EachTurn}
 use Rattle.uug_conversation.specs.Turns.{other, Said, the_order, the_answer, the_giving, the_file, said_messages, all_messages, Turn}
 use Rattle.uug_conversation.specs.declared.side.Side.{Side}
-use Rattle.uug_conversation.specs.Told.{heard, is_too_large, order_said, outcome, told_of, unless_too_large}
+use Rattle.uug_conversation.specs.Told.{giving_said, heard, is_too_large, order_said, outcome, told_of, unless_too_large}
 use Rattle.uug_conversation.proofs.ToldLemmas.{fits_given, given_is_taken}
 use Rattle.uug_conversation.proofs.TurnLemmas.{Fits, Open, said_kind, said_bytes, own_says, other_says}
 
@@ -121,36 +121,42 @@ module _ (measure_of : Side → Measure) (positive : (side : Side) → 0 < (meas
 
   -- ---- Request, at the master's
 
-  request_as_master : (digests : Bool) (source target user : List ℕ) (found : Option File) (immovable : Bool) →
+  request_as_master : (digests : Bool) (source target user : List ℕ) (found : Option File) (delayed immovable : Bool) →
       h.immovable (h.landing source target) ≡ immovable →
       (passed jobs struck failed : List Job) (ts : List Turn) →
-      EachTurn (λ t. IsReadBack t.said) (request_exchange me (other me) digests source target user found (h.landing source target) immovable (choice h jobs).failing ts) →
+      EachTurn (λ t. IsReadBack t.said) (request_exchange me (other me) digests source target user found delayed (h.landing source target) immovable (choice h jobs).failing ts) →
       Masters jobs ts →
       FitsReply (replies (lists passed (job.Request source target user ∷ jobs) struck failed) awaits.RequestAnswer
       (the_order (order.Request source target user) None ∷ []))
-      (request_exchange me (other me) digests source target user found (h.landing source target) immovable (choice h jobs).failing ts)
-  request_as_master digests source target user None immovable e passed jobs struck failed ts back rest =
+      (request_exchange me (other me) digests source target user found delayed (h.landing source target) immovable (choice h jobs).failing ts)
+  request_as_master digests source target user None false immovable e passed jobs struck failed ts back rest =
       let l = lists passed (job.Request source target user ∷ jobs) struck failed in
       say back.0
       (hear_text {r = goes_on h (moved_once fail l) []} back.1.0 refl (record { not_over = refl; not_bad = refl; not_parted = refl })
       refl refl refl
       (rest passed struck (failed ++ job.Request source target user ∷ [])))
-  request_as_master digests source target user (Some file) false e passed jobs struck failed ts back rest =
+  request_as_master digests source target user None true immovable e passed jobs struck failed ts back rest =
+      let l = lists passed (job.Request source target user ∷ jobs) struck failed in
+      say back.0
+      (hear_text {r = goes_on h (moved_once pass l) []} back.1.0 refl (record { not_over = refl; not_bad = refl; not_parted = refl })
+      refl refl refl
+      (rest (passed ++ job.Request source target user ∷ []) struck failed))
+  request_as_master digests source target user (Some file) delayed false e passed jobs struck failed ts back rest =
       let l = lists passed (job.Request source target user ∷ jobs) struck failed in
       say back.0
       (hear_text {r = replies l (awaits.AskedFile file.mode (heard h.digests (told_of digests (Some file)))) []} back.1.0 refl
       (record { not_over = refl; not_bad = refl; not_parted = refl })
-      (ap₂ (λ t a. on_request_answer h (heard h.digests t) a l) back.1.0.2 back.1.0.1) refl refl
+      (ap₂ (λ t a. on_request_answer h (heard h.digests t) (or_wished a h.lenient (giving_said file.mode (told_of digests (Some file)))) l) back.1.0.2 back.1.0.1) refl refl
       (hear_text {r = keeps (kept_as (h.landing source target) file) (goes_on h (moved_once strike l) (the_answer answer.DoneYes ∷ []))} back.1.1.0 refl
       (record { not_over = refl; not_bad = refl; not_parted = refl })
       (ap (λ z. on_asked_file h z (kept_as (h.landing source target) file) l) (verdict_is digests (h.landing source target) file false e)) refl refl
       (say back.1.1.1.0 (rest passed (struck ++ job.Request source target user ∷ []) failed))))
-  request_as_master digests source target user (Some file) true e passed jobs struck failed ts back rest =
+  request_as_master digests source target user (Some file) delayed true e passed jobs struck failed ts back rest =
       let l = lists passed (job.Request source target user ∷ jobs) struck failed in
       say back.0
       (hear_text {r = replies l (awaits.AskedFile file.mode (heard h.digests (told_of digests (Some file)))) []} back.1.0 refl
       (record { not_over = refl; not_bad = refl; not_parted = refl })
-      (ap₂ (λ t a. on_request_answer h (heard h.digests t) a l) back.1.0.2 back.1.0.1) refl refl
+      (ap₂ (λ t a. on_request_answer h (heard h.digests t) (or_wished a h.lenient (giving_said file.mode (told_of digests (Some file)))) l) back.1.0.2 back.1.0.1) refl refl
       (hear_text {r = goes_on h (moved_once fail l) (the_answer answer.DoneNever ∷ [])} back.1.1.0 refl
       (record { not_over = refl; not_bad = refl; not_parted = refl })
       (ap (λ z. on_asked_file h z (kept_as (h.landing source target) file) l) (verdict_is digests (h.landing source target) file true e)) refl refl
@@ -165,7 +171,7 @@ module _ (measure_of : Side → Measure) (positive : (side : Side) → 0 < (meas
       send_as_master source target user temp (to_give h (fetched_by source temp)) refl
       (others.landing source target) (others.verdict (others.landing source target)) (others.immovable (others.landing source target)) passed jobs struck failed ts back rest
   job_as_master others (job.Request source target user) jobs ts back rest passed struck failed =
-      request_as_master others.digests source target user (to_give others source) (h.immovable (h.landing source target)) refl passed jobs struck failed ts back rest
+      request_as_master others.digests source target user (to_give others source) (others.delayed source) (h.immovable (h.landing source target)) refl passed jobs struck failed ts back rest
 
   behind_send : (master slave : Side) (digests : Bool) (source target user : List ℕ) (temp : Option (List ℕ)) (found : Option File)
       (name : List ℕ) (verdict : Verdict) (immovable : Bool) (next : List Move) (ts : List Turn) →
@@ -178,12 +184,13 @@ module _ (measure_of : Side → Measure) (positive : (side : Side) → 0 < (meas
   behind_send master slave digests source target user temp (Some file) name Yes true next ts back = back.1.1.1.1
 
   behind_request : (master slave : Side) (digests : Bool) (source target user : List ℕ) (found : Option File)
-      (name : List ℕ) (immovable : Bool) (next : List Move) (ts : List Turn) →
-      EachTurn (λ t. IsReadBack t.said) (request_exchange master slave digests source target user found name immovable next ts) →
+      (delayed : Bool) (name : List ℕ) (immovable : Bool) (next : List Move) (ts : List Turn) →
+      EachTurn (λ t. IsReadBack t.said) (request_exchange master slave digests source target user found delayed name immovable next ts) →
       EachTurn (λ t. IsReadBack t.said) ts
-  behind_request master slave digests source target user None name immovable next ts back = back.1.1
-  behind_request master slave digests source target user (Some file) name false next ts back = back.1.1.1.1
-  behind_request master slave digests source target user (Some file) name true next ts back = back.1.1.1.1
+  behind_request master slave digests source target user None false name immovable next ts back = back.1.1
+  behind_request master slave digests source target user None true name immovable next ts back = back.1.1
+  behind_request master slave digests source target user (Some file) delayed name false next ts back = back.1.1.1.1
+  behind_request master slave digests source target user (Some file) delayed name true next ts back = back.1.1.1.1
 
   behind_exchange : (master slave : Side) (own others : Holdings) (j : Job) (next : List Move) (ts : List Turn) →
       EachTurn (λ t. IsReadBack t.said) (exchange master slave own others j next ts) → EachTurn (λ t. IsReadBack t.said) ts
@@ -191,7 +198,7 @@ module _ (measure_of : Side → Measure) (positive : (side : Side) → 0 < (meas
       behind_send master slave own.digests source target user temp (to_give own (fetched_by source temp))
       (others.landing source target) (others.verdict (others.landing source target)) (others.immovable (others.landing source target)) next ts back
   behind_exchange master slave own others (job.Request source target user) next ts back =
-      behind_request master slave others.digests source target user (to_give others source)
+      behind_request master slave others.digests source target user (to_give others source) (others.delayed source)
       (own.landing source target) (own.immovable (own.landing source target)) next ts back
 
   pub behind_exchanges : (master slave : Side) (own others : Holdings) (jobs : List Job) (ts : List Turn) →
@@ -213,9 +220,9 @@ module _ (measure_of : Side → Measure) (positive : (side : Side) → 0 < (meas
   -- a command is taken as it was said
   order_heard : (o : Order) (told : Option FileDigest) (l : Lists) → IsReadBack (the_order o told) →
       on_whole OfCommand h awaits.Order (order_said o told) l
-      ≡ on_order h (refusal_of (order_said o told)) (heard h.digests told) (Ok o) l
+      ≡ on_order h (refused_letter_of (order_said o told)) (heard h.digests told) (Ok o) l
   order_heard o told l back =
-      ap₂ (λ t a. on_order h (refusal_of (order_said o told)) (heard h.digests t) a l) back.2 back.1
+      ap₂ (λ t a. on_order h (refused_letter_of (order_said o told)) (heard h.digests t) a l) back.2 back.1
 
   -- ---- Send, at the slave's
 
@@ -267,27 +274,33 @@ module _ (measure_of : Side → Measure) (positive : (side : Side) → 0 < (meas
 
   -- ---- Request, at the slave's
 
-  request_as_slave : (source target user : List ℕ) (found : Option File) → to_give h source ≡ found → (name : List ℕ) (immovable : Bool) →
+  request_as_slave : (source target user : List ℕ) (found : Option File) → to_give h source ≡ found → (delayed : Bool) →
+      h.delayed source ≡ delayed → (name : List ℕ) (immovable : Bool) →
       (next : List Move) (l : Lists) (ts : List Turn) →
-      EachTurn (λ t. IsReadBack t.said) (request_exchange (other me) me h.digests source target user found name immovable next ts) →
+      EachTurn (λ t. IsReadBack t.said) (request_exchange (other me) me h.digests source target user found delayed name immovable next ts) →
       Fits h measure_of me (between l awaits.Order) [] ts →
-      Fits h measure_of me (between l awaits.Order) [] (request_exchange (other me) me h.digests source target user found name immovable next ts)
-  request_as_slave source target user None e name immovable next l ts back rest =
+      Fits h measure_of me (between l awaits.Order) [] (request_exchange (other me) me h.digests source target user found delayed name immovable next ts)
+  request_as_slave source target user None e false d name immovable next l ts back rest =
       hear_text {r = replies l awaits.Order (the_answer answer.GiveNever ∷ [])} back.0 refl
       (record { not_over = refl; not_bad = refl; not_parted = refl })
-      (order_heard (order.Request source target user) None l back.0 ∙ ap (λ f. on_request h.digests f l) e) refl refl
+      (order_heard (order.Request source target user) None l back.0 ∙ ap₂ (λ f b. on_request h.digests f b l) e d) refl refl
       (say back.1.0 rest)
-  request_as_slave source target user (Some file) e name false next l ts back rest =
+  request_as_slave source target user None e true d name immovable next l ts back rest =
+      hear_text {r = replies l awaits.Order (the_answer answer.GiveLater ∷ [])} back.0 refl
+      (record { not_over = refl; not_bad = refl; not_parted = refl })
+      (order_heard (order.Request source target user) None l back.0 ∙ ap₂ (λ f b. on_request h.digests f b l) e d) refl refl
+      (say back.1.0 rest)
+  request_as_slave source target user (Some file) e delayed d name false next l ts back rest =
       hear_text {r = replies l awaits.GivenFileDone (the_giving file.mode (told_of h.digests (Some file)) ∷ the_file file.bytes ∷ [])} back.0 refl
       (record { not_over = refl; not_bad = refl; not_parted = refl })
-      (order_heard (order.Request source target user) None l back.0 ∙ ap (λ f. on_request h.digests f l) e) refl refl
+      (order_heard (order.Request source target user) None l back.0 ∙ ap (λ f. on_request h.digests f (h.delayed source) l) e) refl refl
       (say back.1.0 (say back.1.1.0
       (hear_text {r = replies l awaits.Order []} back.1.1.1.0 refl
       (record { not_over = refl; not_bad = refl; not_parted = refl }) refl refl refl rest)))
-  request_as_slave source target user (Some file) e name true next l ts back rest =
+  request_as_slave source target user (Some file) e delayed d name true next l ts back rest =
       hear_text {r = replies l awaits.GivenFileDone (the_giving file.mode (told_of h.digests (Some file)) ∷ the_file file.bytes ∷ [])} back.0 refl
       (record { not_over = refl; not_bad = refl; not_parted = refl })
-      (order_heard (order.Request source target user) None l back.0 ∙ ap (λ f. on_request h.digests f l) e) refl refl
+      (order_heard (order.Request source target user) None l back.0 ∙ ap (λ f. on_request h.digests f (h.delayed source) l) e) refl refl
       (say back.1.0 (say back.1.1.0
       (hear_text {r = replies l awaits.Order []} back.1.1.1.0 refl
       (record { not_over = refl; not_bad = refl; not_parted = refl }) refl refl refl rest)))
@@ -302,7 +315,7 @@ module _ (measure_of : Side → Measure) (positive : (side : Side) → 0 < (meas
       send_as_slave others.digests source target user temp (to_give others (fetched_by source temp)) (h.verdict (h.landing source target)) refl
       (h.immovable (h.landing source target)) refl next l ts back rest
   job_as_slave others (job.Request source target user) next l ts back rest =
-      request_as_slave source target user (to_give h source) refl (others.landing source target)
+      request_as_slave source target user (to_give h source) refl (h.delayed source) refl (others.landing source target)
       (others.immovable (others.landing source target)) next l ts back rest
 
   pub as_slave : (others : Holdings) (jobs : List Job) (l : Lists) (ts : List Turn) →

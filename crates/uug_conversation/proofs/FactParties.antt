@@ -33,6 +33,7 @@ holdings name file exception = record {
   file = named name file;
   verdict = verdict_by exception;
   immovable = fixed_by exception;
+  delayed = λ name. false;
   landing = λ source target. target;
   lenient = false;
   digests = false;

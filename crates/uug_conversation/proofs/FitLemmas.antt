@@ -3,13 +3,14 @@ use Rattle.std.proofs.Common.{ℕ, ◌≤◌, List, [], ◌∷◌, All, length}
 use Rattle.std.proofs.lemmas.List.Elements.{All-nil, All-cons, All-head, All-tail}
 use Rattle.uug_talk.specs.Chunks.{Measure}
 use Rattle.uug_talk.specs.Answer.{answer_text}
+use Rattle.uug_talk.specs.Lenient.{refusal_text}
 use Rattle.uug_conversation.specs.Told.{giving_said, order_said}
 use Rattle.uug_conversation.specs.Conversation.{conversation}
 use Rattle.uug_conversation.specs.Holdings.{Kept}
 use Rattle.uug_conversation.specs.Jobs.{Move}
 use Rattle.uug_conversation.specs.Messages.{Message, turn_messages, messages, measures}
 use Rattle.uug_conversation.specs.Party.{Party}
-use Rattle.uug_conversation.specs.Turns.{Said, the_order, the_answer, the_giving, the_file, said_messages, Turn}
+use Rattle.uug_conversation.specs.Turns.{Said, the_order, the_answer, the_giving, the_file, the_refusal, said_messages, Turn}
 use Rattle.uug_conversation.specs.declared.side.Side.{Side}
 use Rattle.uug_conversation.specs.declared.side.Side.TheVariants.{Caller, Called}
 use Rattle.uug_conversation.specs.View.{view, conversation_view, own_messages, party}
@@ -23,6 +24,7 @@ said_fit measure (the_order order told) = command_fits measure (order_said order
 said_fit measure (the_answer answer) = command_fits measure (answer_text answer)
 said_fit measure (the_giving mode told) = command_fits measure (giving_said mode told)
 said_fit measure (the_file bytes) = file_fits measure.size bytes
+said_fit measure (the_refusal letter) = command_fits measure (refusal_text letter)
 
 message_fits : (measures : Side → Measure) (me speaker : Side) (bytes : List ℕ) (moves : List Move) (keeps : List Kept) (ms : List Message) →
     length bytes ≤ (measures speaker).size → All (Fits (measures me).size) (own_messages (view me ms)) →

@@ -4,12 +4,13 @@
 use Rattle.std.proofs.Common.{◌≡◌, ℕ, zero, suc, ◌+◌, ◌<◌, ◌≤◌, List, [], ◌∷◌, ◌++◌, length, replicate, refl, sym, subst₂, arith}
 use Rattle.std.proofs.lemmas.List.{length-append}
 use Rattle.uug_talk.specs.Answer.{answer_text}
+use Rattle.uug_talk.specs.Lenient.{refusal_text}
 use Rattle.uug_talk.specs.Chunks.{Measure, cut, filling, command_messages}
 use Rattle.uug_conversation.specs.Told.{giving_said, order_said}
 use Rattle.uug_conversation.specs.Holdings.{Kept}
 use Rattle.uug_conversation.specs.Jobs.{Move}
 use Rattle.uug_conversation.specs.Messages.{Message, turn_messages, messages}
-use Rattle.uug_conversation.specs.Turns.{other, Said, the_order, the_answer, the_giving, the_file, said_messages, Turn}
+use Rattle.uug_conversation.specs.Turns.{other, Said, the_order, the_answer, the_giving, the_file, the_refusal, said_messages, Turn}
 use Rattle.uug_conversation.specs.declared.side.Side.{Side}
 use Rattle.uug_conversation.specs.declared.side.Side.TheVariants.{Caller, Called}
 use Rattle.uug_conversation.specs.View.{Seen, says, hears, view, floor, moves_after, kept_after}
@@ -105,6 +106,7 @@ some_message measure (the_order order told) = some_of_command measure (order_sai
 some_message measure (the_answer answer) = some_of_command measure (answer_text answer)
 some_message measure (the_giving mode told) = some_of_command measure (giving_said mode told)
 some_message measure (the_file bytes) = omega (arith, length-append (cut measure.size bytes) ([] ∷ []))
+some_message measure (the_refusal letter) = some_of_command measure (refusal_text letter)
 
 -- ---- turns
 

@@ -1,6 +1,7 @@
--- What a lenient end does with what it can't read, with SN8 and with a file past its limit, and what comes too early: worked
--- out by hand.
+-- What a lenient end does with what it can't read, with SN8, with RY and an M, and with a file past its limit; what an end says of a file
+-- that it can't give now; and what comes too early: worked out by hand.
 use Rattle.std.proofs.Common.{◌≡◌, true, false, [], ◌∷◌, ◌++◌, codes, ℕ, Some, None, Ok, refl}
+use Rattle.std.specs.Str.{bytes_eq}
 use Rattle.uug_digest.specs.declared.file_digest.FileDigest.{FileDigest}
 use Rattle.uug_talk.specs.declared.answer.Answer.TheVariants as answer
 use Rattle.uug_talk.specs.declared.order.Order.{Order}
@@ -9,23 +10,24 @@ use Rattle.uug_talk.specs.Gathering.{OfCommand, OfFile}
 use Rattle.uug_conversation.specs.declared.awaits.Awaits.TheVariants as awaits
 use Rattle.uug_conversation.specs.Holdings.{Holdings}
 use Rattle.uug_conversation.specs.Machine.{between, replies, on_order, on_text, on_file, on_past_limit, reply_to}
-use Rattle.uug_conversation.specs.Turns.{the_order, the_answer}
+use Rattle.uug_conversation.specs.Turns.{the_order, the_answer, the_refusal}
 use Rattle.uug_conversation.proofs.FactParties.{y, six_bytes, send, send_nothing, request}
 use Rattle.uug_conversation.proofs.MachineFacts.{ahead, asking, first_passed, first_struck, has_x, order_of_first, order_of_second, two}
 
 -- has one file, x, and is lenient
 abbrev lenient_x : Holdings
-lenient_x = record { file = has_x.file; verdict = has_x.verdict; immovable = has_x.immovable; landing = has_x.landing; lenient = true; digests = has_x.digests }
+lenient_x = record { file = has_x.file; delayed = λ name. false; verdict = has_x.verdict; immovable = has_x.immovable; landing = has_x.landing; lenient = true; digests = has_x.digests }
 
 -- ---- commands that can't be read
 
 record AreUnread : Type 0 where
-  work : on_text lenient_x awaits.Order (codes "X a/* y u -") two ≡ replies two awaits.Order (the_answer answer.WorkNo ∷ [])
-  run : on_text lenient_x awaits.Order (codes "E x y u - D.0 0644") two ≡ replies two awaits.Order (the_answer answer.RunNever ∷ [])
-  short_send : on_text lenient_x awaits.Order (codes "S x y u") two ≡ replies two awaits.Order (the_answer answer.SendNever ∷ [])
-  short_request : on_text lenient_x awaits.Order (codes "R x y") two ≡ replies two awaits.Order (the_answer answer.GiveNever ∷ [])
-  bad_mode : on_text lenient_x awaits.Order (codes "S x y u - D.0 9") two ≡ replies two awaits.Order (the_answer answer.SendNever ∷ [])
-  unknown : on_text lenient_x awaits.Order (codes "Q x") two ≡ replies two awaits.Bad []
+  work : on_text lenient_x awaits.Order (codes "X a/* y u -") two ≡ replies two awaits.Order (the_refusal 88 ∷ [])
+  run : on_text lenient_x awaits.Order (codes "E x y u - D.0 0644") two ≡ replies two awaits.Order (the_refusal 69 ∷ [])
+  short_send : on_text lenient_x awaits.Order (codes "S x y u") two ≡ replies two awaits.Order (the_refusal 83 ∷ [])
+  short_request : on_text lenient_x awaits.Order (codes "R x y") two ≡ replies two awaits.Order (the_refusal 82 ∷ [])
+  bad_mode : on_text lenient_x awaits.Order (codes "S x y u - D.0 9") two ≡ replies two awaits.Order (the_refusal 83 ∷ [])
+  unknown : on_text lenient_x awaits.Order (codes "Q x") two ≡ replies two awaits.Order (the_refusal 81 ∷ [])
+  small : on_text lenient_x awaits.Order (codes "q x") two ≡ replies two awaits.Bad []
   longer : on_text lenient_x awaits.Order (codes "SX x") two ≡ replies two awaits.Bad []
   nothing : on_text lenient_x awaits.Order [] two ≡ replies two awaits.Bad []
   an_answer : on_text lenient_x awaits.SendAnswer (codes "X a") two ≡ replies two awaits.Bad []
@@ -42,6 +44,7 @@ unread = record {
   short_request = refl;
   bad_mode = refl;
   unknown = refl;
+  small = refl;
   longer = refl;
   nothing = refl;
   an_answer = refl;
@@ -83,6 +86,29 @@ record AreHeld : Type 0 where
 
 held : AreHeld
 held = record { struck = refl; strict = refl; later = refl; other_job = refl }
+
+-- ---- RY, and an M behind its mode
+
+record AreWished : Type 0 where
+  comes : on_text lenient_x awaits.RequestAnswer (codes "RY 0644M 0x6") asking ≡ replies asking (awaits.AskedFile 420 None) []
+  strict : on_text has_x awaits.RequestAnswer (codes "RY 0644M 0x6") asking ≡ replies asking awaits.Bad []
+
+wished : AreWished
+wished = record { comes = refl; strict = refl }
+
+-- ---- a file that can't be given now
+
+-- may have a file q later
+abbrev delays_q : Holdings
+delays_q = record lenient_x { delayed = λ name. bytes_eq name (codes "q") }
+
+record AreDelayed : Type 0 where
+  later : on_text delays_q awaits.Order (codes "R q y u -") two ≡ replies two awaits.Order (the_answer answer.GiveLater ∷ [])
+  never : on_text delays_q awaits.Order (codes "R z y u -") two ≡ replies two awaits.Order (the_answer answer.GiveNever ∷ [])
+  there : on_text delays_q awaits.Order (codes "R x y u -") two ≡ on_text lenient_x awaits.Order (codes "R x y u -") two
+
+delayed : AreDelayed
+delayed = record { later = refl; never = refl; there = refl }
 
 -- ---- a file past its limit
 

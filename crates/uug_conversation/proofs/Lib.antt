@@ -12,6 +12,7 @@ mod ExchangeLemmas
 pub mod FactParties
 pub mod FirstLaw
 pub mod FitLemmas
+pub mod FloorLemmas
 mod FrontLemmas
 mod LandingFacts
 mod LenientFacts
@@ -20,9 +21,12 @@ mod MachineFacts
 mod MachineLemmas
 pub mod MachineMoveLemmas
 mod OfferLemmas
+mod OneEndFacts
+pub mod OneEndLemmas
 pub mod OutgoingLemmas
 pub mod OwnEntryLemmas
 mod PartLemmas
+mod PlainLemmas
 mod QueueLemmas
 pub mod ReadBackLemmas
 pub mod SaidByteLemmas

@@ -1,5 +1,5 @@
 -- Whatever comes, an end only moves its jobs from one list to another.
-use Rattle.std.proofs.Common.{ℕ, nat_lt, Bool, true, false, List, [], ◌∷◌, ◌++◌, length, Option, Some, None, Result, Ok, Err, refl, sym, ap, ◌∙◌, arith}
+use Rattle.std.proofs.Common.{◌&&◌, ℕ, nat_lt, Bool, true, false, List, [], ◌∷◌, ◌++◌, length, Option, Some, None, Result, Ok, Err, refl, sym, ap, ◌∙◌, arith}
 use Rattle.uug_digest.specs.Digests.{told_by_answer, told_by_order}
 use Rattle.uug_digest.specs.declared.file_digest.FileDigest.{FileDigest}
 use Rattle.uug_talk.specs.declared.answer.Answer.{Answer}
@@ -9,8 +9,8 @@ use Rattle.uug_talk.specs.declared.order.Order.{Order}
 use Rattle.uug_talk.specs.declared.order.Order.TheVariants as order
 use Rattle.uug_talk.specs.Answer.{answer_of}
 use Rattle.uug_talk.specs.Gathering.{Kind, OfCommand, OfFile, Gathering, limit_of}
+use Rattle.uug_talk.specs.Lenient.{is_held, or_wished, refused_letter_of}
 use Rattle.uug_talk.specs.Order.{order_of}
-use Rattle.uug_talk.specs.Unread.{refusal_of}
 use Rattle.uug_conversation.specs.declared.awaits.Awaits.{Awaits}
 use Rattle.uug_conversation.specs.declared.awaits.Awaits.TheVariants as awaits
 use Rattle.uug_conversation.specs.declared.job.Job.{Job}
@@ -19,16 +19,14 @@ use Rattle.uug_conversation.specs.declared.verdict.Verdict.{Verdict}
 use Rattle.uug_conversation.specs.declared.verdict.Verdict.TheVariants.{Yes, Never, Later}
 use Rattle.uug_conversation.specs.Choice.{choice, fetched_by}
 use Rattle.uug_conversation.specs.Holdings.{File, Kept, Holdings, to_give}
-use Rattle.uug_conversation.specs.Jobs.{Lists, at_start, pending, Move, pass, strike, fail, moved, moved_once}
-use Rattle.uug_conversation.specs.Machine.{State, goes_on, on_send, send_verdict, on_request, on_hang_up, on_unread, on_order, on_given_file_done, on_last_hang_up, sends_file, on_send_yes, move_held, on_send_answer, on_sent_file_done, on_sent_job_done, on_request_answer, on_hang_up_answer, on_nothing_more, on_text, file_verdict, on_sent_file, on_asked_file, on_file_of, on_file, on_whole, on_gathered, on_past_limit, on_part, gathered_with, opening, step, comes_early, unless_early, reply_to}
-use Rattle.uug_conversation.specs.Party.{Party}
-use Rattle.uug_conversation.specs.Runs.{Progress, taking, taking_all, opened, progress_after}
-use Rattle.uug_conversation.specs.Sharing.{AreShared, OnlyMoves}
+use Rattle.uug_conversation.specs.Jobs.{Lists, Move, pass, strike, fail, moved, moved_once}
+use Rattle.uug_conversation.specs.Machine.{State, goes_on, on_send, send_verdict, on_request, on_hang_up, on_unread, on_order, on_given_file_done, on_last_hang_up, sends_file, on_send_yes, move_refused, on_send_answer, on_sent_file_done, on_sent_job_done, on_request_answer, on_hang_up_answer, on_nothing_more, on_text, file_verdict, on_sent_file, on_asked_file, on_file_of, on_file, on_whole, on_gathered, on_past_limit, on_part, gathered_with, opening, step, comes_early, unless_early, reply_to}
+use Rattle.uug_conversation.specs.Sharing.{OnlyMoves}
 use Rattle.uug_conversation.specs.Told.{heard}
 use Rattle.uug_conversation.specs.Turns.{Said, the_answer}
 use Rattle.uug_conversation.specs.declared.side.Side.{Side}
 use Rattle.uug_conversation.specs.declared.side.Side.TheVariants.{Caller, Called}
-use Rattle.uug_conversation.proofs.SharingLemmas.{moved-append, moved_are_shared}
+use Rattle.uug_conversation.proofs.SharingLemmas.{moved-append}
 
 pub stays : (l : Lists) → OnlyMoves l l
 stays l = record { moves = []; are = refl }
@@ -49,23 +47,24 @@ after_send Yes target mode told l = stays l
 after_send Never target mode told l = stays l
 after_send Later target mode told l = stays l
 
-after_request : (digests : Bool) (file : Option File) (l : Lists) → OnlyMoves l (on_request digests file l).state.lists
-after_request digests None l = stays l
-after_request digests (Some file) l = stays l
+after_request : (digests : Bool) (file : Option File) (delayed : Bool) (l : Lists) → OnlyMoves l (on_request digests file delayed l).state.lists
+after_request digests None false l = stays l
+after_request digests None true l = stays l
+after_request digests (Some file) delayed l = stays l
 
 after_hang_up : (h : Holdings) (next : Option Order) (moves : List Move) (l : Lists) → OnlyMoves l (on_hang_up h next (moved moves l)).state.lists
 after_hang_up h None moves l = record { moves = moves; are = refl }
 after_hang_up h (Some next) moves l = record { moves = moves; are = refl }
 
-after_unread : (lenient : Bool) (refusal : Option Answer) (l : Lists) → OnlyMoves l (on_unread lenient refusal l).state.lists
-after_unread lenient refusal l = grind (arith, stays)
+after_unread : (lenient : Bool) (letter : Option ℕ) (l : Lists) → OnlyMoves l (on_unread lenient letter l).state.lists
+after_unread lenient letter l = grind (arith, stays)
 
-after_order : (h : Holdings) (refusal : Option Answer) (told : Option FileDigest) (r : Result Order BadText) (l : Lists)
-    → OnlyMoves l (on_order h refusal told r l).state.lists
-after_order h refusal told (Ok (order.Send source target user temp mode)) l = after_send (send_verdict h (h.landing source target) told) (h.landing source target) mode told l
-after_order h refusal told (Ok (order.Request source target user)) l = after_request h.digests (to_give h source) l
-after_order h refusal told (Ok order.HangUp) l = after_hang_up h (choice h l.ahead).next (choice h l.ahead).failing l
-after_order h refusal told (Err fault) l = after_unread h.lenient refusal l
+after_order : (h : Holdings) (letter : Option ℕ) (told : Option FileDigest) (r : Result Order BadText) (l : Lists)
+    → OnlyMoves l (on_order h letter told r l).state.lists
+after_order h letter told (Ok (order.Send source target user temp mode)) l = after_send (send_verdict h (h.landing source target) told) (h.landing source target) mode told l
+after_order h letter told (Ok (order.Request source target user)) l = after_request h.digests (to_give h source) (h.delayed source) l
+after_order h letter told (Ok order.HangUp) l = after_hang_up h (choice h l.ahead).next (choice h l.ahead).failing l
+after_order h letter told (Err fault) l = after_unread h.lenient letter l
 
 -- ---- answers
 
@@ -83,28 +82,24 @@ after_send_yes h [] l = stays l
 after_send_yes h (job.Send source target user temp ∷ jobs) l = after_sends_file (to_give h (fetched_by source temp)) l
 after_send_yes h (job.Request source target user ∷ jobs) l = stays l
 
-after_send_answer : (h : Holdings) (r : Result Answer BadText) (l : Lists) → OnlyMoves l (on_send_answer h r l).state.lists
-after_send_answer h (Ok answer.SendYes) l = after_send_yes h l.ahead l
-after_send_answer h (Ok answer.SendNever) l = moves_and_chooses fail h l []
-after_send_answer h (Ok answer.SendHeld) l = moves_and_chooses (move_held h.lenient l.ahead) h l []
-after_send_answer h (Ok answer.SendLater) l = moves_and_chooses pass h l []
-after_send_answer h (Ok (answer.GiveYes mode)) l = stays l
-after_send_answer h (Ok answer.GiveNever) l = stays l
-after_send_answer h (Ok answer.GiveLater) l = stays l
-after_send_answer h (Ok answer.DoneYes) l = stays l
-after_send_answer h (Ok answer.DoneYesMaster) l = stays l
-after_send_answer h (Ok answer.DoneNever) l = stays l
-after_send_answer h (Ok answer.DoneLater) l = stays l
-after_send_answer h (Ok answer.HangYes) l = stays l
-after_send_answer h (Ok answer.HangNo) l = stays l
-after_send_answer h (Ok answer.WorkNo) l = stays l
-after_send_answer h (Ok answer.RunNever) l = stays l
-after_send_answer h (Err fault) l = stays l
+after_send_answer : (h : Holdings) (held : Bool) (r : Result Answer BadText) (l : Lists) → OnlyMoves l (on_send_answer h held r l).state.lists
+after_send_answer h held (Ok answer.SendYes) l = after_send_yes h l.ahead l
+after_send_answer h held (Ok answer.SendNever) l = moves_and_chooses fail h l []
+after_send_answer h held (Ok answer.SendLater) l = moves_and_chooses (move_refused held l.ahead) h l []
+after_send_answer h held (Ok (answer.GiveYes mode)) l = stays l
+after_send_answer h held (Ok answer.GiveNever) l = stays l
+after_send_answer h held (Ok answer.GiveLater) l = stays l
+after_send_answer h held (Ok answer.DoneYes) l = stays l
+after_send_answer h held (Ok answer.DoneYesMaster) l = stays l
+after_send_answer h held (Ok answer.DoneNever) l = stays l
+after_send_answer h held (Ok answer.DoneLater) l = stays l
+after_send_answer h held (Ok answer.HangYes) l = stays l
+after_send_answer h held (Ok answer.HangNo) l = stays l
+after_send_answer h held (Err fault) l = stays l
 
 after_sent_file : (h : Holdings) (r : Result Answer BadText) (l : Lists) → OnlyMoves l (on_sent_file_done h r l).state.lists
 after_sent_file h (Ok answer.SendYes) l = stays l
 after_sent_file h (Ok answer.SendNever) l = stays l
-after_sent_file h (Ok answer.SendHeld) l = stays l
 after_sent_file h (Ok answer.SendLater) l = stays l
 after_sent_file h (Ok (answer.GiveYes mode)) l = stays l
 after_sent_file h (Ok answer.GiveNever) l = stays l
@@ -115,8 +110,6 @@ after_sent_file h (Ok answer.DoneNever) l = moves_and_chooses fail h l []
 after_sent_file h (Ok answer.DoneLater) l = moves_and_chooses pass h l []
 after_sent_file h (Ok answer.HangYes) l = stays l
 after_sent_file h (Ok answer.HangNo) l = stays l
-after_sent_file h (Ok answer.WorkNo) l = stays l
-after_sent_file h (Ok answer.RunNever) l = stays l
 after_sent_file h (Err fault) l = stays l
 
 after_sent_job : (h : Holdings) (jobs : List Job) (r : Result Answer BadText) (l : Lists) → OnlyMoves l (on_sent_job_done h jobs r l).state.lists
@@ -127,7 +120,6 @@ after_sent_job h (job.Request source target user ∷ jobs) r l = stays l
 after_request_answer : (h : Holdings) (told : Option FileDigest) (r : Result Answer BadText) (l : Lists) → OnlyMoves l (on_request_answer h told r l).state.lists
 after_request_answer h told (Ok answer.SendYes) l = stays l
 after_request_answer h told (Ok answer.SendNever) l = stays l
-after_request_answer h told (Ok answer.SendHeld) l = stays l
 after_request_answer h told (Ok answer.SendLater) l = stays l
 after_request_answer h told (Ok (answer.GiveYes mode)) l = stays l
 after_request_answer h told (Ok answer.GiveNever) l = moves_and_chooses fail h l []
@@ -138,8 +130,6 @@ after_request_answer h told (Ok answer.DoneNever) l = stays l
 after_request_answer h told (Ok answer.DoneLater) l = stays l
 after_request_answer h told (Ok answer.HangYes) l = stays l
 after_request_answer h told (Ok answer.HangNo) l = stays l
-after_request_answer h told (Ok answer.WorkNo) l = stays l
-after_request_answer h told (Ok answer.RunNever) l = stays l
 after_request_answer h told (Err fault) l = stays l
 
 after_hang_up_answer : (r : Result Answer BadText) (l : Lists) → OnlyMoves l (on_hang_up_answer r l).state.lists
@@ -149,12 +139,12 @@ after_nothing_more : (r : Result Answer BadText) (l : Lists) → OnlyMoves l (on
 after_nothing_more r l = grind (arith, stays)
 
 after_text : (h : Holdings) (a : Awaits) (text : List ℕ) (l : Lists) → OnlyMoves l (on_text h a text l).state.lists
-after_text h awaits.Order text l = after_order h (refusal_of text) (heard h.digests (told_by_order text)) (order_of text) l
+after_text h awaits.Order text l = after_order h (refused_letter_of text) (heard h.digests (told_by_order text)) (order_of text) l
 after_text h awaits.GivenFileDone text l = after_given_file (answer_of text) l
 after_text h awaits.LastHangUp text l = after_last_hang_up (answer_of text) l
-after_text h awaits.SendAnswer text l = after_send_answer h (answer_of text) l
+after_text h awaits.SendAnswer text l = after_send_answer h (is_held text && h.lenient) (answer_of text) l
 after_text h awaits.SentFileDone text l = after_sent_job h l.ahead (answer_of text) l
-after_text h awaits.RequestAnswer text l = after_request_answer h (heard h.digests (told_by_answer text)) (answer_of text) l
+after_text h awaits.RequestAnswer text l = after_request_answer h (heard h.digests (told_by_answer text)) (or_wished (answer_of text) h.lenient text) l
 after_text h awaits.HangUpAnswer text l = after_hang_up_answer (answer_of text) l
 after_text h awaits.NothingMore text l = after_nothing_more (answer_of text) l
 after_text h (awaits.SentFile target mode told) text l = stays l
@@ -238,19 +228,3 @@ then_moves first second third h k = record {
 pub after_opening : (me : Side) (h : Holdings) (l : Lists) → OnlyMoves l (opening me h l).state.lists
 after_opening Caller h l = chooses h l []
 after_opening Called h l = stays l
-
-after_all : (p : Party) (progress : Progress) (messages : List (List ℕ)) → OnlyMoves progress.state.lists (taking_all p progress messages).state.lists
-after_all p progress [] = stays progress.state.lists
-after_all p progress (message ∷ messages) =
-    then_moves progress.state.lists (taking p progress message).state.lists (taking_all p (taking p progress message) messages).state.lists
-    (after_step p.holdings progress.state message) (after_all p (taking p progress message) messages)
-
--- whatever the other end says, each job is in exactly one list
-pub jobs_are_shared : (me : Side) (p : Party) (messages : List (List ℕ))
-    → AreShared p.jobs (pending (progress_after me p messages).state.lists)
-    (progress_after me p messages).state.lists.struck (progress_after me p messages).state.lists.failed
-jobs_are_shared me p messages =
-    let h : OnlyMoves (at_start p.jobs [] []) (progress_after me p messages).state.lists =
-    then_moves (at_start p.jobs [] []) (opened me p).state.lists (progress_after me p messages).state.lists
-    (after_opening me p.holdings (at_start p.jobs [] [])) (after_all p (opened me p) messages) in
-    rw h.are (moved_are_shared p.jobs h.moves)

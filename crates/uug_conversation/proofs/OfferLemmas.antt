@@ -61,15 +61,17 @@ send_exchange_commands me master slave digests source target user temp (Some fil
 send_exchange_commands me master slave digests source target user temp (Some file) name Yes true next rest =
     rw (if_spoken-nil me slave, if_spoken-nil me master) refl
 
-request_exchange_commands : (me master slave : Side) (digests : Bool) (source target user : List ℕ) (file : Option File) (name : List ℕ) (immovable : Bool)
+request_exchange_commands : (me master slave : Side) (digests : Bool) (source target user : List ℕ) (file : Option File) (delayed : Bool) (name : List ℕ) (immovable : Bool)
     (next : List Move) (rest : List Turn)
-    → commands_of me (request_exchange master slave digests source target user file name immovable next rest)
+    → commands_of me (request_exchange master slave digests source target user file delayed name immovable next rest)
     ≡ if_spoken me master (order.Request source target user ∷ []) ++ commands_of me rest
-request_exchange_commands me master slave digests source target user None name immovable next rest =
+request_exchange_commands me master slave digests source target user None false name immovable next rest =
     rw (if_spoken-nil me slave) refl
-request_exchange_commands me master slave digests source target user (Some file) name false next rest =
+request_exchange_commands me master slave digests source target user None true name immovable next rest =
+    rw (if_spoken-nil me slave) refl
+request_exchange_commands me master slave digests source target user (Some file) delayed name false next rest =
     rw (if_spoken-nil me slave, if_spoken-nil me master) refl
-request_exchange_commands me master slave digests source target user (Some file) name true next rest =
+request_exchange_commands me master slave digests source target user (Some file) delayed name true next rest =
     rw (if_spoken-nil me slave, if_spoken-nil me master) refl
 
 exchange_commands : (me master slave : Side) (own others : Holdings) (j : Job) (next : List Move) (rest : List Turn)
@@ -78,7 +80,7 @@ exchange_commands me master slave own others (job.Send source target user temp) 
     send_exchange_commands me master slave own.digests source target user temp
     (to_give own (fetched_by source temp)) (others.landing source target) (others.verdict (others.landing source target)) (others.immovable (others.landing source target)) next rest
 exchange_commands me master slave own others (job.Request source target user) next rest =
-    request_exchange_commands me master slave others.digests source target user (to_give others source) (own.landing source target) (own.immovable (own.landing source target)) next rest
+    request_exchange_commands me master slave others.digests source target user (to_give others source) (others.delayed source) (own.landing source target) (own.immovable (own.landing source target)) next rest
 
 exchanges_commands : (me master slave : Side) (own others : Holdings) (jobs : List Job) (rest : List Turn)
     → commands_of me (exchanges master slave own others jobs rest) ≡ if_spoken me master (offered own jobs) ++ commands_of me rest
@@ -124,12 +126,13 @@ send_exchange_answers master slave digests source target user temp (Some file) n
 send_exchange_answers master slave digests source target user temp (Some file) name Yes false next rest = refl
 send_exchange_answers master slave digests source target user temp (Some file) name Yes true next rest = refl
 
-request_exchange_answers : (master slave : Side) (digests : Bool) (source target user : List ℕ) (file : Option File) (name : List ℕ) (immovable : Bool)
+request_exchange_answers : (master slave : Side) (digests : Bool) (source target user : List ℕ) (file : Option File) (delayed : Bool) (name : List ℕ) (immovable : Bool)
     (next : List Move) (rest : List Turn)
-    → hang_up_answers (request_exchange master slave digests source target user file name immovable next rest) ≡ hang_up_answers rest
-request_exchange_answers master slave digests source target user None name immovable next rest = refl
-request_exchange_answers master slave digests source target user (Some file) name false next rest = refl
-request_exchange_answers master slave digests source target user (Some file) name true next rest = refl
+    → hang_up_answers (request_exchange master slave digests source target user file delayed name immovable next rest) ≡ hang_up_answers rest
+request_exchange_answers master slave digests source target user None false name immovable next rest = refl
+request_exchange_answers master slave digests source target user None true name immovable next rest = refl
+request_exchange_answers master slave digests source target user (Some file) delayed name false next rest = refl
+request_exchange_answers master slave digests source target user (Some file) delayed name true next rest = refl
 
 exchanges_answers : (master slave : Side) (own others : Holdings) (jobs : List Job) (rest : List Turn)
     → hang_up_answers (exchanges master slave own others jobs rest) ≡ hang_up_answers rest
@@ -140,7 +143,7 @@ exchanges_answers master slave own others (job.Send source target user temp ∷ 
     (exchanges master slave own others jobs rest)
     ∙ exchanges_answers master slave own others jobs rest
 exchanges_answers master slave own others (job.Request source target user ∷ jobs) rest =
-    request_exchange_answers master slave others.digests source target user (to_give others source) (own.landing source target) (own.immovable (own.landing source target)) (choice own jobs).failing
+    request_exchange_answers master slave others.digests source target user (to_give others source) (others.delayed source) (own.landing source target) (own.immovable (own.landing source target)) (choice own jobs).failing
     (exchanges master slave own others jobs rest)
     ∙ exchanges_answers master slave own others jobs rest
 

@@ -3,6 +3,7 @@ use Rattle.std.proofs.Common.{◌≡◌, ◌≢◌, ℕ, suc, ◌+◌, ◌<◌, 
 use Rattle.std.proofs.lemmas.List.{append_assoc, drop_all, drop-append-le, drop-drop, length-append}
 use Rattle.std.proofs.lemmas.List.Elements.{All-append, All-drop, All-head}
 use Rattle.uug_talk.specs.Answer.{answer_text}
+use Rattle.uug_talk.specs.Lenient.{refusal_text}
 use Rattle.uug_talk.specs.Chunks.{Measure, cut, command_messages}
 use Rattle.uug_conversation.specs.Told.{giving_said, order_said}
 use Rattle.uug_conversation.specs.declared.reaction.Saying.{Saying}
@@ -13,7 +14,7 @@ use Rattle.uug_conversation.specs.Holdings.{Holdings}
 use Rattle.uug_conversation.specs.Outgoing.{Outgoing, IsSayable, IsWithin, is_silent, messages_from, messages_of, outgoing_messages, sayings_of}
 use Rattle.uug_conversation.specs.Reactions.{all_said, said_by}
 use Rattle.uug_conversation.specs.DialogueState.{is_empty}
-use Rattle.uug_conversation.specs.Turns.{Said, the_order, the_answer, the_giving, the_file, said_messages, all_messages}
+use Rattle.uug_conversation.specs.Turns.{Said, the_order, the_answer, the_giving, the_file, the_refusal, said_messages, all_messages}
 
 -- ---- from any offset on there is a message
 
@@ -30,6 +31,7 @@ said_has_one measure offset (the_order order told) = command_has_one measure (dr
 said_has_one measure offset (the_answer answer) = command_has_one measure (drop offset (answer_text answer))
 said_has_one measure offset (the_giving mode told) = command_has_one measure (drop offset (giving_said mode told))
 said_has_one measure offset (the_file bytes) = file_has_one (cut measure.size (drop offset bytes))
+said_has_one measure offset (the_refusal letter) = command_has_one measure (drop offset (refusal_text letter))
 
 front_has_one : (front behind : List (List ℕ)) → is_empty front ≡ false → is_empty (front ++ behind) ≡ false
 front_has_one [] behind e = absurd cc
@@ -52,6 +54,7 @@ said_from_start measure (the_order order told) = refl
 said_from_start measure (the_answer answer) = refl
 said_from_start measure (the_giving mode told) = refl
 said_from_start measure (the_file bytes) = refl
+said_from_start measure (the_refusal letter) = refl
 
 -- the first one from its start on
 all_from_start : (h : Holdings) (measure : Measure) (sayings : List Saying) → messages_of h measure 0 sayings ≡ all_messages measure (map (said_by h) sayings)
@@ -104,6 +107,7 @@ within_at_start (saying.Order order told ∷ more) = omega arith
 within_at_start (saying.Answer answer ∷ more) = omega arith
 within_at_start (saying.Giving mode told ∷ more) = omega arith
 within_at_start (saying.File name ∷ more) = tt
+within_at_start (saying.Refusal letter ∷ more) = omega arith
 
 within_behind : (sayings more : List Saying) (offset : ℕ) → IsWithin sayings offset → IsWithin (sayings ++ more) offset
 within_behind [] more offset w = subst (λ z. IsWithin more z) (sym w) (within_at_start more)
@@ -111,6 +115,7 @@ within_behind (saying.Order order told ∷ sayings) more offset w = w
 within_behind (saying.Answer answer ∷ sayings) more offset w = w
 within_behind (saying.Giving mode told ∷ sayings) more offset w = w
 within_behind (saying.File name ∷ sayings) more offset w = w
+within_behind (saying.Refusal letter ∷ sayings) more offset w = w
 
 pub holds_more : (said len len_after offset : ℕ) (items more items_after : List Saying) → len ≡ length items →
     len_after ≡ length items_after → Holds said len items offset → All IsSayable more → items_after ≡ items ++ more →

@@ -120,12 +120,14 @@ send_back master slave digests source target user temp own (Some file) e m n nam
 
 request_back : (master slave : Side) (digests : Bool) (source target user : List ℕ) (others : Holdings)
     (found : Option File) → to_give others source ≡ found → AreModes others →
-    AreNames source target user → (name : List ℕ) (immovable : Bool) (next : List Move) (rest : List Turn) →
+    AreNames source target user → (delayed : Bool) (name : List ℕ) (immovable : Bool) (next : List Move) (rest : List Turn) →
     EachTurn (λ t. IsReadBack t.said) rest →
-    EachTurn (λ t. IsReadBack t.said) (request_exchange master slave digests source target user found name immovable next rest)
-request_back master slave digests source target user others None e m n name immovable next rest r =
+    EachTurn (λ t. IsReadBack t.said) (request_exchange master slave digests source target user found delayed name immovable next rest)
+request_back master slave digests source target user others None e m n false name immovable next rest r =
     (order_back (order.Request source target user) n tt, (answer_back answer.GiveNever tt, r))
-request_back master slave digests source target user others (Some file) e m n name false next rest r = (
+request_back master slave digests source target user others None e m n true name immovable next rest r =
+    (order_back (order.Request source target user) n tt, (answer_back answer.GiveLater tt, r))
+request_back master slave digests source target user others (Some file) e m n delayed name false next rest r = (
   order_back (order.Request source target user) n tt,
   (
     giving_back file.mode (told_of digests (Some file)) (given_mode others source file m e)
@@ -133,7 +135,7 @@ request_back master slave digests source target user others (Some file) e m n na
     (given_fits others source file e, (answer_back answer.DoneYes tt, r)),
   ),
 )
-request_back master slave digests source target user others (Some file) e m n name true next rest r = (
+request_back master slave digests source target user others (Some file) e m n delayed name true next rest r = (
   order_back (order.Request source target user) n tt,
   (
     giving_back file.mode (told_of digests (Some file)) (given_mode others source file m e)
@@ -149,7 +151,7 @@ exchange_back master slave own others m k (job.Send source target user temp) n n
     send_back master slave own.digests source target user temp own (to_give own (fetched_by source temp)) refl m n
     (others.landing source target) (others.verdict (others.landing source target)) (others.immovable (others.landing source target)) next rest r
 exchange_back master slave own others m k (job.Request source target user) n next rest r =
-    request_back master slave others.digests source target user others (to_give others source) refl k n (own.landing source target) (own.immovable (own.landing source target)) next rest r
+    request_back master slave others.digests source target user others (to_give others source) refl k n (others.delayed source) (own.landing source target) (own.immovable (own.landing source target)) next rest r
 
 exchanges_back : (master slave : Side) (own others : Holdings) → AreModes own → AreModes others →
     (jobs : List Job) → All HasNames jobs → (rest : List Turn) → EachTurn (λ t. IsReadBack t.said) rest →

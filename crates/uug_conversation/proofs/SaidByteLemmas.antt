@@ -18,6 +18,7 @@ use Rattle.uug_talk.specs.declared.order.Order.{Order}
 use Rattle.uug_talk.specs.declared.order.Order.TheVariants as order
 use Rattle.uug_talk.specs.Answer.{answer_text}
 use Rattle.uug_talk.specs.Chunks.{Measure, command_messages, cut_up_to, file_messages, filling}
+use Rattle.uug_talk.specs.Lenient.{refusal_text}
 use Rattle.uug_talk.specs.Mode.{mode_digits}
 use Rattle.uug_talk.specs.Name.{IsName}
 use Rattle.uug_talk.specs.Order.{AreNames, HasNames as OrderHasNames, IsCopy, order_text}
@@ -35,7 +36,7 @@ use Rattle.uug_conversation.specs.Messages.{Message, messages, measures, turn_me
 use Rattle.uug_conversation.specs.Party.{HasNames, Party}
 use Rattle.uug_conversation.specs.ReadBack.{EachTurn}
 use Rattle.uug_conversation.specs.Told.{giving_said, order_said, told_of}
-use Rattle.uug_conversation.specs.Turns.{Said, Turn, said_messages, the_answer, the_file, the_giving, the_order}
+use Rattle.uug_conversation.specs.Turns.{Said, Turn, said_messages, the_answer, the_file, the_giving, the_order, the_refusal}
 use Rattle.uug_conversation.specs.declared.side.Side.{Side}
 use Rattle.uug_conversation.specs.declared.side.Side.TheVariants.{Caller, Called}
 use Rattle.uug_conversation.specs.View.{conversation_view, own_messages, view}
@@ -166,16 +167,13 @@ answer_bytes answer.SendLater = three_letters 83 78 52 (omega arith) (omega arit
 answer_bytes (answer.GiveYes mode) =
     joined_bytes (codes "RY" ∷ mode_digits mode ∷ []) (letters 82 89 (omega arith) (omega arith), (digit_bytes mode, tt))
 answer_bytes answer.GiveNever = three_letters 82 78 50 (omega arith) (omega arith) (omega arith)
-answer_bytes answer.SendHeld = All-nil IsByte
-answer_bytes answer.GiveLater = All-nil IsByte
+answer_bytes answer.GiveLater = three_letters 82 78 54 (omega arith) (omega arith) (omega arith)
 answer_bytes answer.DoneYes = letters 67 89 (omega arith) (omega arith)
 answer_bytes answer.DoneYesMaster = All-nil IsByte
 answer_bytes answer.DoneNever = three_letters 67 78 53 (omega arith) (omega arith) (omega arith)
 answer_bytes answer.DoneLater = three_letters 67 78 52 (omega arith) (omega arith) (omega arith)
 answer_bytes answer.HangYes = letters 72 89 (omega arith) (omega arith)
 answer_bytes answer.HangNo = letters 72 78 (omega arith) (omega arith)
-answer_bytes answer.WorkNo = letters 88 78 (omega arith) (omega arith)
-answer_bytes answer.RunNever = three_letters 69 78 50 (omega arith) (omega arith) (omega arith)
 
 -- ---- what is told
 
@@ -229,12 +227,14 @@ SaysBytes (the_order order told) = AllBytes (order_said order told)
 SaysBytes (the_answer said) = AllBytes (answer_text said)
 SaysBytes (the_giving mode told) = AllBytes (giving_said mode told)
 SaysBytes (the_file bytes) = AllBytes bytes
+SaysBytes (the_refusal letter) = AllBytes (refusal_text letter)
 
 said_bytes : (measure : Measure) (said : Said) → SaysBytes said → All AreBytes (said_messages measure said)
 said_bytes measure (the_order order told) all = command_bytes measure (order_said order told) all
 said_bytes measure (the_answer said) all = command_bytes measure (answer_text said) all
 said_bytes measure (the_giving mode told) all = command_bytes measure (giving_said mode told) all
 said_bytes measure (the_file bytes) all = file_bytes measure.size bytes all
+said_bytes measure (the_refusal letter) all = command_bytes measure (refusal_text letter) all
 
 -- ---- turns
 
@@ -264,16 +264,18 @@ send_bytes master slave digests source target user temp own (Some file) is holds
 )
 
 request_bytes : (master slave : Side) (digests : Bool) (source target user : List ℕ) (others : Holdings) (found : Option File) →
-    to_give others source ≡ found → HoldsBytes others → AreNames source target user → (name : List ℕ) (immovable : Bool) (next : List Move)
+    to_give others source ≡ found → HoldsBytes others → AreNames source target user → (delayed : Bool) (name : List ℕ) (immovable : Bool) (next : List Move)
     (rest : List Turn) → TurnsAreBytes rest →
-    TurnsAreBytes (request_exchange master slave digests source target user found name immovable next rest)
-request_bytes master slave digests source target user others None is holds names name immovable next rest all =
+    TurnsAreBytes (request_exchange master slave digests source target user found delayed name immovable next rest)
+request_bytes master slave digests source target user others None is holds names false name immovable next rest all =
     (order_bytes (order.Request source target user) names, (answer_bytes answer.GiveNever, all))
-request_bytes master slave digests source target user others (Some file) is holds names name false next rest all = (
+request_bytes master slave digests source target user others None is holds names true name immovable next rest all =
+    (order_bytes (order.Request source target user) names, (answer_bytes answer.GiveLater, all))
+request_bytes master slave digests source target user others (Some file) is holds names delayed name false next rest all = (
   order_bytes (order.Request source target user) names,
   (giving_said_bytes file.mode (told_of digests (Some file)) (told_has_bytes digests file), (given_bytes others source file holds is, (answer_bytes answer.DoneYes, all))),
 )
-request_bytes master slave digests source target user others (Some file) is holds names name true next rest all = (
+request_bytes master slave digests source target user others (Some file) is holds names delayed name true next rest all = (
   order_bytes (order.Request source target user) names,
   (giving_said_bytes file.mode (told_of digests (Some file)) (told_has_bytes digests file), (given_bytes others source file holds is, (answer_bytes answer.DoneNever, all))),
 )
@@ -284,7 +286,7 @@ exchange_bytes master slave own others holds theirs (job.Send source target user
     send_bytes master slave own.digests source target user temp own (to_give own (fetched_by source temp)) refl holds names
     (others.landing source target) (others.verdict (others.landing source target)) (others.immovable (others.landing source target)) next rest all
 exchange_bytes master slave own others holds theirs (job.Request source target user) names next rest all =
-    request_bytes master slave others.digests source target user others (to_give others source) refl theirs names (own.landing source target) (own.immovable (own.landing source target)) next rest
+    request_bytes master slave others.digests source target user others (to_give others source) refl theirs names (others.delayed source) (own.landing source target) (own.immovable (own.landing source target)) next rest
     all
 
 exchanges_bytes : (master slave : Side) (own others : Holdings) → HoldsBytes own → HoldsBytes others → (jobs : List Job) →

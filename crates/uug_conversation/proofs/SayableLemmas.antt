@@ -1,5 +1,5 @@
 -- Whatever one end's machine says can be written.
-use Rattle.std.proofs.Common.{◌≡◌, ◌≤◌, ℕ, Bool, true, List, [], ◌∷◌, ◌++◌, Option, Some, None, Result, Ok, Err, All, refl, subst, arith}
+use Rattle.std.proofs.Common.{◌≡◌, ◌≤◌, ◌&&◌, ℕ, Bool, true, false, if◌then◌else◌, List, [], ◌∷◌, ◌++◌, Option, Some, None, Result, Ok, Err, All, refl, subst, arith}
 use Rattle.std.proofs.lemmas.List.Elements.{All-nil, All-cons}
 use Rattle.uug_digest.specs.Digests.{told_by_answer, told_by_order}
 use Rattle.uug_digest.specs.declared.file_digest.FileDigest.{FileDigest}
@@ -10,8 +10,8 @@ use Rattle.uug_talk.specs.declared.mode.TheConstants.{MODE_MAX}
 use Rattle.uug_talk.specs.declared.order.Order.{Order}
 use Rattle.uug_talk.specs.declared.order.Order.TheVariants as order
 use Rattle.uug_talk.specs.Answer.{IsWritten, answer_of}
+use Rattle.uug_talk.specs.Lenient.{is_held, is_refusable, or_wished, refused_letter_of, refused_letter_of_words}
 use Rattle.uug_talk.specs.Order.{HasMode, order_of}
-use Rattle.uug_talk.specs.Unread.{refusal_by, refusal_of, refusal_of_words}
 use Rattle.uug_talk.specs.Words.{words}
 use Rattle.uug_conversation.specs.declared.awaits.Awaits.{Awaits}
 use Rattle.uug_conversation.specs.declared.awaits.Awaits.TheVariants as awaits
@@ -27,11 +27,11 @@ use Rattle.uug_conversation.specs.declared.verdict.Verdict.TheVariants.{Yes, Nev
 use Rattle.uug_conversation.specs.Choice.{Choice, choice, fetched_by, send_choice}
 use Rattle.uug_conversation.specs.Holdings.{File, Kept, Holdings, AreModes, to_give}
 use Rattle.uug_conversation.specs.Jobs.{Lists, pass, strike, fail, moved, moved_once}
-use Rattle.uug_conversation.specs.Machine.{Reply, goes_on, order_or_hang_up, on_send, send_verdict, on_request, on_hang_up, on_unread, on_order, on_given_file_done, on_last_hang_up, sends_file, on_send_yes, move_held, on_send_answer, on_sent_file_done, on_sent_job_done, on_request_answer, on_hang_up_answer, on_nothing_more, on_text, file_verdict, on_sent_file, on_asked_file, on_file_of, on_file}
+use Rattle.uug_conversation.specs.Machine.{Reply, goes_on, order_or_hang_up, on_send, send_verdict, on_request, on_hang_up, on_unread, on_order, on_given_file_done, on_last_hang_up, sends_file, on_send_yes, move_refused, on_send_answer, on_sent_file_done, on_sent_job_done, on_request_answer, on_hang_up_answer, on_nothing_more, on_text, file_verdict, on_sent_file, on_asked_file, on_file_of, on_file}
 use Rattle.uug_conversation.specs.Outgoing.{IsSayable, sayings_of}
 use Rattle.uug_conversation.specs.Reactions.{all_said, reply_of, said_before, said_by}
 use Rattle.uug_conversation.specs.Told.{heard, told_with}
-use Rattle.uug_conversation.specs.Turns.{Said, the_order, the_answer, the_giving, the_file}
+use Rattle.uug_conversation.specs.Turns.{Said, the_order, the_answer, the_giving, the_file, the_refusal}
 use Rattle.uug_conversation.proofs.ReadBackLemmas.{given_mode}
 
 abbrev CanBeSaid : Said → Type 0
@@ -39,6 +39,7 @@ CanBeSaid (the_order order told) = HasMode order
 CanBeSaid (the_answer answer) = IsWritten answer
 CanBeSaid (the_giving mode told) = mode ≤ MODE_MAX
 CanBeSaid (the_file bytes) = Unit {0}
+CanBeSaid (the_refusal letter) = is_refusable letter ≡ true
 
 abbrev CanAllBeSaid : List Said → Type 0
 CanAllBeSaid [] = Unit {0}
@@ -50,15 +51,20 @@ IsWrittenBefore None = Unit {0}
 IsWrittenBefore (Some before) = IsWritten before
 
 -- what refuses can be written
-refusal_by_letter : (letter : ℕ) → IsWrittenBefore (refusal_by letter)
-refusal_by_letter letter = grind (arith, tt)
+abbrev IsRefusableSo : Option ℕ → Type 0
+IsRefusableSo None = Unit {0}
+IsRefusableSo (Some letter) = is_refusable letter ≡ true
 
-refusal_by_words : (ws : List (List ℕ)) → IsWrittenBefore (refusal_of_words ws)
-refusal_by_words ((letter ∷ []) ∷ more) = refusal_by_letter letter
-refusal_by_words _ = tt
+refusable_by : (refusable : Bool) (letter : ℕ) → is_refusable letter ≡ refusable → IsRefusableSo (if refusable then Some letter else None)
+refusable_by true letter e = e
+refusable_by false letter e = tt
 
-refusal_written : (text : List ℕ) → IsWrittenBefore (refusal_of text)
-refusal_written text = refusal_by_words (words text)
+refusable_words : (ws : List (List ℕ)) → IsRefusableSo (refused_letter_of_words ws)
+refusable_words ((letter ∷ []) ∷ more) = refusable_by (is_refusable letter) letter refl
+refusable_words _ = tt
+
+refusable : (text : List ℕ) → IsRefusableSo (refused_letter_of text)
+refusable text = refusable_words (words text)
 
 -- ---- what a machine says
 
@@ -98,27 +104,28 @@ module _ (h : Holdings) (modes : AreModes h) where
   taking_send Never target mode told l = (tt, tt)
   taking_send Later target mode told l = (tt, tt)
 
-  taking_request : (source : List ℕ) (found : Option File) (l : Lists) → to_give h source ≡ found →
-      CanAllBeSaid (on_request h.digests found l).says
-  taking_request source None l e = (tt, tt)
-  taking_request source (Some file) l e = (given_mode h source file modes e, (tt, tt))
+  taking_request : (source : List ℕ) (found : Option File) (delayed : Bool) (l : Lists) → to_give h source ≡ found →
+      CanAllBeSaid (on_request h.digests found delayed l).says
+  taking_request source None false l e = (tt, tt)
+  taking_request source None true l e = (tt, tt)
+  taking_request source (Some file) delayed l e = (given_mode h source file modes e, (tt, tt))
 
   taking_hang_up : (next : Option Order) (l : Lists) → HasModeChosen next → CanAllBeSaid (on_hang_up h next l).says
   taking_hang_up None l m = (tt, tt)
   taking_hang_up (Some next) l m = (tt, (m, tt))
 
-  taking_unread : (lenient : Bool) (refusal : Option Answer) (l : Lists) → IsWrittenBefore refusal →
-      CanAllBeSaid (on_unread lenient refusal l).says
-  taking_unread true (Some refusal) l w = (w, tt)
+  taking_unread : (lenient : Bool) (letter : Option ℕ) (l : Lists) → IsRefusableSo letter →
+      CanAllBeSaid (on_unread lenient letter l).says
+  taking_unread true (Some letter) l w = (w, tt)
   taking_unread _ _ l w = tt
 
-  taking_order : (refusal : Option Answer) (told : Option FileDigest) (read : Result Order BadText) (l : Lists) → IsWrittenBefore refusal →
-      CanAllBeSaid (on_order h refusal told read l).says
-  taking_order refusal told (Ok (order.Send source target user temp mode)) l w = taking_send (send_verdict h (h.landing source target) told) (h.landing source target) mode told l
-  taking_order refusal told (Ok (order.Request source target user)) l w = taking_request source (to_give h source) l refl
-  taking_order refusal told (Ok order.HangUp) l w =
+  taking_order : (letter : Option ℕ) (told : Option FileDigest) (read : Result Order BadText) (l : Lists) → IsRefusableSo letter →
+      CanAllBeSaid (on_order h letter told read l).says
+  taking_order letter told (Ok (order.Send source target user temp mode)) l w = taking_send (send_verdict h (h.landing source target) told) (h.landing source target) mode told l
+  taking_order letter told (Ok (order.Request source target user)) l w = taking_request source (to_give h source) (h.delayed source) l refl
+  taking_order letter told (Ok order.HangUp) l w =
       taking_hang_up (choice h l.ahead).next (moved (choice h l.ahead).failing l) (choice_has l.ahead)
-  taking_order refusal told (Err fault) l w = taking_unread h.lenient refusal l w
+  taking_order letter told (Err fault) l w = taking_unread h.lenient letter l w
 
   given_file_done : (read : Result Answer BadText) (l : Lists) → CanAllBeSaid (on_given_file_done read l).says
   given_file_done (Ok answer.DoneYes) l = tt
@@ -139,12 +146,11 @@ module _ (h : Holdings) (modes : AreModes h) where
   send_yes (job.Send source target user temp ∷ jobs) l = file_sent (to_give h (fetched_by source temp)) l
   send_yes _ l = tt
 
-  send_answer : (read : Result Answer BadText) (l : Lists) → CanAllBeSaid (on_send_answer h read l).says
-  send_answer (Ok answer.SendYes) l = send_yes l.ahead l
-  send_answer (Ok answer.SendNever) l = going_on (moved_once fail l) [] tt
-  send_answer (Ok answer.SendHeld) l = going_on (moved_once (move_held h.lenient l.ahead) l) [] tt
-  send_answer (Ok answer.SendLater) l = going_on (moved_once pass l) [] tt
-  send_answer _ l = tt
+  send_answer : (held : Bool) (read : Result Answer BadText) (l : Lists) → CanAllBeSaid (on_send_answer h held read l).says
+  send_answer held (Ok answer.SendYes) l = send_yes l.ahead l
+  send_answer held (Ok answer.SendNever) l = going_on (moved_once fail l) [] tt
+  send_answer held (Ok answer.SendLater) l = going_on (moved_once (move_refused held l.ahead) l) [] tt
+  send_answer held _ l = tt
 
   sent_file_done : (read : Result Answer BadText) (l : Lists) → CanAllBeSaid (on_sent_file_done h read l).says
   sent_file_done (Ok answer.DoneYes) l = going_on (moved_once strike l) [] tt
@@ -173,12 +179,12 @@ module _ (h : Holdings) (modes : AreModes h) where
   nothing_more _ l = tt
 
   taking_text : (awaited : Awaits) (text : List ℕ) (l : Lists) → CanAllBeSaid (on_text h awaited text l).says
-  taking_text awaits.Order text l = taking_order (refusal_of text) (heard h.digests (told_by_order text)) (order_of text) l (refusal_written text)
+  taking_text awaits.Order text l = taking_order (refused_letter_of text) (heard h.digests (told_by_order text)) (order_of text) l (refusable text)
   taking_text awaits.GivenFileDone text l = given_file_done (answer_of text) l
   taking_text awaits.LastHangUp text l = last_hang_up (answer_of text) l
-  taking_text awaits.SendAnswer text l = send_answer (answer_of text) l
+  taking_text awaits.SendAnswer text l = send_answer (is_held text && h.lenient) (answer_of text) l
   taking_text awaits.SentFileDone text l = sent_job_done l.ahead (answer_of text) l
-  taking_text awaits.RequestAnswer text l = request_answer (heard h.digests (told_by_answer text)) (answer_of text) l
+  taking_text awaits.RequestAnswer text l = request_answer (heard h.digests (told_by_answer text)) (or_wished (answer_of text) h.lenient text) l
   taking_text awaits.HangUpAnswer text l = hang_up_answer (answer_of text) l
   taking_text awaits.NothingMore text l = nothing_more (answer_of text) l
   taking_text _ text l = tt
@@ -213,6 +219,7 @@ of_said h (saying.Order order told) m = m
 of_said h (saying.Answer answer) w = w
 of_said h (saying.Giving mode told) m = m
 of_said h (saying.File name) u = tt
+of_said h (saying.Refusal letter) e = e
 
 of_all_said : (h : Holdings) (says : Says) → CanAllBeSaid (all_said h says) → All IsSayable (sayings_of says)
 of_all_said h Nothing c = All-nil IsSayable

@@ -24,6 +24,14 @@ all_pending : (jobs : List Job) → AreShared jobs jobs [] []
 all_pending [] = none
 all_pending (job ∷ jobs) = one_pending (all_pending jobs)
 
+all_failed : (jobs : List Job) → AreShared jobs [] [] jobs
+all_failed [] = none
+all_failed (job ∷ jobs) = one_failed (all_failed jobs)
+
+all_gone : (struck failed : List Job) → AreShared (struck ++ failed) [] struck failed
+all_gone [] failed = all_failed failed
+all_gone (job ∷ struck) failed = one_struck (all_gone struck failed)
+
 -- these jobs have been moved, and those ahead have not
 record HasMoved (jobs : List Job) (l : Lists) : Type 0 where
   gone : List Job
@@ -74,12 +82,13 @@ HasMoved-moved jobs [] l h = h
 HasMoved-moved jobs (move ∷ moves) l h =
     HasMoved-moved jobs moves (moved_once move l) (HasMoved-first jobs move l.passed l.ahead l.struck l.failed h)
 
--- whatever moves are made of them, jobs are shared among the lists
-pub moved_are_shared : (jobs : List Job) (moves : List Move) →
-    AreShared jobs (pending (moved moves (at_start jobs [] []))) (moved moves (at_start jobs [] [])).struck (moved moves (at_start jobs [] [])).failed
-moved_are_shared jobs moves =
-    HasMoved-done jobs (moved moves (at_start jobs [] []))
-    (HasMoved-moved jobs moves (at_start jobs [] []) (record { gone = []; all = refl; shared = none }))
+-- whatever moves are made of them, jobs are shared among the lists, with those that were struck and failed before
+pub moved_are_shared : (jobs struck failed : List Job) (moves : List Move) → let l = moved moves (at_start jobs struck failed) in
+    AreShared ((struck ++ failed) ++ jobs) (pending l) l.struck l.failed
+moved_are_shared jobs struck failed moves =
+    HasMoved-done ((struck ++ failed) ++ jobs) (moved moves (at_start jobs struck failed))
+    (HasMoved-moved ((struck ++ failed) ++ jobs) moves (at_start jobs struck failed)
+    (record { gone = struck ++ failed; all = refl; shared = all_gone struck failed }))
 
 -- what holds of all jobs holds of all jobs of each list
 pub AreShared-All : (P : Job → Type 0) {jobs p s f : List Job} → AreShared jobs p s f → All P jobs → All P p × All P s × All P f
@@ -101,4 +110,4 @@ pub lists_are_shared : (me : Side) (a b : Party) (k : ℕ)
     (lists_after me a b k).failed
 lists_are_shared me a b k =
     rw (sym (moved-append (opening_moves me (party me a b)) (moves_after k (conversation_view me a b)) (at_start (party me a b).jobs [] [])))
-    (moved_are_shared (party me a b).jobs (opening_moves me (party me a b) ++ moves_after k (conversation_view me a b)))
+    (moved_are_shared (party me a b).jobs [] [] (opening_moves me (party me a b) ++ moves_after k (conversation_view me a b)))

@@ -140,18 +140,20 @@ one_asked e source target user file struck given nothing =
     (sym nothing) (giver_asked none, asked_for given none)
 
 request_own : (measures : Side → Measure) (master : Side) (e : Ends) (jobs others_ahead : List Job)
-    (source target user : List ℕ) (offered : Option File) (immovable : Bool) (next : List Move) (rest : List Turn) →
+    (source target user : List ℕ) (offered : Option File) (delayed immovable : Bool) (next : List Move) (rest : List Turn) →
     to_give e.others source ≡ offered → struck_by (next ++ []) jobs ≡ [] →
     HoldsOf measures master (OwnBehind e jobs others_ahead next) rest →
     HoldsOf measures master (OwnBehind e (job.Request source target user ∷ jobs) others_ahead [])
-    (request_exchange master (other master) e.others.digests source target user offered (e.own.landing source target) immovable next rest)
-request_own measures master e jobs ahead source target user None immovable next rest given nothing more =
+    (request_exchange master (other master) e.others.digests source target user offered delayed (e.own.landing source target) immovable next rest)
+request_own measures master e jobs ahead source target user None false immovable next rest given nothing more =
     master_says (none, none) (slave_says (none, none) more)
-request_own measures master e jobs ahead source target user (Some file) false next rest given nothing more =
+request_own measures master e jobs ahead source target user None true immovable next rest given nothing more =
+    master_says (none, none) (slave_says (none, none) more)
+request_own measures master e jobs ahead source target user (Some file) delayed false next rest given nothing more =
     master_says (none, none) (slave_says (none, none) (slave_says (none, none) (master_says
     (one_asked e source target user file (struck_by (next ++ []) jobs) given nothing)
     (follows (λ m o k p h. (giver_asked h.0, asked_for given h.1)) more))))
-request_own measures master e jobs ahead source target user (Some file) true next rest given nothing more =
+request_own measures master e jobs ahead source target user (Some file) delayed true next rest given nothing more =
     master_says (none, none) (slave_says (none, none) (slave_says (none, none) (master_says
     (nothing_own e (struck_by (next ++ []) jobs) nothing) more)))
 
@@ -171,7 +173,7 @@ exchanges_own measures master e (job.Send source target user temp ∷ jobs) ahea
     (exchanges_own measures master e jobs ahead rest
     (λ j i. inside j (Contains-tail (job.Send source target user temp) jobs j i)) more)
 exchanges_own measures master e (job.Request source target user ∷ jobs) ahead rest inside more =
-    request_own measures master e jobs ahead source target user (to_give e.others source) (e.own.immovable (e.own.landing source target))
+    request_own measures master e jobs ahead source target user (to_give e.others source) (e.others.delayed source) (e.own.immovable (e.own.landing source target))
     (choice e.own jobs).failing (exchanges master (other master) e.own e.others jobs rest) refl
     (choice_strikes_nothing e.own jobs)
     (exchanges_own measures master e jobs ahead rest

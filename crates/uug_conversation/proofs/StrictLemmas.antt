@@ -5,12 +5,13 @@ use Rattle.uug_digest.specs.declared.file_digest.FileDigest.{FileDigest}
 use Rattle.uug_talk.specs.declared.answer.Answer.{Answer}
 use Rattle.uug_talk.specs.declared.answer.Answer.TheVariants as answer
 use Rattle.uug_talk.specs.declared.error.BadText.{BadText}
+use Rattle.uug_talk.specs.declared.error.BadText.TheVariants as fault
 use Rattle.uug_talk.specs.declared.order.Order.{Order}
 use Rattle.uug_talk.specs.declared.order.Order.TheVariants as order
 use Rattle.uug_talk.specs.Answer.{answer_of}
 use Rattle.uug_talk.specs.Gathering.{Kind, OfCommand, OfFile, Gathering, limit_of}
+use Rattle.uug_talk.specs.Lenient.{is_held, or_wished, refused_letter_of}
 use Rattle.uug_talk.specs.Order.{order_of}
-use Rattle.uug_talk.specs.Unread.{refusal_of}
 use Rattle.uug_conversation.specs.declared.awaits.Awaits.{Awaits}
 use Rattle.uug_conversation.specs.declared.awaits.Awaits.TheVariants as awaits
 use Rattle.uug_conversation.specs.declared.job.Job.{Job}
@@ -22,32 +23,44 @@ use Rattle.uug_conversation.specs.declared.verdict.Verdict.TheVariants.{Yes, Nev
 use Rattle.uug_conversation.specs.Choice.{choice, fetched_by}
 use Rattle.uug_conversation.specs.Holdings.{File, Kept, Holdings, to_give}
 use Rattle.uug_conversation.specs.Jobs.{Lists, pass, strike, fail, moved, moved_once}
-use Rattle.uug_conversation.specs.Machine.{State, Reply, awaits_answer_to, order_or_hang_up, goes_on, on_send, send_verdict, on_request, on_hang_up, on_unread, on_order, on_given_file_done, on_last_hang_up, sends_file, on_send_yes, move_held, on_send_answer, on_sent_file_done, on_sent_job_done, on_request_answer, on_hang_up_answer, on_nothing_more, on_text, file_verdict, on_sent_file, on_asked_file, on_file_of, on_file, on_whole, on_gathered, is_dropped, on_past_limit, on_part, gathered_with, opening, out_of_turn, step}
+use Rattle.uug_conversation.specs.Machine.{State, Reply, awaits_answer_to, order_or_hang_up, goes_on, on_send, send_verdict, on_request, on_hang_up, on_unread, on_order, on_given_file_done, on_last_hang_up, sends_file, on_send_yes, move_refused, on_send_answer, on_sent_file_done, on_sent_job_done, on_request_answer, on_hang_up_answer, on_nothing_more, on_text, file_verdict, on_sent_file, on_asked_file, on_file_of, on_file, on_whole, on_gathered, is_dropped, on_past_limit, on_part, gathered_with, opening, out_of_turn, step}
 use Rattle.uug_conversation.specs.Told.{heard, is_too_large, unless_too_large}
 use Rattle.uug_conversation.specs.Turns.{Said, the_answer}
 
 -- ---- what it can't read, and SN8
 
-strict_unread : (refusal : Option Answer) (l : Lists) → on_unread false refusal l ≡ out_of_turn l
+strict_unread : (letter : Option ℕ) (l : Lists) → on_unread false letter l ≡ out_of_turn l
 strict_unread None l = refl
-strict_unread (Some refusal) l = refl
+strict_unread (Some letter) l = refl
 
 pub unread_ends : (h : Holdings) (text : List ℕ) (fault : BadText) (l : Lists) → h.lenient ≡ false → order_of text ≡ Err fault →
     on_text h awaits.Order text l ≡ out_of_turn l
 unread_ends h text fault l strict e =
-    ap (λ read. on_order h (refusal_of text) (heard h.digests (told_by_order text)) read l) e
-    ∙ ap (λ (b : Bool). on_unread b (refusal_of text) l) strict
-    ∙ strict_unread (refusal_of text) l
+    ap (λ read. on_order h (refused_letter_of text) (heard h.digests (told_by_order text)) read l) e
+    ∙ ap (λ (b : Bool). on_unread b (refused_letter_of text) l) strict
+    ∙ strict_unread (refused_letter_of text) l
 
-strict_held : (jobs : List Job) → move_held false jobs ≡ pass
-strict_held jobs = refl
+strict_held : (held : Bool) (jobs : List Job) → move_refused (held && false) jobs ≡ pass
+strict_held true jobs = refl
+strict_held false jobs = refl
 
-pub held_stays : (h : Holdings) (text : List ℕ) (l : Lists) → h.lenient ≡ false → answer_of text ≡ Ok answer.SendHeld →
+pub held_stays : (h : Holdings) (text : List ℕ) (l : Lists) → h.lenient ≡ false → answer_of text ≡ Ok answer.SendLater →
     on_text h awaits.SendAnswer text l ≡ goes_on h (moved_once pass l) []
 held_stays h text l strict e =
-    ap (λ read. on_send_answer h read l) e
-    ∙ ap (λ (b : Bool). goes_on h (moved_once (move_held b l.ahead) l) []) strict
-    ∙ ap (λ move. goes_on h (moved_once move l) []) (strict_held l.ahead)
+    ap (λ read. on_send_answer h (is_held text && h.lenient) read l) e
+    ∙ ap (λ (b : Bool). goes_on h (moved_once (move_refused (is_held text && b) l.ahead) l) []) strict
+    ∙ ap (λ move. goes_on h (moved_once move l) []) (strict_held (is_held text) l.ahead)
+
+pub strict_read : (read : Result Answer BadText) (text : List ℕ) → or_wished read false text ≡ read
+strict_read (Ok answer) text = refl
+strict_read (Err fault.Mode) text = refl
+strict_read (Err _) text = refl
+
+pub wish_unread : (h : Holdings) (text : List ℕ) (l : Lists) → h.lenient ≡ false →
+    on_text h awaits.RequestAnswer text l ≡ on_request_answer h (heard h.digests (told_by_answer text)) (answer_of text) l
+wish_unread h text l strict =
+    ap (λ (b : Bool). on_request_answer h (heard h.digests (told_by_answer text)) (or_wished (answer_of text) b text) l) strict
+    ∙ ap (λ read. on_request_answer h (heard h.digests (told_by_answer text)) read l) (strict_read (answer_of text) text)
 
 -- ---- it asks its spool alone
 
@@ -79,24 +92,25 @@ send Yes target mode told l = refl
 send Never target mode told l = refl
 send Later target mode told l = refl
 
-request : (digests : Bool) (found : Option File) (l : Lists) → DropsNone (on_request digests found l)
-request digests None l = refl
-request digests (Some file) l = refl
+request : (digests : Bool) (found : Option File) (delayed : Bool) (l : Lists) → DropsNone (on_request digests found delayed l)
+request digests None false l = refl
+request digests None true l = refl
+request digests (Some file) delayed l = refl
 
 hang_up : (h : Holdings) (next : Option Order) (l : Lists) → DropsNone (on_hang_up h next l)
 hang_up h None l = refl
 hang_up h (Some next) l = order_drops_none next
 
-unread : (lenient : Bool) (refusal : Option Answer) (l : Lists) → DropsNone (on_unread lenient refusal l)
-unread true (Some refusal) l = refl
+unread : (lenient : Bool) (letter : Option ℕ) (l : Lists) → DropsNone (on_unread lenient letter l)
+unread true (Some letter) l = refl
 unread _ _ l = refl
 
-an_order : (h : Holdings) (refusal : Option Answer) (told : Option FileDigest) (read : Result Order BadText) (l : Lists)
-    → DropsNone (on_order h refusal told read l)
-an_order h refusal told (Ok (order.Send source target user temp mode)) l = send (send_verdict h (h.landing source target) told) (h.landing source target) mode told l
-an_order h refusal told (Ok (order.Request source target user)) l = request h.digests (to_give h source) l
-an_order h refusal told (Ok order.HangUp) l = hang_up h (choice h l.ahead).next (moved (choice h l.ahead).failing l)
-an_order h refusal told (Err fault) l = unread h.lenient refusal l
+an_order : (h : Holdings) (letter : Option ℕ) (told : Option FileDigest) (read : Result Order BadText) (l : Lists)
+    → DropsNone (on_order h letter told read l)
+an_order h letter told (Ok (order.Send source target user temp mode)) l = send (send_verdict h (h.landing source target) told) (h.landing source target) mode told l
+an_order h letter told (Ok (order.Request source target user)) l = request h.digests (to_give h source) (h.delayed source) l
+an_order h letter told (Ok order.HangUp) l = hang_up h (choice h l.ahead).next (moved (choice h l.ahead).failing l)
+an_order h letter told (Err fault) l = unread h.lenient letter l
 
 given_file_done : (read : Result Answer BadText) (l : Lists) → DropsNone (on_given_file_done read l)
 given_file_done (Ok answer.DoneYes) l = refl
@@ -117,12 +131,11 @@ send_yes : (h : Holdings) (jobs : List Job) (l : Lists) → DropsNone (on_send_y
 send_yes h (job.Send source target user temp ∷ jobs) l = file_sent (to_give h (fetched_by source temp)) l
 send_yes h _ l = refl
 
-send_answer : (h : Holdings) (read : Result Answer BadText) (l : Lists) → DropsNone (on_send_answer h read l)
-send_answer h (Ok answer.SendYes) l = send_yes h l.ahead l
-send_answer h (Ok answer.SendNever) l = going_on h (moved_once fail l) []
-send_answer h (Ok answer.SendHeld) l = going_on h (moved_once (move_held h.lenient l.ahead) l) []
-send_answer h (Ok answer.SendLater) l = going_on h (moved_once pass l) []
-send_answer h _ l = refl
+send_answer : (h : Holdings) (held : Bool) (read : Result Answer BadText) (l : Lists) → DropsNone (on_send_answer h held read l)
+send_answer h held (Ok answer.SendYes) l = send_yes h l.ahead l
+send_answer h held (Ok answer.SendNever) l = going_on h (moved_once fail l) []
+send_answer h held (Ok answer.SendLater) l = going_on h (moved_once (move_refused held l.ahead) l) []
+send_answer h held _ l = refl
 
 sent_file_done : (h : Holdings) (read : Result Answer BadText) (l : Lists) → DropsNone (on_sent_file_done h read l)
 sent_file_done h (Ok answer.DoneYes) l = going_on h (moved_once strike l) []
@@ -151,12 +164,12 @@ nothing_more (Ok answer.HangYes) l = refl
 nothing_more _ l = refl
 
 a_text : (h : Holdings) (awaited : Awaits) (text : List ℕ) (l : Lists) → DropsNone (on_text h awaited text l)
-a_text h awaits.Order text l = an_order h (refusal_of text) (heard h.digests (told_by_order text)) (order_of text) l
+a_text h awaits.Order text l = an_order h (refused_letter_of text) (heard h.digests (told_by_order text)) (order_of text) l
 a_text h awaits.GivenFileDone text l = given_file_done (answer_of text) l
 a_text h awaits.LastHangUp text l = last_hang_up (answer_of text) l
-a_text h awaits.SendAnswer text l = send_answer h (answer_of text) l
+a_text h awaits.SendAnswer text l = send_answer h (is_held text && h.lenient) (answer_of text) l
 a_text h awaits.SentFileDone text l = sent_job_done h l.ahead (answer_of text) l
-a_text h awaits.RequestAnswer text l = request_answer h (heard h.digests (told_by_answer text)) (answer_of text) l
+a_text h awaits.RequestAnswer text l = request_answer h (heard h.digests (told_by_answer text)) (or_wished (answer_of text) h.lenient text) l
 a_text h awaits.HangUpAnswer text l = hang_up_answer (answer_of text) l
 a_text h awaits.NothingMore text l = nothing_more (answer_of text) l
 a_text h _ text l = refl

@@ -1,5 +1,5 @@
 -- Whatever comes, what an end tells is told of the files that its spool gives.
-use Rattle.std.proofs.Common.{ℕ, nat_lt, Bool, true, false, List, ◌∷◌, length, Option, Some, None, Result, Ok, Err, refl}
+use Rattle.std.proofs.Common.{ℕ, nat_lt, Bool, true, false, ◌&&◌, List, ◌∷◌, length, Option, Some, None, Result, Ok, Err, refl}
 use Rattle.uug_digest.specs.Digests.{told_by_answer, told_by_order}
 use Rattle.uug_digest.specs.declared.file_digest.FileDigest.{FileDigest}
 use Rattle.uug_talk.specs.declared.answer.Answer.{Answer}
@@ -9,8 +9,8 @@ use Rattle.uug_talk.specs.declared.order.Order.{Order}
 use Rattle.uug_talk.specs.declared.order.Order.TheVariants as order
 use Rattle.uug_talk.specs.Answer.{answer_of}
 use Rattle.uug_talk.specs.Gathering.{Kind, OfCommand, OfFile, Gathering, limit_of}
+use Rattle.uug_talk.specs.Lenient.{is_held, or_wished, refused_letter_of}
 use Rattle.uug_talk.specs.Order.{order_of}
-use Rattle.uug_talk.specs.Unread.{refusal_of}
 use Rattle.uug_conversation.specs.declared.awaits.Awaits.{Awaits}
 use Rattle.uug_conversation.specs.declared.awaits.Awaits.TheVariants as awaits
 use Rattle.uug_conversation.specs.declared.job.Job.{Job}
@@ -35,24 +35,25 @@ module _ (h : Holdings) where
   send Never target mode told l = tt
   send Later target mode told l = tt
 
-  request : (found : Option File) (l : Lists) → IsTrue (on_request h.digests found l)
-  request None l = tt
-  request (Some file) l = (refl, tt)
+  request : (found : Option File) (delayed : Bool) (l : Lists) → IsTrue (on_request h.digests found delayed l)
+  request None false l = tt
+  request None true l = tt
+  request (Some file) delayed l = (refl, tt)
 
   hang_up : (next : Option Order) (l : Lists) → IsTrue (on_hang_up h next l)
   hang_up None l = tt
   hang_up (Some next) l = (refl, tt)
 
-  unread : (lenient : Bool) (refusal : Option Answer) (l : Lists) → IsTrue (on_unread lenient refusal l)
-  unread true (Some refusal) l = tt
+  unread : (lenient : Bool) (letter : Option ℕ) (l : Lists) → IsTrue (on_unread lenient letter l)
+  unread true (Some letter) l = tt
   unread _ _ l = tt
 
-  an_order : (refusal : Option Answer) (told : Option FileDigest) (read : Result Order BadText) (l : Lists) →
-      IsTrue (on_order h refusal told read l)
-  an_order refusal told (Ok (order.Send source target user temp mode)) l = send (send_verdict h (h.landing source target) told) (h.landing source target) mode told l
-  an_order refusal told (Ok (order.Request source target user)) l = request (to_give h source) l
-  an_order refusal told (Ok order.HangUp) l = hang_up (choice h l.ahead).next (moved (choice h l.ahead).failing l)
-  an_order refusal told (Err fault) l = unread h.lenient refusal l
+  an_order : (letter : Option ℕ) (told : Option FileDigest) (read : Result Order BadText) (l : Lists) →
+      IsTrue (on_order h letter told read l)
+  an_order letter told (Ok (order.Send source target user temp mode)) l = send (send_verdict h (h.landing source target) told) (h.landing source target) mode told l
+  an_order letter told (Ok (order.Request source target user)) l = request (to_give h source) (h.delayed source) l
+  an_order letter told (Ok order.HangUp) l = hang_up (choice h l.ahead).next (moved (choice h l.ahead).failing l)
+  an_order letter told (Err fault) l = unread h.lenient letter l
 
   given_file_done : (read : Result Answer BadText) (l : Lists) → IsTrue (on_given_file_done read l)
   given_file_done (Ok answer.DoneYes) l = tt
@@ -73,12 +74,11 @@ module _ (h : Holdings) where
   send_yes (job.Send source target user temp ∷ jobs) l = file_sent (to_give h (fetched_by source temp)) l
   send_yes _ l = tt
 
-  send_answer : (read : Result Answer BadText) (l : Lists) → IsTrue (on_send_answer h read l)
-  send_answer (Ok answer.SendYes) l = send_yes l.ahead l
-  send_answer (Ok answer.SendNever) l = (refl, tt)
-  send_answer (Ok answer.SendHeld) l = (refl, tt)
-  send_answer (Ok answer.SendLater) l = (refl, tt)
-  send_answer _ l = tt
+  send_answer : (held : Bool) (read : Result Answer BadText) (l : Lists) → IsTrue (on_send_answer h held read l)
+  send_answer held (Ok answer.SendYes) l = send_yes l.ahead l
+  send_answer held (Ok answer.SendNever) l = (refl, tt)
+  send_answer held (Ok answer.SendLater) l = (refl, tt)
+  send_answer held _ l = tt
 
   sent_file_done : (read : Result Answer BadText) (l : Lists) → IsTrue (on_sent_file_done h read l)
   sent_file_done (Ok answer.DoneYes) l = (refl, tt)
@@ -107,12 +107,12 @@ module _ (h : Holdings) where
   nothing_more _ l = tt
 
   a_text : (awaited : Awaits) (text : List ℕ) (l : Lists) → IsTrue (on_text h awaited text l)
-  a_text awaits.Order text l = an_order (refusal_of text) (heard h.digests (told_by_order text)) (order_of text) l
+  a_text awaits.Order text l = an_order (refused_letter_of text) (heard h.digests (told_by_order text)) (order_of text) l
   a_text awaits.GivenFileDone text l = given_file_done (answer_of text) l
   a_text awaits.LastHangUp text l = last_hang_up (answer_of text) l
-  a_text awaits.SendAnswer text l = send_answer (answer_of text) l
+  a_text awaits.SendAnswer text l = send_answer (is_held text && h.lenient) (answer_of text) l
   a_text awaits.SentFileDone text l = sent_job_done l.ahead (answer_of text) l
-  a_text awaits.RequestAnswer text l = request_answer (heard h.digests (told_by_answer text)) (answer_of text) l
+  a_text awaits.RequestAnswer text l = request_answer (heard h.digests (told_by_answer text)) (or_wished (answer_of text) h.lenient text) l
   a_text awaits.HangUpAnswer text l = hang_up_answer (answer_of text) l
   a_text awaits.NothingMore text l = nothing_more (answer_of text) l
   a_text _ text l = tt

@@ -4,6 +4,7 @@ use Rattle.std.proofs.lemmas.Bool.Decides.{nat_tests}
 use Rattle.std.proofs.lemmas.List.{append_assoc, length-append}
 use Rattle.uug_talk.specs.Chunks.{Measure}
 use Rattle.uug_talk.specs.Answer.{answer_text}
+use Rattle.uug_talk.specs.Lenient.{refusal_text}
 use Rattle.uug_talk.specs.Gathering.{Kind, OfCommand, OfFile, part_of, ends, limit_of, gathered, GathersBack}
 use Rattle.uug_conversation.specs.Told.{giving_said, order_said}
 use Rattle.uug_conversation.specs.declared.awaits.Awaits.{Awaits}
@@ -13,7 +14,7 @@ use Rattle.uug_conversation.specs.Machine.{State, Reply, between, kind_awaited, 
 use Rattle.uug_conversation.specs.Messages.{Message, turn_messages, messages}
 use Rattle.uug_conversation.specs.ReadBack.{IsReadBack}
 use Rattle.uug_conversation.specs.Runs.{has_said_all, is_over, is_bad}
-use Rattle.uug_conversation.specs.Turns.{other, Said, the_order, the_answer, the_giving, the_file, said_messages, all_messages, Turn}
+use Rattle.uug_conversation.specs.Turns.{other, Said, the_order, the_answer, the_giving, the_file, the_refusal, said_messages, all_messages, Turn}
 use Rattle.uug_conversation.specs.declared.side.Side.{Side}
 use Rattle.uug_conversation.specs.declared.side.Side.TheVariants.{Caller, Called}
 use Rattle.uug_conversation.specs.View.{Seen, says, hears, seen, view, own_messages}
@@ -184,12 +185,14 @@ said_kind (the_order order told) = OfCommand
 said_kind (the_answer answer) = OfCommand
 said_kind (the_giving mode told) = OfCommand
 said_kind (the_file bytes) = OfFile
+said_kind (the_refusal letter) = OfCommand
 
 abbrev pub said_bytes : Said → List ℕ
 said_bytes (the_order order told) = order_said order told
 said_bytes (the_answer answer) = answer_text answer
 said_bytes (the_giving mode told) = giving_said mode told
 said_bytes (the_file bytes) = bytes
+said_bytes (the_refusal letter) = refusal_text letter
 
 said_back : (measure : Measure) → 0 < measure.size → (said : Said) → IsReadBack said →
     GathersBack (said_kind said) (said_messages measure said) (said_bytes said)
@@ -197,12 +200,14 @@ said_back measure p (the_order order told) r = command_back measure (order_said 
 said_back measure p (the_answer answer) r = command_back measure (answer_text answer) p r.0
 said_back measure p (the_giving mode told) r = command_back measure (giving_said mode told) p r.0
 said_back measure p (the_file bytes) r = file_back measure.size bytes p
+said_back measure p (the_refusal letter) r = absurd r
 
 said_fits : (said : Said) → IsReadBack said → length (said_bytes said) ≤ limit_of (said_kind said)
 said_fits (the_order order told) r = r.0.short
 said_fits (the_answer answer) r = r.0.short
 said_fits (the_giving mode told) r = r.0.short
 said_fits (the_file bytes) r = r
+said_fits (the_refusal letter) r = absurd r
 
 not_whole_yet : {kind : Kind} {held : List ℕ} → GathersBack kind [] held → ⊥
 not_whole_yet {kind} {held} back = let e : false ≡ true = sym (nothing_whole kind) ∙ ap (λ g. g.whole) back.whole in cc

@@ -6,7 +6,7 @@ use Rattle.uug_conversation.specs.declared.awaits.Awaits.{Awaits}
 use Rattle.uug_conversation.specs.declared.awaits.Awaits.TheVariants as awaits
 use Rattle.uug_conversation.specs.Holdings.{Holdings, Kept}
 use Rattle.uug_conversation.specs.Told.{told_of, told_with}
-use Rattle.uug_conversation.specs.Turns.{Said, the_order, the_answer, the_giving, the_file}
+use Rattle.uug_conversation.specs.Turns.{Said, the_order, the_answer, the_giving, the_file, the_refusal}
 
 -- what was told of the file that is awaited
 abbrev pub told_awaited : Awaits → Option FileDigest
@@ -27,3 +27,4 @@ TellsTruly h (the_giving mode told ∷ the_file bytes ∷ more) =
     (told ≡ told_of h.digests (Some (record { mode = mode; bytes = bytes }))) × TellsTruly h more
 TellsTruly h (the_giving mode told ∷ more) = ⊥
 TellsTruly h (the_file bytes ∷ more) = TellsTruly h more
+TellsTruly h (the_refusal letter ∷ more) = TellsTruly h more

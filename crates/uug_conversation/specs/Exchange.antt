@@ -47,23 +47,27 @@ send_exchange master slave digests source target user temp (Some file) name Yes 
     plain master (the_file file.bytes) ∷
     moving slave (the_answer answer.DoneNever) (fail ∷ next) ∷ rest
 
--- ---- Request, by whether the slave tells digests, by its file, and by what the master's spool says: the name under which it keeps
--- the file, and whether a file can't be put in its place there
+-- ---- Request, by whether the slave tells digests, by its file, by whether it has none only for now, and by what the master's spool says:
+-- the name under which it keeps the file, and whether a file can't be put in its place there
 
 abbrev pub request_exchange : (master slave : Side) → (digests : Bool) → (source target user : List ℕ)
-    → Option File → (name : List ℕ) → (immovable : Bool) → (next : List Move) → (rest : List Turn) → List Turn
+    → Option File → (delayed : Bool) → (name : List ℕ) → (immovable : Bool) → (next : List Move) → (rest : List Turn) → List Turn
 -- R; RN2: failed
-request_exchange master slave digests source target user None name immovable next rest =
+request_exchange master slave digests source target user None false name immovable next rest =
     plain master (the_order (order.Request source target user) None) ∷
     moving slave (the_answer answer.GiveNever) (fail ∷ next) ∷ rest
+-- R; RN6: pending
+request_exchange master slave digests source target user None true name immovable next rest =
+    plain master (the_order (order.Request source target user) None) ∷
+    moving slave (the_answer answer.GiveLater) (pass ∷ next) ∷ rest
 -- R; RY; file; CY: struck
-request_exchange master slave digests source target user (Some file) name false next rest =
+request_exchange master slave digests source target user (Some file) delayed name false next rest =
     plain master (the_order (order.Request source target user) None) ∷
     plain slave (the_giving file.mode (told_of digests (Some file))) ∷
     keeping slave name file (strike ∷ next) ∷
     plain master (the_answer answer.DoneYes) ∷ rest
 -- R; RY; file; CN5: failed
-request_exchange master slave digests source target user (Some file) name true next rest =
+request_exchange master slave digests source target user (Some file) delayed name true next rest =
     plain master (the_order (order.Request source target user) None) ∷
     plain slave (the_giving file.mode (told_of digests (Some file))) ∷
     moving slave (the_file file.bytes) (fail ∷ next) ∷
@@ -76,5 +80,5 @@ exchange master slave own others (job.Send source target user temp) next rest =
     (to_give own (fetched_by source temp)) (others.landing source target) (others.verdict (others.landing source target))
     (others.immovable (others.landing source target)) next rest
 exchange master slave own others (job.Request source target user) next rest =
-    request_exchange master slave others.digests source target user (to_give others source) (own.landing source target)
+    request_exchange master slave others.digests source target user (to_give others source) (others.delayed source) (own.landing source target)
     (own.immovable (own.landing source target)) next rest

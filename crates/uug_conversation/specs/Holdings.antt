@@ -19,6 +19,8 @@ pub record Kept : Type 0 where
 pub record Holdings : Type 0 where
   -- the file of this name, if there is one
   pub file : List ℕ → Option File
+  -- whether there may be a file of this name that can't be given now, but later
+  pub delayed : List ℕ → Bool
   -- whether a file of this name is taken
   pub verdict : List ℕ → Verdict
   -- whether a file of this name can't be put in its place

@@ -19,10 +19,12 @@ pub mod Machine
 pub mod MemoryHoldings
 pub mod Messages
 pub mod Offers
+pub mod OneEnd
 pub mod Outgoing
 pub mod OwnEntries
 pub mod OwnRequests
 pub mod Party
+pub mod PlainMachine
 pub mod Reactions
 pub mod ReadBack
 pub mod Runs

@@ -11,8 +11,8 @@ use Rattle.uug_talk.specs.declared.order.Order.{Order}
 use Rattle.uug_talk.specs.declared.order.Order.TheVariants as order
 use Rattle.uug_talk.specs.Answer.{answer_of}
 use Rattle.uug_talk.specs.Gathering.{Kind, OfCommand, OfFile, Gathering, with_message, limit_of}
+use Rattle.uug_talk.specs.Lenient.{is_held, or_wished, refused_letter_of}
 use Rattle.uug_talk.specs.Order.{order_of}
-use Rattle.uug_talk.specs.Unread.{refusal_of}
 use Rattle.uug_conversation.specs.declared.awaits.Awaits.{Awaits}
 use Rattle.uug_conversation.specs.declared.awaits.Awaits.TheVariants as awaits
 use Rattle.uug_conversation.specs.declared.job.Job.{Job}
@@ -23,7 +23,7 @@ use Rattle.uug_conversation.specs.Choice.{Choice, choice, fetched_by}
 use Rattle.uug_conversation.specs.Holdings.{File, Kept, Holdings, to_give}
 use Rattle.uug_conversation.specs.Jobs.{Lists, Move, pass, strike, fail, moved, moved_once}
 use Rattle.uug_conversation.specs.Told.{fits, heard, is_too_large, outcome, told_of, told_with, unless_too_large}
-use Rattle.uug_conversation.specs.Turns.{Said, the_order, the_answer, the_giving, the_file}
+use Rattle.uug_conversation.specs.Turns.{Said, the_order, the_answer, the_giving, the_file, the_refusal}
 use Rattle.uug_conversation.specs.declared.side.Side.{Side}
 use Rattle.uug_conversation.specs.declared.side.Side.TheVariants.{Caller, Called}
 
@@ -84,10 +84,11 @@ on_send Later target mode told l = replies l awaits.Order (the_answer answer.Sen
 abbrev pub send_verdict : Holdings → (target : List ℕ) → (told : Option FileDigest) → Verdict
 send_verdict h target told = unless_too_large (h.lenient && is_too_large told) (h.verdict target)
 
--- R, by the file that it asks for, and by whether digests are told
-abbrev pub on_request : (digests : Bool) → Option File → Lists → Reply
-on_request digests None l = replies l awaits.Order (the_answer answer.GiveNever ∷ [])
-on_request digests (Some file) l =
+-- R, by the file that it asks for, by whether there is none only for now, and by whether digests are told
+abbrev pub on_request : (digests : Bool) → Option File → (delayed : Bool) → Lists → Reply
+on_request digests None false l = replies l awaits.Order (the_answer answer.GiveNever ∷ [])
+on_request digests None true l = replies l awaits.Order (the_answer answer.GiveLater ∷ [])
+on_request digests (Some file) delayed l =
     replies l awaits.GivenFileDone (the_giving file.mode (told_of digests (Some file)) ∷ the_file file.bytes ∷ [])
 
 -- H, by the choice of a job: where there is one, the roles are exchanged
@@ -98,18 +99,18 @@ on_hang_up h (Some next) l = commands h l (the_answer answer.HangNo ∷ []) next
 abbrev pub on_choice : Holdings → Choice → Lists → Reply
 on_choice h c l = on_hang_up h c.next (moved c.failing l)
 
--- what can't be read, by what refuses it: a lenient end goes on
-abbrev pub on_unread : (lenient : Bool) → (refusal : Option Answer) → Lists → Reply
-on_unread true (Some refusal) l = replies l awaits.Order (the_answer refusal ∷ [])
+-- what can't be read, by the letter in which it can be refused: a lenient end goes on
+abbrev pub on_unread : (lenient : Bool) → (letter : Option ℕ) → Lists → Reply
+on_unread true (Some letter) l = replies l awaits.Order (the_refusal letter ∷ [])
 on_unread _ _ l = out_of_turn l
 
--- a command, by what refuses it and what it tells of its file
-abbrev pub on_order : Holdings → (refusal : Option Answer) → (told : Option FileDigest) → Result Order BadText → Lists → Reply
-on_order h refusal told (Ok (order.Send source target user temp mode)) l =
+-- a command, by the letter in which it can be refused and what it tells of its file
+abbrev pub on_order : Holdings → (letter : Option ℕ) → (told : Option FileDigest) → Result Order BadText → Lists → Reply
+on_order h letter told (Ok (order.Send source target user temp mode)) l =
     on_send (send_verdict h (h.landing source target) told) (h.landing source target) mode told l
-on_order h refusal told (Ok (order.Request source target user)) l = on_request h.digests (to_give h source) l
-on_order h refusal told (Ok order.HangUp) l = on_choice h (choice h l.ahead) l
-on_order h refusal told (Err fault) l = on_unread h.lenient refusal l
+on_order h letter told (Ok (order.Request source target user)) l = on_request h.digests (to_give h source) (h.delayed source) l
+on_order h letter told (Ok order.HangUp) l = on_choice h (choice h l.ahead) l
+on_order h letter told (Err fault) l = on_unread h.lenient letter l
 
 -- ---- a slave takes an answer
 
@@ -136,17 +137,16 @@ abbrev pub on_send_yes : Holdings → List Job → Lists → Reply
 on_send_yes h (job.Send source target user temp ∷ jobs) l = sends_file (to_give h (fetched_by source temp)) l
 on_send_yes h _ l = out_of_turn l
 
--- SN8: the other end has the file. A lenient end takes its Send job as done.
-abbrev pub move_held : (lenient : Bool) → List Job → Move
-move_held true (job.Send source target user temp ∷ jobs) = strike
-move_held _ jobs = pass
+-- a refusal for now: where it is SN8, by which the other end has the file already, a lenient end takes its Send job as done
+abbrev pub move_refused : (held : Bool) → List Job → Move
+move_refused true (job.Send source target user temp ∷ jobs) = strike
+move_refused _ jobs = pass
 
-abbrev pub on_send_answer : Holdings → Result Answer BadText → Lists → Reply
-on_send_answer h (Ok answer.SendYes) l = on_send_yes h l.ahead l
-on_send_answer h (Ok answer.SendNever) l = goes_on h (moved_once fail l) []
-on_send_answer h (Ok answer.SendHeld) l = goes_on h (moved_once (move_held h.lenient l.ahead) l) []
-on_send_answer h (Ok answer.SendLater) l = goes_on h (moved_once pass l) []
-on_send_answer h _ l = out_of_turn l
+abbrev pub on_send_answer : Holdings → (held : Bool) → Result Answer BadText → Lists → Reply
+on_send_answer h held (Ok answer.SendYes) l = on_send_yes h l.ahead l
+on_send_answer h held (Ok answer.SendNever) l = goes_on h (moved_once fail l) []
+on_send_answer h held (Ok answer.SendLater) l = goes_on h (moved_once (move_refused held l.ahead) l) []
+on_send_answer h held _ l = out_of_turn l
 
 -- What became of the file that it sent. With CYM the other end wants to be master: no further job is chosen.
 abbrev pub on_sent_file_done : Holdings → Result Answer BadText → Lists → Reply
@@ -183,12 +183,12 @@ on_nothing_more _ l = out_of_turn l
 -- ---- a whole text
 
 abbrev pub on_text : Holdings → Awaits → List ℕ → Lists → Reply
-on_text h awaits.Order text l = on_order h (refusal_of text) (heard h.digests (told_by_order text)) (order_of text) l
+on_text h awaits.Order text l = on_order h (refused_letter_of text) (heard h.digests (told_by_order text)) (order_of text) l
 on_text h awaits.GivenFileDone text l = on_given_file_done (answer_of text) l
 on_text h awaits.LastHangUp text l = on_last_hang_up (answer_of text) l
-on_text h awaits.SendAnswer text l = on_send_answer h (answer_of text) l
+on_text h awaits.SendAnswer text l = on_send_answer h (is_held text && h.lenient) (answer_of text) l
 on_text h awaits.SentFileDone text l = on_sent_job_done h l.ahead (answer_of text) l
-on_text h awaits.RequestAnswer text l = on_request_answer h (heard h.digests (told_by_answer text)) (answer_of text) l
+on_text h awaits.RequestAnswer text l = on_request_answer h (heard h.digests (told_by_answer text)) (or_wished (answer_of text) h.lenient text) l
 on_text h awaits.HangUpAnswer text l = on_hang_up_answer (answer_of text) l
 on_text h awaits.NothingMore text l = on_nothing_more (answer_of text) l
 on_text h _ text l = out_of_turn l

@@ -44,6 +44,7 @@ verdict_on denied postponed name =
 abbrev pub holdings_of : MemoryHoldings → Holdings
 holdings_of m = record {
   file = first_named m.files;
+  delayed = λ name. false;
   verdict = verdict_on m.denied m.postponed;
   immovable = has_name m.immovable;
   landing = λ source target. target;

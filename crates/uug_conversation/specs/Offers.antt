@@ -8,7 +8,7 @@ use Rattle.uug_talk.specs.declared.order.Order.{Order}
 use Rattle.uug_talk.specs.declared.order.Order.TheVariants as order
 use Rattle.uug_conversation.specs.Choice.{fetched_by}
 use Rattle.uug_conversation.specs.Holdings.{File, Holdings, to_give}
-use Rattle.uug_conversation.specs.Turns.{Said, the_order, the_answer, the_giving, the_file, Turn}
+use Rattle.uug_conversation.specs.Turns.{Said, the_order, the_answer, the_giving, the_file, the_refusal, Turn}
 use Rattle.uug_conversation.specs.declared.side.Side.{Side}
 use Rattle.uug_conversation.specs.declared.side.Side.TheVariants.{Caller, Called}
 
@@ -43,6 +43,7 @@ command_of (the_order order told) = order ∷ []
 command_of (the_answer answer) = []
 command_of (the_giving mode told) = []
 command_of (the_file bytes) = []
+command_of (the_refusal letter) = []
 
 -- the commands that a side says, in order
 abbrev pub commands_of : Side → List Turn → List Order
@@ -69,6 +70,7 @@ hang_up_answers_in speaker (the_answer answer) = hang_up_answer_of speaker answe
 hang_up_answers_in speaker (the_order order told) = []
 hang_up_answers_in speaker (the_giving mode told) = []
 hang_up_answers_in speaker (the_file bytes) = []
+hang_up_answers_in speaker (the_refusal letter) = []
 
 -- the answers to H in these turns, in order
 abbrev pub hang_up_answers : List Turn → List HangUpAnswer

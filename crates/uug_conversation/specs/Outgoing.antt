@@ -3,6 +3,7 @@
 use Rattle.std.specs.Prelude.{◌≡◌, ℕ, ◌≤◌, Bool, true, false, List, [], ◌∷◌, ◌++◌, length, drop, map}
 use Rattle.uug_talk.specs.Answer.{IsWritten, answer_text}
 use Rattle.uug_talk.specs.Chunks.{Measure, command_messages, file_messages}
+use Rattle.uug_talk.specs.Lenient.{is_refusable, refusal_text}
 use Rattle.uug_talk.specs.Order.{HasMode}
 use Rattle.uug_talk.specs.declared.mode.TheConstants.{MODE_MAX}
 use Rattle.uug_conversation.specs.declared.reaction.Saying.{Saying}
@@ -12,7 +13,7 @@ use Rattle.uug_conversation.specs.declared.reaction.Says.TheVariants.{Nothing, O
 use Rattle.uug_conversation.specs.Holdings.{Holdings}
 use Rattle.uug_conversation.specs.Reactions.{said_by}
 use Rattle.uug_conversation.specs.Told.{giving_said, order_said}
-use Rattle.uug_conversation.specs.Turns.{Said, the_order, the_answer, the_giving, the_file, all_messages}
+use Rattle.uug_conversation.specs.Turns.{Said, the_order, the_answer, the_giving, the_file, the_refusal, all_messages}
 
 pub record Outgoing : Type 0 where
   -- what is to be said, in order
@@ -28,6 +29,7 @@ messages_from measure offset (the_order order told) = command_messages measure (
 messages_from measure offset (the_answer answer) = command_messages measure (drop offset (answer_text answer))
 messages_from measure offset (the_giving mode told) = command_messages measure (drop offset (giving_said mode told))
 messages_from measure offset (the_file bytes) = file_messages measure.size (drop offset bytes)
+messages_from measure offset (the_refusal letter) = command_messages measure (drop offset (refusal_text letter))
 
 -- the messages that follow one, by whether it is the last
 abbrev pub unless_last : (is_last : Bool) → (behind : List (List ℕ)) → List (List ℕ)
@@ -55,12 +57,13 @@ abbrev pub is_silent : List Saying → Bool
 is_silent [] = true
 is_silent (first ∷ more) = false
 
--- a command or an answer that can be written
+-- a command, an answer or a refusal that can be written
 abbrev pub IsSayable : Saying → Type 0
 IsSayable (saying.Order order told) = HasMode order
 IsSayable (saying.Answer answer) = IsWritten answer
 IsSayable (saying.Giving mode told) = mode ≤ MODE_MAX
 IsSayable (saying.File name) = Unit {0}
+IsSayable (saying.Refusal letter) = is_refusable letter ≡ true
 
 -- the offset lies in the first text; where nothing is to be said, nothing of it was sent
 abbrev pub IsWithin : List Saying → (offset : ℕ) → Type 0
@@ -69,3 +72,4 @@ IsWithin (saying.Order order told ∷ more) offset = offset ≤ length (order_sa
 IsWithin (saying.Answer answer ∷ more) offset = offset ≤ length (answer_text answer)
 IsWithin (saying.Giving mode told ∷ more) offset = offset ≤ length (giving_said mode told)
 IsWithin (saying.File name ∷ more) offset = Unit {0}
+IsWithin (saying.Refusal letter ∷ more) offset = offset ≤ length (refusal_text letter)

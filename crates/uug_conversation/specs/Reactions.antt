@@ -21,7 +21,7 @@ use Rattle.uug_conversation.specs.Choice.{fetched_by}
 use Rattle.uug_conversation.specs.Holdings.{File, Kept, Holdings, to_give, kept_file}
 use Rattle.uug_conversation.specs.Jobs.{Lists, Move, pass, strike, fail, moved_once}
 use Rattle.uug_conversation.specs.Machine.{Reply, between, replies, out_of_turn, goes_on, awaits_answer_to, file_verdict}
-use Rattle.uug_conversation.specs.Turns.{Said, the_order, the_answer, the_giving, the_file}
+use Rattle.uug_conversation.specs.Turns.{Said, the_order, the_answer, the_giving, the_file, the_refusal}
 
 -- what is in a file, or nothing
 abbrev pub bytes_given : Option File → List ℕ
@@ -34,6 +34,7 @@ said_by h (saying.Order order told) = the_order order told
 said_by h (saying.Answer answer) = the_answer answer
 said_by h (saying.Giving mode told) = the_giving mode told
 said_by h (saying.File name) = the_file (bytes_given (to_give h name))
+said_by h (saying.Refusal letter) = the_refusal letter
 
 abbrev pub all_said : Holdings → Says → List Said
 all_said h Nothing = []
@@ -44,7 +45,7 @@ all_said h (Two said next) = said_by h said ∷ said_by h next ∷ []
 abbrev pub reply_of : Holdings → Lists → Reaction → (keeps : List Kept) → Reply
 reply_of h l r keeps = record { state = between l r.awaits; says = all_said h r.says; keeps = keeps }
 
--- nothing is said; nothing, as what came fitted no turn; an answer; a command, behind an answer where there is one
+-- nothing is said; nothing, as what came fitted no turn; an answer; a refusal; a command, behind an answer where there is one
 abbrev pub says_nothing : Awaits → Reaction
 says_nothing awaited = record { awaits = awaited; says = Nothing }
 
@@ -53,6 +54,9 @@ fits_no_turn = says_nothing awaits.Bad
 
 abbrev pub gives_answer : Awaits → Answer → Reaction
 gives_answer awaited answer = record { awaits = awaited; says = One (saying.Answer answer) }
+
+abbrev pub gives_refusal : (letter : ℕ) → Reaction
+gives_refusal letter = record { awaits = awaits.Order; says = One (saying.Refusal letter) }
 
 abbrev pub gives_order : Option Answer → Order → (told : Option FileDigest) → Reaction
 gives_order None order told = record { awaits = awaits_answer_to order; says = One (saying.Order order told) }

@@ -8,7 +8,7 @@ use Rattle.uug_talk.specs.Chunks.{IsCommandText}
 use Rattle.uug_talk.specs.Order.{order_of}
 use Rattle.uug_talk.specs.declared.answer.Answer.TheVariants.{GiveYes}
 use Rattle.uug_conversation.specs.Told.{giving_said, order_said}
-use Rattle.uug_conversation.specs.Turns.{Said, the_order, the_answer, the_giving, the_file, Turn}
+use Rattle.uug_conversation.specs.Turns.{Said, the_order, the_answer, the_giving, the_file, the_refusal, Turn}
 
 abbrev pub IsReadBack : Said → Type 0
 IsReadBack (the_order order told) = IsCommandText (order_said order told) × (order_of (order_said order told) ≡ Ok order)
@@ -17,6 +17,8 @@ IsReadBack (the_answer answer) = IsCommandText (answer_text answer) × (answer_o
 IsReadBack (the_giving mode told) = IsCommandText (giving_said mode told) × (answer_of (giving_said mode told) ≡ Ok (GiveYes mode))
     × (told_by_answer (giving_said mode told) ≡ told)
 IsReadBack (the_file bytes) = length bytes ≤ FILE_MAX
+-- two ends of a conversation read each other's commands, and refuse none so
+IsReadBack (the_refusal letter) = ⊥
 
 -- P holds of each turn
 abbrev pub EachTurn : (Turn → Type 0) → List Turn → Type 0

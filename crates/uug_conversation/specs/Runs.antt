@@ -1,4 +1,5 @@
--- One end of a conversation, over the messages that it takes (this project's profile).
+-- The machine of one end of a conversation alone, over the messages that it takes: what waits to be sent plays no part in it (this
+-- project's profile).
 use Rattle.std.specs.Prelude.{◌≡◌, ◌↔◌, ℕ, ◌≤◌, Bool, true, false, List, [], ◌∷◌, ◌++◌, length, take}
 use Rattle.uug_talk.specs.Chunks.{Measure}
 use Rattle.uug_conversation.specs.declared.awaits.Awaits.{Awaits}

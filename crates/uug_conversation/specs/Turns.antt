@@ -7,6 +7,7 @@ use Rattle.uug_talk.specs.declared.answer.Answer.{Answer}
 use Rattle.uug_talk.specs.declared.order.Order.{Order}
 use Rattle.uug_talk.specs.Answer.{answer_text}
 use Rattle.uug_talk.specs.Chunks.{Measure, command_messages, file_messages}
+use Rattle.uug_talk.specs.Lenient.{refusal_text}
 use Rattle.uug_conversation.specs.Holdings.{Kept}
 use Rattle.uug_conversation.specs.Jobs.{Move}
 use Rattle.uug_conversation.specs.Told.{giving_said, order_said}
@@ -17,12 +18,13 @@ other Caller = Called
 other Called = Caller
 
 -- what is said in one turn: a command, with what is told of its file; an answer; RY, with the file's mode and what is told of the
--- file; a file
+-- file; a file; a refusal of a command that can't be read, in its letter
 pub data Said : Type 0 where
   the_order : Order → (told : Option FileDigest) → Said
   the_answer : Answer → Said
   the_giving : (mode : ℕ) → (told : Option FileDigest) → Said
   the_file : (bytes : List ℕ) → Said
+  the_refusal : (letter : ℕ) → Said
 
 -- the messages in which it goes out, cut so
 abbrev pub said_messages : Measure → Said → List (List ℕ)
@@ -30,6 +32,7 @@ said_messages measure (the_order order told) = command_messages measure (order_s
 said_messages measure (the_answer answer) = command_messages measure (answer_text answer)
 said_messages measure (the_giving mode told) = command_messages measure (giving_said mode told)
 said_messages measure (the_file bytes) = file_messages measure.size bytes
+said_messages measure (the_refusal letter) = command_messages measure (refusal_text letter)
 
 -- the messages of several turns of one end
 abbrev pub all_messages : Measure → List Said → List (List ℕ)

@@ -6,12 +6,12 @@ ghost use Rattle.uug_conversation.specs.Choice.{choice};
 ghost use Rattle.uug_conversation.specs.Conversation.{conversation};
 ghost use Rattle.uug_conversation.specs.Entries.{KeepsWell};
 ghost use Rattle.uug_conversation.specs.HeldBytes.{HoldsBytes};
-ghost use Rattle.uug_conversation.specs.Holdings.{Holdings};
+ghost use Rattle.uug_conversation.specs.Holdings.{Holdings, Kept};
 ghost use Rattle.uug_conversation.specs.Jobs.{at_start, pending};
 ghost use Rattle.uug_conversation.specs.Offers.{commands_of, first_of, hanging_up, hang_up_answers, offered, until_hang_up};
+ghost use Rattle.uug_conversation.specs.OneEnd.{Act, after_acts, link_up};
 ghost use Rattle.uug_conversation.specs.Party.{HasNames, Party};
 ghost use Rattle.uug_conversation.specs.ReadBack.{EachTurn};
-ghost use Rattle.uug_conversation.specs.Runs.{progress_after};
 ghost use Rattle.uug_conversation.specs.Sharing.{AreShared};
 ghost use Rattle.uug_conversation.specs.declared.side.Side.{Side};
 ghost use Rattle.uug_conversation.specs.declared.side.Side.TheVariants.{Caller, Called};
@@ -53,10 +53,10 @@ pub fn entries_are_asked_for()
 /// Each job of an end is in exactly one list, as often as it was given, and each list has its jobs in the order in which
 /// they were given.
 pub fn jobs_are_in_one_list()
-    // whatever the other end says
-    ensures always { (me : Side) (p : Party) (taken : List (List ℕ))
-        → let l = (progress_after me p taken).state.lists in
-        AreShared p.jobs (pending l) l.struck l.failed }
+    // whatever the other end says, and in whatever order the end sends and takes; those that it has brought are of them
+    ensures always { (me : Side) (p : Party) (struck failed : List Job) (kept : List Kept) (acts : List Act)
+        → let l = (after_acts p.holdings (link_up me p struck failed kept) acts).talk.machine.lists in
+        AreShared ((struck ++ failed) ++ p.jobs) (pending l) l.struck l.failed }
     // and in a conversation
     ensures told { (me : Side) (a b : Party) (k : ℕ) → let jobs = (party me a b).jobs in
         let l = lists_after me a b k in AreShared jobs (pending l) l.struck l.failed }

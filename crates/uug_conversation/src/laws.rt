@@ -1,20 +1,23 @@
 //! Laws over the conversation of two ends and the one-sided machine. The functions do nothing.
-ghost use Rattle.std.specs.Prelude.{◌≡◌, ◌≢◌, ◌↔◌, ℕ, ◌<◌, ◌≤◌, true, false, List, [], length, Option, Some, None, Ok, Err};
+ghost use Rattle.std.specs.Prelude.{◌≡◌, ◌≢◌, ◌↔◌, ℕ, ◌<◌, ◌≤◌, Bool, true, false, List, [], length, Option, Some, None, Ok, Err};
 ghost use Rattle.uug_conversation.specs.Comparing.{AllFit, TellsTruly, told_awaited};
 ghost use Rattle.uug_conversation.specs.Conversation.{conversation};
 ghost use Rattle.uug_conversation.specs.DialogueState.{DialogueState, replied, taking};
-ghost use Rattle.uug_conversation.specs.Holdings.{File, Holdings, to_give};
+ghost use Rattle.uug_conversation.specs.Holdings.{File, Holdings, Kept, to_give};
 ghost use Rattle.uug_conversation.specs.Jobs.{Lists, moved_once, pass};
-ghost use Rattle.uug_conversation.specs.Machine.{State, gathered_with, goes_on, is_dropped, kind_awaited, on_past_limit, on_text, opening, out_of_turn, send_verdict, step};
+ghost use Rattle.uug_conversation.specs.Machine.{State, gathered_with, goes_on, is_dropped, kind_awaited, on_past_limit, on_request_answer, on_text, opening, out_of_turn, reply_to, send_verdict, step};
+ghost use Rattle.uug_conversation.specs.OneEnd.{Act, AllAllowed, FollowsConversation, after_acts, link_up};
 ghost use Rattle.uug_conversation.specs.Party.{Party, IsSound};
+ghost use Rattle.uug_conversation.specs.PlainMachine.{AreOff, awaits_plainly, plain_opening, plain_reply_to, plain_step};
 ghost use Rattle.uug_conversation.specs.ReadBack.{EachTurn, IsReadBack};
-ghost use Rattle.uug_conversation.specs.Runs.{IsAt, progress_at};
 ghost use Rattle.uug_conversation.specs.declared.side.Side.{Side};
+ghost use Rattle.uug_conversation.specs.View.{party};
+ghost use Rattle.uug_conversation.specs.declared.job.Job.{Job};
 ghost use Rattle.uug_conversation.specs.declared.awaits.Awaits.TheVariants.{GivenFileDone, Order, RequestAnswer, SendAnswer, SentFileDone};
 ghost use Rattle.uug_conversation.specs.Told.{fits, heard, told_of, told_with};
 ghost use Rattle.uug_digest.specs.Digests.{digest_of, told_by_answer, told_by_order};
 ghost use Rattle.uug_digest.specs.declared.file_digest.FileDigest.{FileDigest};
-ghost use Rattle.uug_talk.specs.declared.answer.Answer.TheVariants.{SendHeld};
+ghost use Rattle.uug_talk.specs.declared.answer.Answer.TheVariants.{SendLater};
 ghost use Rattle.uug_talk.specs.declared.order.Order.{Order as Command};
 ghost use Rattle.uug_talk.specs.declared.error.BadText.{BadText};
 ghost use Rattle.uug_talk.specs.Answer.{answer_of};
@@ -68,14 +71,17 @@ pub fn what_comes_early_fits_no_turn()
         ≡ replied talk.measure talk.waiting talk.kept (step h talk.machine message) }
 {}
 
-/// An end that is not lenient ends with what it can't read, takes SN8 as any other refusal for now, refuses no file for what it
-/// is told of its size, and awaits the rest of no file.
+/// An end that is not lenient ends with what it can't read, takes SN8 as any other refusal for now, reads no M behind a mode,
+/// refuses no file for what it is told of its size, and awaits the rest of no file.
 pub fn lenient_is_a_setting()
     ensures unread { (h : Holdings) (text : List ℕ) (fault : BadText) (l : Lists) → h.lenient ≡ false
         → order_of text ≡ Err fault → on_text h Order text l ≡ out_of_turn l }
     ensures held { (h : Holdings) (text : List ℕ) (l : Lists) → h.lenient ≡ false
-        → answer_of text ≡ Ok SendHeld
+        → answer_of text ≡ Ok SendLater
         → on_text h SendAnswer text l ≡ goes_on h (moved_once pass l) [] }
+    ensures wish { (h : Holdings) (text : List ℕ) (l : Lists) → h.lenient ≡ false
+        → on_text h RequestAnswer text l
+        ≡ on_request_answer h (heard h.digests (told_by_answer text)) (answer_of text) l }
     ensures long { (h : Holdings) (s : State) (message : List ℕ) → let g = gathered_with s message in
         h.lenient ≡ false → limit_of g.kind < length g.bytes
         → step h s message ≡ out_of_turn s.lists }
@@ -121,15 +127,36 @@ pub fn digests_are_a_setting()
         → heard h.digests told ≡ None }
 {}
 
+/// An end with every setting off, which is not lenient, tells and hears no digests, and gives each file now or never, goes from its
+/// opening on by a table of its own, which knows nothing of the settings.
+pub fn an_end_with_all_settings_off_goes_by_the_plain_table()
+    ensures opens { (side : Side) (h : Holdings) (l : Lists) → AreOff h
+        → opening side h l ≡ plain_opening side h l }
+    ensures steps { (h : Holdings) (s : State) (message : List ℕ) → AreOff h
+        → awaits_plainly s.awaits ≡ true → step h s message ≡ plain_step h s message }
+    // A node takes a message by the same table, whether or not all that it said before was sent.
+    ensures replies { (h : Holdings) (none_waits : Bool) (s : State) (message : List ℕ)
+        → AreOff h → awaits_plainly s.awaits ≡ true
+        → reply_to h none_waits s message ≡ plain_reply_to h none_waits s message }
+    // It keeps to that table: whatever it awaits then is one of its states.
+    ensures first { (side : Side) (h : Holdings) (l : Lists)
+        → awaits_plainly (plain_opening side h l).state.awaits ≡ true }
+    ensures stays { (h : Holdings) (none_waits : Bool) (s : State) (message : List ℕ)
+        → awaits_plainly s.awaits ≡ true
+        → awaits_plainly (plain_reply_to h none_waits s message).state.awaits ≡ true }
+{}
+
 /// Every text of a conversation may be cut into messages, and is read as what was said; no file is too large.
 pub fn said_is_read_back()
     ensures { (a b : Party) → IsSound a → IsSound b
         → EachTurn (λ t. IsReadBack t.said) (conversation a b) }
 {}
 
-/// One end, which doesn't know the other's jobs or holdings, given the first messages that the other says in their
-/// conversation, stands where the conversation says: for both ends, every two parties, and every number of messages.
+/// One end, which doesn't know the other's jobs or holdings, and sends and takes in any order that a link allows, stands where
+/// the conversation says: for both ends, every two parties, and whatever it has brought from earlier sessions.
 pub fn an_end_follows_the_conversation()
-    ensures { (a b : Party) → IsSound a → IsSound b → (me : Side) (k : ℕ)
-        → IsAt me a b k (progress_at me a b k) }
+    ensures { (a b : Party) → IsSound a → IsSound b → (me : Side) (struck failed : List Job) (kept : List Kept)
+        (acts : List Act) → let p = party me a b in let first = link_up me p struck failed kept in
+        AllAllowed me a b first acts
+        → FollowsConversation me a b struck failed kept (after_acts p.holdings first acts) }
 {}

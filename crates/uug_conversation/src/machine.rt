@@ -1,12 +1,14 @@
-ghost use Rattle.std.specs.Prelude.{◌≡◌, ◌≤◌, [], IfOk};
+ghost use Rattle.std.specs.Prelude.{◌≡◌, ◌≤◌, ◌&&◌, [], true, IfOk, IfSome};
 ghost use Rattle.uug_conversation.specs.Choice.{choice};
 ghost use Rattle.uug_conversation.specs.Jobs.{Lists, moved_once, pass, strike, fail};
 ghost use Rattle.uug_conversation.specs.Holdings.{Holdings};
-ghost use Rattle.uug_conversation.specs.Machine.{goes_on, on_send, send_verdict, on_request, on_hang_up, on_choice, on_unread, on_order, on_given_file_done, on_last_hang_up, sends_file, on_send_yes, move_held, on_send_answer, on_sent_file_done, on_sent_job_done, on_request_answer, on_hang_up_answer, on_nothing_more, on_text};
+ghost use Rattle.uug_conversation.specs.Machine.{goes_on, on_send, send_verdict, on_request, on_hang_up, on_choice, on_unread, on_order, on_given_file_done, on_last_hang_up, sends_file, on_send_yes, move_refused, on_send_answer, on_sent_file_done, on_sent_job_done, on_request_answer, on_hang_up_answer, on_nothing_more, on_text};
 ghost use Rattle.uug_conversation.specs.Holdings.{to_give};
 ghost use Rattle.uug_conversation.specs.Reactions.{reply_of, said_before, gives_order, HasModeInRange, HasModeAnswered};
 ghost use Rattle.uug_conversation.specs.Told.{heard, is_too_large, told_with};
 ghost use Rattle.uug_digest.specs.Digests.{told_by_answer, told_by_order};
+ghost use Rattle.uug_talk.specs.Answer.{answer_of};
+ghost use Rattle.uug_talk.specs.Lenient.{is_held, is_refusable, or_wished};
 ghost use Rattle.uug_talk.specs.Order.{HasMode};
 ghost use Rattle.uug_talk.specs.declared.mode.TheConstants.{MODE_MAX};
 
@@ -19,7 +21,10 @@ use crate::spool::Spool;
 use crate::verdict::Verdict;
 use std::alloc::Allocator;
 use uug_digest::{FileDigest, told_by_answer, told_by_order};
-use uug_talk::{Answer, BadText, FILE_MAX, Name, Order, read_answer, read_order, refusal_of};
+use uug_talk::{
+    Answer, BadText, FILE_MAX, Name, Order, is_held, read_answer, read_order, read_wished,
+    refused_letter,
+};
 
 /// The end is master: it chooses its next job and says its command, behind an answer where there is one to give.
 pub(crate) fn go_on<A: Allocator, S: Spool>(
@@ -57,15 +62,18 @@ pub(crate) fn on_text<A: Allocator, S: Spool>(
     match awaits {
         Awaits::Order => {
             let told = heard_by_order(spool, text);
-            on_order(queue, spool, refusal_of(text), told, &read_order(text))
+            on_order(queue, spool, refused_letter(text), told, &read_order(text))
         }
         Awaits::GivenFileDone => on_given_file_done(read_answer(text)),
         Awaits::LastHangUp => on_last_hang_up(read_answer(text)),
-        Awaits::SendAnswer => on_send_answer(queue, spool, read_answer(text)),
+        Awaits::SendAnswer => {
+            let held = is_held(text) && spool.is_lenient();
+            on_send_answer(queue, spool, held, read_answer(text))
+        }
         Awaits::SentFileDone => on_sent_job_done(queue, spool, read_answer(text)),
         Awaits::RequestAnswer => {
             let told = heard_by_answer(spool, text);
-            on_request_answer(queue, spool, told, read_answer(text))
+            on_request_answer(queue, spool, told, read_giving(spool, text))
         }
         Awaits::HangUpAnswer => on_hang_up_answer(read_answer(text)),
         Awaits::NothingMore => on_nothing_more(read_answer(text)),
@@ -99,14 +107,25 @@ fn heard_by_answer<S: Spool>(spool: &S, text: &[u8]) -> Option<FileDigest>
     }
 }
 
+// Reads the answer to R: a lenient end takes an M after the mode, too.
+fn read_giving<S: Spool>(spool: &S, text: &[u8]) -> Result<Answer, BadText>
+    ensures exact { result ≡ or_wished (answer_of text.now) (S.holdings spool.now).lenient text.now }
+    ensures mode { IfOk result (λ answer. HasModeAnswered answer) }
+{
+    match read_answer(text) {
+        Err(BadText::Mode) if spool.is_lenient() => read_wished(text),
+        read => read,
+    }
+}
+
 fn on_order<A: Allocator, S: Spool>(
     queue: &mut Queue<A>,
     spool: &S,
-    refusal: Option<Answer>,
+    letter: Option<u8>,
     told: Option<FileDigest>,
     order: &Result<Order, BadText>,
 ) -> Reaction
-    ensures reply { on_order (S.holdings spool.now) refusal told order.now queue.old
+    ensures reply { on_order (S.holdings spool.now) letter told order.now queue.old
         ≡ reply_of (S.holdings spool.now) queue.new result [] }
     ensures mode { IfOk order.now (λ o. HasMode o) → HasModeInRange result.awaits }
 {
@@ -121,18 +140,18 @@ fn on_order<A: Allocator, S: Spool>(
         ) => on_send(spool, spool.landing(source, target), *mode, told),
         Ok(Order::Request { source, .. }) => on_request(spool, *source),
         Ok(Order::HangUp) => on_hang_up(spool, choose(queue, spool)),
-        Err(_) => on_unread(spool, refusal),
+        Err(_) => on_unread(spool, letter),
     }
 }
 
-// A lenient end refuses what it can't read, and goes on.
-fn on_unread<S: Spool>(spool: &S, refusal: Option<Answer>) -> Reaction
-    ensures reply { (l : Lists) → on_unread (S.holdings spool.now).lenient refusal l
+// Refuses what can't be read, in its own letter, where the end is lenient.
+fn on_unread<S: Spool>(spool: &S, letter: Option<u8>) -> Reaction
+    ensures reply { (l : Lists) → on_unread (S.holdings spool.now).lenient letter l
         ≡ reply_of (S.holdings spool.now) l result [] }
     ensures mode { HasModeInRange result.awaits }
 {
-    match refusal {
-        Some(refusal) if spool.is_lenient() => Reaction::answers(Awaits::Order, refusal),
+    match letter {
+        Some(letter) if spool.is_lenient() => Reaction::refuses(letter),
         _ => Reaction::out_of_turn(),
     }
 }
@@ -173,7 +192,7 @@ fn is_too_large(told: &Option<FileDigest>) -> bool
 
 fn on_request<S: Spool>(spool: &S, source: Name) -> Reaction
     ensures reply { (l : Lists) → on_request (S.holdings spool.now).digests
-        (to_give (S.holdings spool.now) source) l
+        (to_give (S.holdings spool.now) source) ((S.holdings spool.now).delayed source) l
         ≡ reply_of (S.holdings spool.now) l result [] }
     ensures mode { HasModeInRange result.awaits }
 {
@@ -185,6 +204,7 @@ fn on_request<S: Spool>(spool: &S, source: Name) -> Reaction
                 Saying::File(source),
             ),
         },
+        None if spool.is_delayed(&source) => Reaction::answers(Awaits::Order, Answer::GiveLater),
         None => Reaction::answers(Awaits::Order, Answer::GiveNever),
     }
 }
@@ -227,9 +247,10 @@ fn on_last_hang_up(answer: Result<Answer, BadText>) -> Reaction
 fn on_send_answer<A: Allocator, S: Spool>(
     queue: &mut Queue<A>,
     spool: &S,
+    held: bool,
     answer: Result<Answer, BadText>,
 ) -> Reaction
-    ensures reply { on_send_answer (S.holdings spool.now) answer queue.old
+    ensures reply { on_send_answer (S.holdings spool.now) held answer queue.old
         ≡ reply_of (S.holdings spool.now) queue.new result [] }
     ensures mode { HasModeInRange result.awaits }
 {
@@ -239,24 +260,20 @@ fn on_send_answer<A: Allocator, S: Spool>(
             queue.fail_first();
             go_on(queue, spool, None)
         }
-        Ok(Answer::SendHeld) => {
-            move_held(queue, spool.is_lenient());
-            go_on(queue, spool, None)
-        }
         Ok(Answer::SendLater) => {
-            queue.pass_first();
+            move_refused(queue, held);
             go_on(queue, spool, None)
         }
         _ => Reaction::out_of_turn(),
     }
 }
 
-// The other end has the file: a lenient end takes its Send job as done.
-fn move_held<A: Allocator>(queue: &mut Queue<A>, lenient: bool)
-    ensures { queue.new ≡ moved_once (move_held lenient queue.old.ahead) queue.old }
+// Strikes a Send job whose file the other end holds already, and puts off any other.
+fn move_refused<A: Allocator>(queue: &mut Queue<A>, held: bool)
+    ensures { queue.new ≡ moved_once (move_refused held queue.old.ahead) queue.old }
 {
     match queue.first() {
-        Some(Job::Send { .. }) if lenient => queue.strike_first(),
+        Some(Job::Send { .. }) if held => queue.strike_first(),
         _ => queue.pass_first(),
     }
 }

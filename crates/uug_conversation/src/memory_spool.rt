@@ -130,6 +130,10 @@ impl<A: Allocator + Copy> Spool for MemorySpool<A> {
         first_named(self.files.as_slice(), name)
     }
 
+    fn is_delayed(&self, _name: &Name) -> bool {
+        false
+    }
+
     fn keep(&mut self, name: &Name, mode: u16, bytes: &[u8]) -> Result<(), KeepFault> {
         if has_name(self.immovable.as_slice(), name) {
             return Err(KeepFault::Refused);

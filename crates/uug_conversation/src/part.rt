@@ -1,5 +1,6 @@
-ghost use Rattle.std.specs.Prelude.{◌≡◌, ◌≢◌, ◌+◌, ◌<◌, ◌≤◌, [], ◌∷◌, false, length, drop};
+ghost use Rattle.std.specs.Prelude.{◌≡◌, ◌≢◌, ◌+◌, ◌<◌, ◌≤◌, [], ◌∷◌, true, false, length, drop};
 ghost use Rattle.uug_talk.specs.Answer.{IsWritten, answer_text};
+ghost use Rattle.uug_talk.specs.Lenient.{is_refusable, refusal_text};
 ghost use Rattle.uug_talk.specs.Order.{HasMode};
 ghost use Rattle.uug_talk.specs.declared.mode.TheConstants.{MODE_MAX};
 ghost use Rattle.uug_talk.specs.Chunks.{IsCommandText, command_messages, file_messages};
@@ -13,7 +14,9 @@ use crate::reaction::Saying;
 use crate::spool::Spool;
 use uug_digest::{FileDigest, give_telling, order_telling};
 use uug_talk::laws::{file_goes_on, messages_fit};
-use uug_talk::{Answer, Chunks, FILE_MAX, MESSAGE_MAX, Message, Order, write_answer, write_order};
+use uug_talk::{
+    Answer, Chunks, FILE_MAX, MESSAGE_MAX, Message, Order, refusal_text, write_answer, write_order,
+};
 
 /// Puts the message of at most `size` bytes that stands at an offset in the text or file into `message`, and says whether
 /// it is the last. Where `short` is set, the last one of a text ends with its zero byte.
@@ -42,6 +45,7 @@ pub(crate) fn part_of<S: Spool>(
         Saying::Order(order, told) => part_of_order(order, told, size, short, offset, message),
         Saying::Answer(answer) => part_of_answer(answer, size, short, offset, message),
         Saying::Giving(mode, told) => part_of_giving(*mode, told, size, short, offset, message),
+        Saying::Refusal(letter) => part_of_refusal(*letter, size, short, offset, message),
         Saying::File(name) => match to_give(spool, name) {
             Some(file) => part_of_file(file.bytes, size, offset, message),
             None => part_of_file(&[], size, offset, message),
@@ -101,6 +105,31 @@ fn part_of_answer(
     ensures limit { result ≡ false → offset < FILE_MAX }
 {
     part_of_text(&write_answer(answer), size, short, offset, message)
+}
+
+/// Cuts a message from a refusal, as `part_of_order` does from a command.
+#[inline(never)]
+fn part_of_refusal(
+    letter: u8,
+    size: usize,
+    short: bool,
+    offset: usize,
+    message: &mut Message,
+) -> bool
+    requires refusable { is_refusable letter ≡ true }
+    requires within { offset ≤ length (refusal_text letter) }
+    requires some { 0 < size }
+    requires fits { size ≤ MESSAGE_MAX }
+    ensures messages { command_messages (record { size = size; short = short })
+        (drop offset (refusal_text letter))
+        ≡ message.new.items ∷ unless_last result
+        (command_messages (record { size = size; short = short })
+        (drop (offset + size) (refusal_text letter))) }
+    ensures size { length message.new.items ≤ size }
+    ensures next { result ≡ false → offset + size ≤ length (refusal_text letter) }
+    ensures limit { result ≡ false → offset < FILE_MAX }
+{
+    part_of_text(&refusal_text(letter), size, short, offset, message)
 }
 
 /// The same of the answer RY, with what is told of its file.

@@ -1,19 +1,20 @@
 ghost use Rattle.std.specs.Prelude.{◌≡◌};
 ghost use Rattle.uug_conversation.specs.Machine.{awaits_answer_to};
-ghost use Rattle.uug_conversation.specs.Reactions.{says_nothing, fits_no_turn, gives_answer, gives_order};
+ghost use Rattle.uug_conversation.specs.Reactions.{says_nothing, fits_no_turn, gives_answer, gives_order, gives_refusal};
 
 use crate::awaits::Awaits;
 use uug_digest::FileDigest;
 use uug_talk::{Answer, Name, Order};
 
 /// What is said in one turn: a command with what is told of its file, an answer, RY with the file's mode and what is told of it,
-/// or a file. That is known by the name under which the spool gives it.
+/// a file, known by the name under which the spool gives it, or the refusal of a command by its letter.
 #[derive(Clone, Copy)]
 pub(crate) enum Saying {
     Order(Order, Option<FileDigest>),
     Answer(Answer),
     Giving(u16, Option<FileDigest>),
     File(Name),
+    Refusal(u8),
 }
 
 /// What an end says when it has taken a text or a file.
@@ -53,6 +54,16 @@ impl Reaction {
         Reaction {
             awaits,
             says: Says::One(Saying::Answer(answer)),
+        }
+    }
+
+    /// Refuses a command by its letter, and awaits the next.
+    pub(crate) fn refuses(letter: u8) -> Self
+        ensures { result ≡ gives_refusal letter }
+    {
+        Reaction {
+            awaits: Awaits::Order,
+            says: Says::One(Saying::Refusal(letter)),
         }
     }
 

@@ -50,6 +50,11 @@ pub trait Spool {
     fn fetch(&self, name: &Name) -> Option<FileView<'_>>
         ensures { shown_file result ≡ (holdings self.now).file name.now };
 
+    /// Returns whether there may be a file of this name that can't be given now, but later. It is asked only where `fetch` finds
+    /// none.
+    fn is_delayed(&self, name: &Name) -> bool
+        ensures { result ≡ (holdings self.now).delayed name.now };
+
     /// Keeps a file under this name. `Refused` is looked at first. After a refusal what was kept is as before. Want
     /// of memory is answered before the device is touched: the count of faults is then as before, too.
     fn keep(&mut self, name: &Name, mode: u16, bytes: &[u8]) -> Result<(), KeepFault>

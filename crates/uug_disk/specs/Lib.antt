@@ -1,4 +1,6 @@
 pub mod Barred
 pub mod Copies
+pub mod Numbers
+pub mod Parts
 pub mod Pipes
 pub mod Queued

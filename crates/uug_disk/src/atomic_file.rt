@@ -1,24 +1,33 @@
 //! A file of the system in the place of another, whole or not at all.
+ghost use Rattle.std.specs.Prelude.{◌≡◌, IfOk};
+ghost use Rattle.uug_disk.specs.Parts.{written_bytes};
+
 use crate::part_path::PartPath;
+use crate::written::{Written, write_once, write_text};
 use std::alloc::Allocator;
 use std::fs::{File, OpenFile, OpenOptions};
-use std::io::{ErrorKind, Seek, SeekFrom, Write};
+use std::io::{ErrorKind, Seek, SeekFrom};
 use std::os::unix::fs::{MetadataExt, fchown};
 use std::rt::Files;
 use std::{fs, io};
 
 /// Writes a file beside `path`, sees it on the device, and puts it in the place of `path`, which is in the folder `dir`.
 /// Then the folder is seen on the device, too. Where that alone fails the file is in its place.
-pub(crate) fn replace_file<R: Files, A: Allocator>(
+pub(crate) fn replace_file<'b, R: Files, A: Allocator>(
     rt: &R,
     part: &mut PartPath<A>,
     dir: &str,
     path: &str,
-    bytes: &[u8],
-) -> io::Result<()> {
+    bytes: &'b [u8],
+) -> io::Result<Written<'b>>
+    ensures { IfOk result (λ written. written_bytes written ≡ bytes.now) }
+{
     let mut file = part.create(rt)?;
     match place_file(rt, &mut file, part.as_str(), path, bytes) {
-        Ok(()) => see_folder(rt, dir),
+        Ok(written) => {
+            see_folder(rt, dir)?;
+            Ok(written)
+        }
         Err(error) => {
             let _ = fs::remove_file(rt, part.as_str());
             Err(error)
@@ -30,17 +39,22 @@ pub(crate) fn replace_file<R: Files, A: Allocator>(
 /// file has its mode and its owner, as far as the system lets it. The old one is locked meanwhile, so who holds its lock appends to a file that stays in its place. For what is appended without the lock
 /// it is looked once more when the new file is in its place, and again when the folder is on the device, since who has
 /// opened the old file still writes there.
-pub(crate) fn replace_appended<R: Files<File = File>, A: Allocator>(
+pub(crate) fn replace_appended<'b, R: Files<File = File>, A: Allocator>(
     rt: &R,
     part: &mut PartPath<A>,
     dir: &str,
     path: &str,
-    bytes: &[u8],
+    bytes: &'b [u8],
     read_len: u64,
-) -> io::Result<()> {
+) -> io::Result<Written<'b>>
+    ensures { IfOk result (λ written. written_bytes written ≡ bytes.now) }
+{
     let mut file = part.create(rt)?;
     match place_appended(rt, &mut file, part.as_str(), path, bytes, read_len) {
-        Ok(old) => see_folder_between(rt, old, dir, path),
+        Ok((old, written)) => {
+            see_folder_between(rt, old, dir, path)?;
+            Ok(written)
+        }
         Err(error) => {
             let _ = fs::remove_file(rt, part.as_str());
             Err(error)
@@ -50,23 +64,27 @@ pub(crate) fn replace_appended<R: Files<File = File>, A: Allocator>(
 
 /// Appends to the file at `path`, which is in the folder `dir` and is made where it is not there, and sees both on the device.
 /// Where the file can't have all of it, it is as before, if that can be.
-pub(crate) fn append_at<R: Files<File = File>>(
+pub(crate) fn append_at<'b, R: Files<File = File>>(
     rt: &R,
     dir: &str,
     path: &str,
-    bytes: &[u8],
-) -> io::Result<()> {
+    bytes: &'b [u8],
+) -> io::Result<Written<'b>>
+    ensures { IfOk result (λ written. written_bytes written ≡ bytes.now) }
+{
     let file = OpenOptions::new().append(true).create(true).open(rt, path)?;
     append_whole(rt, &file, dir, bytes)
 }
 
 /// Appends bytes in one write, and sees them on the device. Where that fails none of them stays.
-pub(crate) fn append_whole<R: Files>(
+pub(crate) fn append_whole<'b, R: Files>(
     rt: &R,
     file: &File,
     dir: &str,
-    bytes: &[u8],
-) -> io::Result<()> {
+    bytes: &'b [u8],
+) -> io::Result<Written<'b>>
+    ensures { IfOk result (λ written. written_bytes written ≡ bytes.now) }
+{
     let before = file.metadata()?.len();
     let appended = append_synced(rt, file, dir, bytes);
     if appended.is_err() {
@@ -76,19 +94,31 @@ pub(crate) fn append_whole<R: Files>(
 }
 
 /// Appends bytes in one write, which may take only a part of them, and sees them on the device.
-fn append_synced<R: Files>(rt: &R, file: &File, dir: &str, bytes: &[u8]) -> io::Result<()> {
+fn append_synced<'b, R: Files>(
+    rt: &R,
+    file: &File,
+    dir: &str,
+    bytes: &'b [u8],
+) -> io::Result<Written<'b>>
+    ensures { IfOk result (λ written. written_bytes written ≡ bytes.now) }
+{
     let mut end = file;
-    if end.write(bytes)? < bytes.len() {
-        return Err(io::Error::from(ErrorKind::StorageFull));
-    }
+    let written = write_once(&mut end, bytes)?;
     file.sync_all()?;
-    see_folder(rt, dir)
+    see_folder(rt, dir)?;
+    Ok(written)
 }
 
 /// Writes all of this to a file, and sees it on the device.
-pub(crate) fn write_synced<R: Files>(file: &mut R::File, bytes: &[u8]) -> io::Result<()> {
-    file.write_all(bytes)?;
-    file.sync_all()
+pub(crate) fn write_synced<'b, R: Files>(
+    file: &mut R::File,
+    bytes: &'b [u8],
+) -> io::Result<Written<'b>>
+    ensures { IfOk result (λ written. written_bytes written ≡ bytes.now) }
+{
+    let written = write_text(file, bytes)?;
+    file.sync_all()?;
+    Ok(written)
 }
 
 /// Sees a folder on the device.
@@ -113,35 +143,40 @@ fn add_late<R: Files>(rt: &R, old: &mut R::File, path: &str) -> io::Result<()> {
 }
 
 /// Writes a new file at `part`, and gives it the name `path` once it is on the device.
-fn place_file<R: Files>(
+fn place_file<'b, R: Files>(
     rt: &R,
     file: &mut R::File,
     part: &str,
     path: &str,
-    bytes: &[u8],
-) -> io::Result<()> {
-    write_synced::<R>(file, bytes)?;
-    fs::rename(rt, part, path)
+    bytes: &'b [u8],
+) -> io::Result<Written<'b>>
+    ensures { IfOk result (λ written. written_bytes written ≡ bytes.now) }
+{
+    let written = write_synced::<R>(file, bytes)?;
+    fs::rename(rt, part, path)?;
+    Ok(written)
 }
 
 /// The same with what the file at `path` has behind so many bytes. The answer is that file, locked and read to its end.
-fn place_appended<R: Files<File = File>>(
+fn place_appended<'b, R: Files<File = File>>(
     rt: &R,
     file: &mut File,
     part: &str,
     path: &str,
-    bytes: &[u8],
+    bytes: &'b [u8],
     len: u64,
-) -> io::Result<File> {
+) -> io::Result<(File, Written<'b>)>
+    ensures { IfOk result (λ placed. written_bytes placed.1 ≡ bytes.now) }
+{
     let mut old = open_or_make(rt, path)?;
     old.lock()?;
     old.seek(SeekFrom::Start(len))?;
-    file.write_all(bytes)?;
+    let written = write_text(file, bytes)?;
     io::copy(&mut old, file)?;
     give_rights(&old, file);
     file.sync_all()?;
     fs::rename(rt, part, path)?;
-    Ok(old)
+    Ok((old, written))
 }
 
 /// Gives a file the owner and the mode of another, as far as the system lets it.

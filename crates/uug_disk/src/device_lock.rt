@@ -1,5 +1,6 @@
 //! The lock file of a device, by which programs that use the same one keep out of each other's way.
-ghost use Rattle.std.specs.Prelude.{◌≤◌, IfErr, IfOk};
+ghost use Rattle.std.specs.Prelude.{◌≡◌, ◌≤◌, false, IfErr, IfOk};
+ghost use Rattle.uug_disk.specs.Numbers.{is_own};
 ghost use Rattle.uug_failure.specs.Faults.{IsFolderFault};
 
 use crate::part_path::{PartPath, process_text};
@@ -143,16 +144,22 @@ fn take_over<A: Allocator + Copy, R: Files<File = File>>(
     let Ok(locks) = File::open(rt, folder) else {
         return Ok(Attempt::Held);
     };
-    if locks.try_lock().is_err() || is_taken(alloc, rt, Some(process), path)? {
+    if locks.try_lock().is_err() {
         return Ok(Attempt::Held);
     }
-    let attempt = replace(rt, part, path);
+    let is_taken = is_taken(alloc, rt, Some(process), path)?;
+    if is_taken {
+        return Ok(Attempt::Held);
+    }
+    let attempt = replace(rt, part, path, is_taken);
     drop(locks);
     Ok(attempt)
 }
 
 /// Removes a lock that nobody holds, and gives its name to the file at `part`.
-fn replace<R: Files>(rt: &R, part: &str, path: &str) -> Attempt {
+fn replace<R: Files>(rt: &R, part: &str, path: &str, _is_taken: bool) -> Attempt
+    requires { _is_taken ≡ false }
+{
     match fs::remove_file(rt, path) {
         Err(error) if error.kind() != ErrorKind::NotFound => return Attempt::Refused,
         _ => (),
@@ -174,10 +181,17 @@ fn is_taken<A: Allocator + Copy, R: Files>(
 ) -> Result<bool, AllocError> {
     let holder = holder_at(rt, path);
     let is_gone = match holder {
-        Holder::Process(process) => own == Some(process) || is_gone(alloc, rt, process)?,
+        Holder::Process(process) => is_own(own, process) || is_gone(alloc, rt, process)?,
         _ => false,
     };
     Ok(is_held(holder, is_gone))
+}
+
+/// Returns whether a process is this one, as far as its number is known.
+fn is_own(own: Option<u32>, process: u32) -> bool
+    ensures { result ≡ is_own own process }
+{
+    own == Some(process)
 }
 
 /// Who holds the lock at this path. What can't be read may be anybody's.

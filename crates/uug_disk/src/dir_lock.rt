@@ -2,14 +2,15 @@
 ghost use Rattle.std.specs.Prelude.{◌≡◌, IfErr};
 ghost use Rattle.uug_failure.specs.Faults.{IsFolderFault, IsLockFault};
 
-use crate::part_path::PART_FRONT;
+use crate::granted::{Granted, grant};
+use crate::part_path::{is_part, remove_part};
 use crate::pipe::is_pipe;
 use std::alloc::{AllocError, Allocator};
 use std::fs::File;
 use std::io::ErrorKind;
 use std::rt::Files;
 use std::{fs, io};
-use uug_failure::{Cause, EndDir, EndText, Resource, RunFault, grant_lock};
+use uug_failure::{Cause, EndDir, EndText, Resource, RunFault};
 use uug_folder::sends_any;
 use uug_session::Job;
 
@@ -18,6 +19,7 @@ use uug_session::Job;
 #[derive(Drop)]
 pub struct DirLock<A: Allocator> {
     _file: File,
+    _granted: Granted,
     path: String<A>,
     number: usize,
 }
@@ -48,10 +50,11 @@ pub fn lock_dir<A: Allocator + Copy, R: Files<File = File> + Alloc + Clone + Dro
         Ok(file) => file,
         Err(error) => return Err(RunFault::of(&error, dir, Resource::Dir)),
     };
-    grant_lock(file.try_lock(), dir)?;
+    let granted = grant(file.try_lock(), dir)?;
     clear_dir(alloc, rt, dir.path)?;
     Ok(DirLock {
         _file: file,
+        _granted: granted,
         path,
         number: dir.number,
     })
@@ -152,8 +155,8 @@ fn remove_parts<R: Files + Alloc + Clone + Drop>(rt: &R, dir: &str) {
         let Ok(entry) = entry else {
             continue;
         };
-        if entry.file_name().starts_with(PART_FRONT) {
-            let _ = fs::remove_file(rt, entry.path().as_str());
+        if is_part(entry.file_name()) {
+            remove_part(rt, &entry);
         }
     }
 }

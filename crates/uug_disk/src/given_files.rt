@@ -28,6 +28,8 @@ pub struct Given<A: Allocator> {
     pub files: Vec<Stored<A>, A>,
     /// So many of its jobs are offered, from the front.
     pub offered: usize,
+    /// Names the other files that can't be read now, but may be later.
+    pub delayed: Vec<Name, A>,
 }
 
 /// The files that an end gives: those of its first jobs, as many as come to `most` bytes together, and behind them up to
@@ -94,8 +96,12 @@ fn list_given<A: Allocator + Copy, R: Files + Eprint + Alloc + Clone + Drop>(
 {
     let mut files = Vec::new(alloc);
     let offered = add_sources(&mut files, alloc, rt, dir, jobs, most)?;
-    add_others(&mut files, alloc, rt, dir)?;
-    Ok(Given { files, offered })
+    let delayed = add_others(&mut files, alloc, rt, dir)?;
+    Ok(Given {
+        files,
+        offered,
+        delayed,
+    })
 }
 
 /// Says how many jobs wait for another session.
@@ -238,13 +244,13 @@ fn is_there<A: Allocator>(files: &[Stored<A>], name: &Name) -> bool {
         .any(|file| file.name.as_bytes() == name.as_bytes())
 }
 
-/// Adds up to `OTHERS_MAX` other files in `send`.
+/// Adds up to `OTHERS_MAX` other files in `send`. Returns the names of those that can't be read now, but may be later.
 fn add_others<A: Allocator + Copy, R: Files + Eprint + Alloc + Clone + Drop>(
     files: &mut Vec<Stored<A>, A>,
     alloc: A,
     rt: &R,
     dir: EndDir<'_>,
-) -> Result<(), RunFault>
+) -> Result<Vec<Name, A>, RunFault>
     ensures within { OnOk result
         (length files.new.items ≤ length files.old.items + OTHERS_MAX) }
     ensures no_other { IfErr result IsFolderFault }
@@ -252,14 +258,14 @@ fn add_others<A: Allocator + Copy, R: Files + Eprint + Alloc + Clone + Drop>(
     let front = dir.path;
     let path = format!(in alloc; "{front}/send")?;
     let before = files.len();
-    let mut passed = PassedOver::none(rt, path.as_str());
+    let mut passed = PassedOver::none(alloc, rt, path.as_str());
     match fs::read_dir(rt, path.as_str()) {
         Ok(entries) => add_entries(files, alloc, rt, dir, entries, before, &mut passed)?,
         Err(error) if error.kind() == ErrorKind::NotFound => (),
         Err(error) => return Err(RunFault::of(&error, dir, Resource::Send)),
     }
     passed.say_rest();
-    Ok(())
+    Ok(passed.delayed)
 }
 
 /// Adds the files of these entries of `send`, up to `OTHERS_MAX` behind so many.
@@ -270,7 +276,7 @@ fn add_entries<A: Allocator + Copy, R: Files + Eprint + Alloc + Clone + Drop>(
     dir: EndDir<'_>,
     entries: ReadDir<R, R::A>,
     before: usize,
-    passed: &mut PassedOver<'_, R>,
+    passed: &mut PassedOver<'_, R, A>,
 ) -> Result<(), RunFault>
     requires { length files.old.items ≤ before + OTHERS_MAX }
     ensures within { OnOk result (length files.new.items ≤ before + OTHERS_MAX) }
@@ -294,7 +300,7 @@ fn add_entry<A: Allocator + Copy, R: Files + Eprint + Alloc + Clone + Drop>(
     dir: EndDir<'_>,
     entry: &DirEntry<R, R::A>,
     before: usize,
-    passed: &mut PassedOver<'_, R>,
+    passed: &mut PassedOver<'_, R, A>,
 ) -> Result<(), RunFault>
     requires { length files.old.items ≤ before + OTHERS_MAX }
     ensures within { OnOk result (length files.new.items ≤ before + OTHERS_MAX) }
@@ -316,8 +322,8 @@ fn add_entry<A: Allocator + Copy, R: Files + Eprint + Alloc + Clone + Drop>(
         return Ok(());
     }
     match add_given(files, alloc, rt, dir, name, path.as_str()) {
-        Err(RunFault::System(_)) => {
-            passed.note(Lack::Access, path.as_str());
+        Err(RunFault::System(failure)) => {
+            passed.note_unread(name, path.as_str(), failure.cause)?;
             Ok(())
         }
         added => added,

@@ -7,6 +7,7 @@ mod copy_place;
 mod device_lock;
 mod dir_lock;
 mod given_files;
+mod granted;
 pub mod laws;
 mod no_file;
 mod opened_jobs;
@@ -22,6 +23,7 @@ mod system_folder;
 mod system_jobs;
 mod system_number;
 mod system_text;
+mod written;
 
 pub use device_lock::{DeviceLock, lock_device};
 pub use dir_lock::{DirLock, lock_dir, see_folders};

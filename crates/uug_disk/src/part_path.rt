@@ -1,12 +1,30 @@
 //! Where a file of the system is written before it is whole.
+ghost use Rattle.std.specs.Fs.{dir_entry_name};
+ghost use Rattle.std.specs.Prelude.{◌≡◌, true};
+ghost use Rattle.uug_disk.specs.Parts.{is_part};
+
 use std::alloc::{AllocError, Allocator};
-use std::fs::File;
-use std::io;
+use std::fs::{DirEntry, File};
 use std::io::ErrorKind;
 use std::rt::Files;
+use std::{fs, io};
 
 /// What the name of such a file begins with.
 pub(crate) const PART_FRONT: &str = ".part.";
+
+/// Returns whether a name is that of a file which is not whole.
+pub(crate) fn is_part(name: &str) -> bool
+    ensures { result ≡ is_part name.now }
+{
+    name.starts_with(PART_FRONT)
+}
+
+/// Removes a file that is not whole. One that can't be removed is in nobody's way.
+pub(crate) fn remove_part<R: Files, A: Allocator>(rt: &R, entry: &DirEntry<R, A>)
+    requires { is_part (dir_entry_name entry.now) ≡ true }
+{
+    let _ = fs::remove_file(rt, entry.path().as_str());
+}
 
 /// So many names in a row may be in use.
 const TRIES_MAX: u32 = 1000;

@@ -1,6 +1,10 @@
 //! What is said on standard error of files that are not given.
 ghost use Rattle.std.specs.Prelude.{◌<◌};
 
+use std::alloc::{AllocError, Allocator};
+use uug_failure::Cause;
+use uug_talk::Name;
+
 /// So many reasons there are.
 const LACKS: usize = 4;
 
@@ -49,24 +53,27 @@ impl Lack {
     }
 }
 
-/// Says on standard error which files in `send` are not given. For each reason one is named, and the others are counted. What
-/// can't be said is left out.
+/// Says on standard error which files in `send` are not given, and notes those that may be given later. For each reason one is named,
+/// and the others are counted. What can't be said is left out.
 #[derive(Drop)]
-pub(crate) struct PassedOver<'a, R> {
+pub(crate) struct PassedOver<'a, R, A: Allocator> {
     rt: &'a R,
     /// The path of the folder `send`.
     send: &'a str,
     /// How many there are, by the reasons.
     counts: [u64; LACKS],
+    /// Names the files that may be given later.
+    pub(crate) delayed: Vec<Name, A>,
 }
 
-impl<'a, R: Eprint> PassedOver<'a, R> {
+impl<'a, R: Eprint, A: Allocator> PassedOver<'a, R, A> {
     /// Nothing is passed over so far in the folder at this path.
-    pub(crate) fn none(rt: &'a R, send: &'a str) -> Self {
+    pub(crate) fn none(alloc: A, rt: &'a R, send: &'a str) -> Self {
         PassedOver {
             rt,
             send,
             counts: [0; LACKS],
+            delayed: Vec::new(alloc),
         }
     }
 
@@ -80,6 +87,20 @@ impl<'a, R: Eprint> PassedOver<'a, R> {
             let _ = eprint!(self.rt; "uucpair: {path}{rest} is not given: {words}\n");
         }
         self.counts[place] = self.counts[place].saturating_add(1);
+    }
+
+    /// Notes that the file of this name at this path can't be read. It may be given later, where the cause may pass.
+    pub(crate) fn note_unread(
+        &mut self,
+        name: Name,
+        path: &str,
+        cause: Cause,
+    ) -> Result<(), AllocError> {
+        self.note(Lack::Access, path);
+        if cause.may_pass() {
+            self.delayed.push(name)?;
+        }
+        Ok(())
     }
 
     /// A file is not given whose name is no text.

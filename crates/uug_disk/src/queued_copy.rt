@@ -1,5 +1,6 @@
 //! The copy in `send` of a file that a person queues.
-ghost use Rattle.std.specs.Prelude.{◌≤◌, IfErr, IfOk, IfSome, length};
+ghost use Rattle.std.specs.Prelude.{◌≡◌, ◌≤◌, false, IfErr, IfOk, IfSome, length};
+ghost use Rattle.uug_disk.specs.Copies.{is_needed_by};
 ghost use Rattle.uug_failure.specs.Faults.{IsCopyFault, IsFolderFault};
 ghost use Rattle.uug_talk.specs.declared.gather.TheConstants.{FILE_MAX};
 
@@ -7,6 +8,7 @@ use crate::atomic_file::{see_folder, write_synced};
 use crate::copy_place::is_taken;
 use crate::part_path::PartPath;
 use crate::send_folder::{path_in_send, read_file};
+use crate::written::see_written;
 use std::alloc::{AllocError, Allocator};
 use std::fs::{File, OpenFile};
 use std::io::ErrorKind;
@@ -99,8 +101,10 @@ impl<A: Allocator> Copied<A> {
         is_same(rt, self.path.as_str(), self.mark.as_str())
     }
 
-    /// Takes it away, where it is still the file of its mark, and then the mark.
-    pub(crate) fn clear<R: Files>(&self, rt: &R) {
+    /// Takes it away, where it is still the file of its mark, and then the mark. None of the jobs that wait needs it.
+    pub(crate) fn clear<R: Files>(&self, rt: &R, _waiting: &[Job])
+        requires { is_needed_by self.now.name _waiting.now ≡ false }
+    {
         if self.is_marked(rt) {
             let _ = fs::remove_file(rt, self.path.as_str());
         }
@@ -108,10 +112,18 @@ impl<A: Allocator> Copied<A> {
     }
 
     /// Moves it to the files of failed jobs below this folder of an end. It is on the device there before it is taken away here;
-    /// where that can't be done, or another file has its name there, it stays.
-    pub(crate) fn set_aside<R: Files>(&self, rt: &R, front: &str, failed_files: &str) {
+    /// where that can't be done, or another file has its name there, it stays. None of the jobs that wait needs it.
+    pub(crate) fn set_aside<R: Files>(
+        &self,
+        rt: &R,
+        front: &str,
+        failed_files: &str,
+        waiting: &[Job],
+    )
+        requires { is_needed_by self.now.name waiting.now ≡ false }
+    {
         if self.link_aside(rt, front, failed_files).is_ok() {
-            self.clear(rt);
+            self.clear(rt, waiting);
         }
     }
 
@@ -178,11 +190,16 @@ fn write_part<A: Allocator, R: Files>(
     bytes: &[u8],
 ) -> io::Result<()> {
     let mut file = part.create(rt)?;
-    let written = write_synced::<R>(&mut file, bytes);
-    if written.is_err() {
-        let _ = fs::remove_file(rt, part.as_str());
+    match write_synced::<R>(&mut file, bytes) {
+        Ok(written) => {
+            see_written(written, bytes);
+            Ok(())
+        }
+        Err(error) => {
+            let _ = fs::remove_file(rt, part.as_str());
+            Err(error)
+        }
     }
-    written
 }
 
 /// Gives the file at `part` the first name that is free.
@@ -225,7 +242,9 @@ pub(crate) fn copied_as<A: Allocator + Copy>(
     alloc: A,
     dir: EndDir<'_>,
     name: Name,
-) -> Result<Copied<A>, AllocError> {
+) -> Result<Copied<A>, AllocError>
+    ensures { IfOk result (λ copy. copy.name ≡ name) }
+{
     let front = dir.path;
     let text = name.as_str();
     Ok(Copied {

@@ -7,6 +7,7 @@ ghost use Rattle.uug_failure.specs.Faults.{IsFolderFault, IsReadingFault};
 use crate::atomic_file::append_whole;
 use crate::pipe::is_pipe;
 use crate::send_folder::{TEXT_MAX, read_text};
+use crate::written::see_written;
 use std::alloc::{AllocError, Allocator};
 use std::fs::{File, OpenOptions};
 use std::io::ErrorKind;
@@ -137,7 +138,10 @@ fn append<A: Allocator + Copy, R: Files>(
     let added = appended_job(alloc, text, job)?;
     see_text(alloc, dir, text, added.as_bytes())?;
     match append_whole(rt, file, dir.path, added.as_bytes()) {
-        Ok(()) => Ok(()),
+        Ok(written) => {
+            see_written(written, added.as_bytes());
+            Ok(())
+        }
         Err(error) => Err(RunFault::of(&error, dir, Resource::Text(EndText::Jobs))),
     }
 }

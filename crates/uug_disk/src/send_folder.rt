@@ -3,7 +3,7 @@ ghost use Rattle.std.specs.Prelude.{◌≡◌, ◌+◌, ◌<◌, ◌≤◌, IfOk
 ghost use Rattle.uug_failure.specs.Faults.{IsFolderFault};
 
 use crate::dir_lock::DirLock;
-use crate::part_path::PART_FRONT;
+use crate::part_path::is_part;
 use crate::queued_copy::COPY_FRONT;
 use std::alloc::{AllocError, Allocator};
 use std::fs::{DirEntry, File, ReadDir};
@@ -23,7 +23,7 @@ pub const GIVEN_MODE: u16 = 0o644;
 /// The most bytes of a text in a folder, such as that of its jobs.
 pub const TEXT_MAX: usize = 16_777_216;
 
-/// All that comes from a reader, unless it is more than so many bytes.
+/// Returns all that comes from a reader, unless it is more than so many bytes.
 fn read_within<A: Allocator, R: Read + Drop>(
     alloc: A,
     reader: R,
@@ -253,7 +253,7 @@ fn given_name<R: Files + Alloc + Clone + Drop>(
 ) -> Result<Option<Name>, RunFault>
     ensures { IfErr result IsFolderFault }
 {
-    if entry.file_name().starts_with(PART_FRONT) || entry.file_name().starts_with(COPY_FRONT) {
+    if is_part(entry.file_name()) || entry.file_name().starts_with(COPY_FRONT) {
         return Ok(None);
     }
     let Ok(name) = Name::new(entry.file_name().as_bytes()) else {

@@ -4,8 +4,8 @@ ghost use Rattle.uug_failure.specs.Faults.{IsFolderFault, IsReadingFault};
 
 use crate::copy_place::{CopyPlace, place_of};
 use crate::dir_lock::{DirLock, open_dir};
-use crate::part_path::PART_FRONT;
-use crate::queued_copy::{COPY_FRONT, FAILED_FILES, copied_as};
+use crate::part_path::{is_part, remove_part};
+use crate::queued_copy::{COPY_FRONT, Copied, FAILED_FILES, copied_as};
 use crate::queued_line::jobs_in;
 use crate::send_folder::read_text;
 use std::alloc::{AllocError, Allocator};
@@ -120,20 +120,33 @@ fn settle_all<A: Allocator + Copy, R: Files + Alloc + Clone + Drop>(
         let Ok(entry) = entry else {
             continue;
         };
-        if entry.file_name().starts_with(PART_FRONT) {
-            let _ = fs::remove_file(rt, entry.path().as_str());
+        if is_part(entry.file_name()) {
+            remove_part(rt, &entry);
         }
         let Some(name) = marked_name(&entry) else {
             continue;
         };
         let copy = copied_as(alloc, dir, name)?;
-        match place_of(waiting, failed, &name) {
-            CopyPlace::InSend => (),
-            CopyPlace::WithFailed => copy.set_aside(rt, front, failed_files.as_str()),
-            CopyPlace::Nowhere => copy.clear(rt),
-        }
+        settle_copy(rt, &copy, front, failed_files.as_str(), waiting, failed);
     }
     Ok(())
+}
+
+/// Puts a copy where it belongs while these jobs wait, and this text tells of those that have failed.
+#[tactic(auto, using(crate::proofs::CopyLemmas::nowhere_needed, crate::proofs::CopyLemmas::aside_needed))]
+fn settle_copy<A: Allocator, R: Files>(
+    rt: &R,
+    copy: &Copied<A>,
+    front: &str,
+    failed_files: &str,
+    waiting: &[Job],
+    failed: &[u8],
+) {
+    match place_of(waiting, failed, &copy.name) {
+        CopyPlace::InSend => (),
+        CopyPlace::WithFailed => copy.set_aside(rt, front, failed_files, waiting),
+        CopyPlace::Nowhere => copy.clear(rt, waiting),
+    }
 }
 
 /// The name of the copy whose mark an entry of `send` is.

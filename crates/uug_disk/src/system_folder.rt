@@ -5,6 +5,7 @@ ghost use Rattle.uug_disk.specs.Barred.{barred_by};
 
 use crate::atomic_file::replace_file;
 use crate::part_path::PartPath;
+use crate::written::see_written;
 use std::alloc::{AllocError, Allocator};
 use std::fs::DirEntry;
 use std::io::ErrorKind;
@@ -101,7 +102,10 @@ impl<R: Files, A: Allocator> Folder for SystemFolder<'_, R, A> {
         let dir = self.dir.as_str();
         let path = self.path.as_str();
         match replace_file(self.rt, &mut self.part, dir, path, bytes) {
-            Ok(()) => Ok(()),
+            Ok(written) => {
+                see_written(written, bytes);
+                Ok(())
+            }
             Err(error) => {
                 let resource = Resource::Got(*name);
                 self.faults

@@ -3,6 +3,7 @@ ghost use Rattle.std.specs.Prelude.{◌≡◌, ◌<◌, IfOk, IsSome, None};
 use crate::atomic_file::append_at;
 use crate::pipe::is_pipe;
 use crate::system_text::SystemText;
+use crate::written::see_written;
 use std::alloc::{AllocError, Allocator};
 use std::fs::File;
 use std::rt::Files;
@@ -62,7 +63,10 @@ impl<R: Files<File = File>, A: Allocator> JobTexts for SystemJobs<'_, R, A> {
         }
         let dir = self.file.dir().path;
         match append_at(self.file.runtime(), dir, self.failed.as_str(), bytes) {
-            Ok(()) => Ok(()),
+            Ok(written) => {
+                see_written(written, bytes);
+                Ok(())
+            }
             Err(error) => {
                 let resource = Resource::Text(EndText::Failed);
                 self.file.note(resource, Cause::of(&error));

@@ -1,4 +1,5 @@
 ghost use Rattle.std.specs.Prelude.{◌≡◌, ◌<◌, IsSome, None};
+ghost use Rattle.uug_disk.specs.Numbers.{stays_with};
 
 use crate::system_text::SystemText;
 use std::alloc::Allocator;
@@ -32,8 +33,10 @@ impl<'a, R: Files, A: Allocator> SystemNumber<'a, R, A> {
         self.file.failure()
     }
 
-    /// Whether the file is left as it is where it is to have this number.
-    fn stays_with(&self, number: Option<u32>) -> bool {
+    /// Returns whether the file is left as it is where it is to have this number.
+    fn stays_with(&self, number: Option<u32>) -> bool
+        ensures { result ≡ stays_with self.now.held number }
+    {
         match (self.held, number) {
             (Some(held), Some(number)) => number == held || number.wrapping_add(1) == held,
             _ => false,

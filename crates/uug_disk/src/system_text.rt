@@ -6,6 +6,7 @@ ghost use Rattle.uug_failure.specs.Faults.{IsFolderFault};
 use crate::atomic_file::{replace_appended, replace_file};
 use crate::part_path::PartPath;
 use crate::send_folder::read_text_at;
+use crate::written::see_written;
 use std::alloc::{AllocError, Allocator};
 use std::fs;
 use std::fs::File;
@@ -118,7 +119,10 @@ impl<R: Files<File = File>, A: Allocator> TextFile for SystemText<'_, R, A> {
             None => replace_file(self.rt, &mut self.part, dir, path, bytes),
         };
         match replaced {
-            Ok(()) => Ok(()),
+            Ok(written) => {
+                see_written(written, bytes);
+                Ok(())
+            }
             Err(error) => {
                 self.note(Resource::Text(self.which), Cause::of(&error));
                 Err(FolderFailed)

@@ -1,5 +1,6 @@
 //! Why a call of the system failed.
 ghost use Rattle.std.specs.Prelude.{◌≡◌};
+ghost use Rattle.uug_failure.specs.Passing.{may_pass};
 
 use std::io;
 use std::io::ErrorKind;
@@ -106,6 +107,23 @@ impl Cause {
     /// What an error of the system says.
     pub fn of(error: &io::Error) -> Cause {
         Cause::Refused(error.kind(), error.raw_os_error())
+    }
+
+    /// Returns whether the same call may succeed later, with nothing else changed.
+    pub fn may_pass(self) -> bool
+        ensures { result ≡ may_pass self }
+    {
+        match self {
+            Cause::Refused(kind, _) => !matches!(
+                kind,
+                ErrorKind::NotFound
+                    | ErrorKind::NotADirectory
+                    | ErrorKind::PermissionDenied
+                    | ErrorKind::FilesystemLoop
+                    | ErrorKind::InvalidFilename
+            ),
+            Cause::MovedNothing | Cause::TooMuch | Cause::NotAFile | Cause::InUse => false,
+        }
     }
 }
 

@@ -40,6 +40,7 @@ is_hidden name = if list_any (λ b. eqb b 47) name then true else begins_with_do
 abbrev pub folder_holdings : (barred : List ℕ → Bool) → List Kept → Holdings
 folder_holdings barred files = record {
   file = first_named files;
+  delayed = λ name. false;
   verdict = λ name. if is_hidden name then Never else Yes;
   immovable = λ name. if is_hidden name then true else barred name;
   landing = λ source target. target;

@@ -7,6 +7,8 @@ pub record LocalFiles (F A : Type 0) : Type 0 where
   pub files : FolderFiles F A
   -- the names under which those that were kept came, in the order in which they did
   pub names : List (List ℕ)
+  -- the names in the folder of the files that can't be given now, but later
+  pub delayed : List (List ℕ)
   -- its end refuses what it can't read, and goes on
   pub lenient : Bool
   -- it tells digests of its files, and compares those that it is told

@@ -1,10 +1,10 @@
 -- Under which name a folder keeps a file that a real system names (this project's profile).
-use Rattle.std.specs.Prelude.{◌≡◌, ℕ, Bool, true, List, [], ◌∷◌, drop, codes, nat_eq, Option, Some, None, map, if◌then◌else◌}
+use Rattle.std.specs.Prelude.{◌≡◌, ℕ, Bool, true, false, List, [], ◌∷◌, drop, codes, nat_eq, Option, Some, None, map, if◌then◌else◌}
 use Rattle.std.specs.List.{starts_with}
 use Rattle.std.specs.Option.{option_map_or}
 use Rattle.std.specs.Path.{rsplit_once, slash}
 use Rattle.uug_conversation.specs.Holdings.{File, Holdings, Kept, kept_file}
-use Rattle.uug_conversation.specs.MemoryHoldings.{kept_of}
+use Rattle.uug_conversation.specs.MemoryHoldings.{has_name, kept_of}
 use Rattle.uug_conversation.specs.declared.verdict.Verdict.{Verdict}
 use Rattle.uug_conversation.specs.declared.verdict.Verdict.TheVariants.{Never}
 use Rattle.uug_talk.specs.Name.{name_of}
@@ -34,6 +34,11 @@ abbrev pub file_by : Holdings → Option (List ℕ) → Option File
 file_by h None = None
 file_by h (Some name) = h.file name
 
+-- whether the file of this name may be given later
+abbrev pub delayed_by : (delayed : List (List ℕ)) → Option (List ℕ) → Bool
+delayed_by delayed None = false
+delayed_by delayed (Some name) = has_name delayed name
+
 abbrev pub verdict_by : Holdings → Option (List ℕ) → Verdict
 verdict_by h None = Never
 verdict_by h (Some name) = h.verdict name
@@ -58,9 +63,10 @@ local_landing source target = landing_by (behind_root target) (name_of (last_par
 
 -- A file is given and taken as the folder gives and takes its name there; so none whose name there has a slash left, or a
 -- dot in front.
-abbrev pub local_holdings : (lenient digests : Bool) → Holdings → Holdings
-local_holdings lenient digests h = record {
+abbrev pub local_holdings : (lenient digests : Bool) → (delayed : List (List ℕ)) → Holdings → Holdings
+local_holdings lenient digests delayed h = record {
   file = λ name. file_by h (local_source name);
+  delayed = λ name. delayed_by delayed (local_source name);
   verdict = λ name. verdict_by h (local_name name);
   immovable = λ name. immovable_by h (local_name name);
   landing = local_landing;
@@ -80,7 +86,7 @@ StandUnder names files = map local_name names ≡ map (λ (file : Kept). Some fi
 
 -- where the folder bars these names
 abbrev pub holdings_here : {F A : Type 0} → (barred : F → List ℕ → Bool) → LocalFiles F A → Holdings
-holdings_here barred s = local_holdings s.lenient s.digests (folder_holdings (barred s.files.folder) (map kept_of s.files.files))
+holdings_here barred s = local_holdings s.lenient s.digests s.delayed (folder_holdings (barred s.files.folder) (map kept_of s.files.files))
 
 abbrev pub kept_here : {F A : Type 0} → LocalFiles F A → List Kept
 kept_here s = renamed s.names (map kept_of s.files.stored)

@@ -102,6 +102,10 @@ impl<F: Folder, A: Allocator + Copy> Spool for FolderSpool<F, A> {
         self.fetch_by(name.as_bytes())
     }
 
+    fn is_delayed(&self, _name: &Name) -> bool {
+        false
+    }
+
     fn keep(&mut self, name: &Name, mode: u16, bytes: &[u8]) -> Result<(), KeepFault> {
         if self.is_immovable(name) {
             return Err(KeepFault::Refused);

@@ -1,6 +1,6 @@
 ghost use Rattle.std.specs.Prelude.{◌≡◌, ◌<◌, ◌++◌, [], ◌∷◌, MatchOption, Some, None, false, map, vec_len, vec_capacity};
 ghost use Rattle.uug_folder.specs.Folders.{folder_holdings};
-ghost use Rattle.uug_conversation.specs.MemoryHoldings.{kept_of};
+ghost use Rattle.uug_conversation.specs.MemoryHoldings.{has_name, kept_of};
 ghost use Rattle.uug_conversation.specs.Code.StoredModes.{modes_in_range};
 ghost use Rattle.uug_folder.specs.Code.LocalModes.{local_modes};
 ghost use Rattle.uug_folder.specs.LocalNames.{StandUnder, behind_root, holdings_here, kept_here, last_part, local_landing, local_name, local_source};
@@ -20,6 +20,7 @@ use uug_talk::Name;
 pub struct LocalNames<F: Folder, A: Allocator> {
     files: FolderSpool<F, A>,
     names: Vec<Name, A>,
+    delayed: Vec<Name, A>,
     lenient: bool,
     digests: bool,
 }
@@ -35,6 +36,7 @@ impl<F: Folder, A: Allocator> Model for LocalNames<F, A> {
     ghost view = { λ s. record {
       files = s.files;
       names = s.names.items;
+      delayed = s.delayed.items;
       lenient = s.lenient;
       digests = s.digests;
     } };
@@ -44,18 +46,26 @@ impl<F: Folder, A: Allocator> Model for LocalNames<F, A> {
 }
 
 impl<F: Folder, A: Allocator + Copy> LocalNames<F, A> {
-    /// The spool over a folder that has kept nothing, of an end that is not lenient, and tells no digests. It takes no
-    /// memory.
+    /// Returns the spool over a folder that has kept nothing, of an end that is not lenient, and tells no digests. No file is
+    /// delayed. It takes no memory.
     pub fn new(alloc: A, files: FolderSpool<F, A>) -> Self
         requires { files.stored ≡ [] }
-        ensures { result ≡ record { files = files; names = []; lenient = false; digests = false } }
+        ensures { result ≡ record { files = files; names = []; delayed = []; lenient = false; digests = false } }
     {
         LocalNames {
             files,
             names: Vec::new(alloc),
+            delayed: Vec::new(alloc),
             lenient: false,
             digests: false,
         }
+    }
+
+    /// Sets the names in the folder of the files that can't be given now, but later.
+    pub fn set_delayed(&mut self, delayed: Vec<Name, A>)
+        ensures { self.new ≡ record self.old { delayed = delayed.items } }
+    {
+        self.delayed = delayed;
     }
 
     /// Whether its end refuses what it can't read, and goes on.
@@ -104,6 +114,13 @@ impl<F: Folder, A: Allocator + Copy> Spool for LocalNames<F, A> {
         self.files.fetch_by(source_bytes(name)?)
     }
 
+    fn is_delayed(&self, name: &Name) -> bool {
+        match source_bytes(name) {
+            Some(local) => has_name(self.delayed.as_slice(), local),
+            None => false,
+        }
+    }
+
     fn keep(&mut self, name: &Name, mode: u16, bytes: &[u8]) -> Result<(), KeepFault> {
         let Some(local) = local_name(name) else {
             return Err(KeepFault::Refused);
@@ -132,9 +149,16 @@ impl<F: Folder, A: Allocator + Copy> Spool for LocalNames<F, A> {
         self.files.faults()
     }
 
-    ghost modes = { λ s. local_modes s.lenient s.digests
+    ghost modes = { λ s. local_modes s.lenient s.digests s.delayed
         (folder_holdings (F.barred s.files.folder) (map kept_of s.files.files))
         (modes_in_range s.files.files) };
+}
+
+/// Returns whether one of the names has these bytes.
+fn has_name(names: &[Name], bytes: &[u8]) -> bool
+    ensures { result ≡ has_name names.now bytes.now }
+{
+    names.iter().any(|name| name.as_bytes() == bytes)
 }
 
 /// The name in the folder of a file that a real system names, if there is one.

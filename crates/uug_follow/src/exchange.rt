@@ -5,7 +5,7 @@ ghost use Rattle.uug_follow.specs.Losses.{bytes_with};
 use crate::transfer::{News, Outcome, Transfer};
 use crate::way::Way;
 use uug_digest::{FileDigest, told_by_answer, told_by_order};
-use uug_talk::{Answer, FILE_MAX, Order, read_answer, read_order};
+use uug_talk::{Answer, BadText, FILE_MAX, Order, is_held, read_answer, read_order, read_wished};
 
 /// The job that is on, and how far its file has come.
 #[derive(Clone, Copy)]
@@ -58,12 +58,20 @@ impl Exchange {
         match read_order(text) {
             Ok(order) => self.begin(way, &order, told_by_order(text)),
             Err(_) => {
-                let answer = read_answer(text).ok()?;
+                let answer = self.read(text).ok()?;
                 if let Answer::GiveYes(_) = answer {
                     self.told = told_by_answer(text);
                 }
-                self.take_answer(answer)
+                self.take_answer(answer, is_held(text) && self.is_lenient)
             }
+        }
+    }
+
+    /// Reads an answer as the end does.
+    fn read(&self, text: &[u8]) -> Result<Answer, BadText> {
+        match read_answer(text) {
+            Err(BadText::Mode) if self.is_lenient => read_wished(text),
+            read => read,
         }
     }
 
@@ -76,8 +84,9 @@ impl Exchange {
         Some(News::Begins(job))
     }
 
-    /// One of the ends has answered so. Of a file of which a digest was told, CN4 says that another one came.
-    fn take_answer(&mut self, answer: Answer) -> Option<News> {
+    /// Takes an answer of one of the ends, which may hold the file already. CN4 says that a file came that differs from its digest, where
+    /// one was told.
+    fn take_answer(&mut self, answer: Answer, held: bool) -> Option<News> {
         match answer {
             Answer::SendYes | Answer::GiveYes(_) => {
                 self.file = Some(self.job?.file_way());
@@ -86,12 +95,10 @@ impl Exchange {
             Answer::DoneYes | Answer::DoneYesMaster => self.end(Outcome::Done),
             Answer::SendNever if self.is_too_large() => self.end(Outcome::TooLarge),
             Answer::SendNever | Answer::GiveNever | Answer::DoneNever => self.end(Outcome::Never),
-            Answer::SendHeld if self.is_lenient => self.end(Outcome::Done),
+            Answer::SendLater if held => self.end(Outcome::Done),
             Answer::DoneLater if self.told.is_some() => self.end(Outcome::Differs),
-            Answer::SendHeld | Answer::SendLater | Answer::GiveLater | Answer::DoneLater => {
-                self.end(Outcome::Later)
-            }
-            Answer::HangYes | Answer::HangNo | Answer::WorkNo | Answer::RunNever => None,
+            Answer::SendLater | Answer::GiveLater | Answer::DoneLater => self.end(Outcome::Later),
+            Answer::HangYes | Answer::HangNo => None,
         }
     }
 

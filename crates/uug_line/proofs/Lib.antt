@@ -16,6 +16,7 @@ mod ItemLemmas
 mod JournalLemmas
 mod PastLemmas
 mod PieceLemmas
+mod QuietLemmas
 pub mod PlaceLemmas
 mod SendLemmas
 pub mod SessionLemmas

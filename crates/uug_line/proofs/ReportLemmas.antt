@@ -102,7 +102,7 @@ same_parts r report past caller called shown sessions =
 
 -- ---- it may settle where its world may
 
-ends_told : (told : SpelledReport) (setup : SetupValue) (events : List Event) → told ≡ spelled (report_of_world setup events) →
+pub ends_told : (told : SpelledReport) (setup : SetupValue) (events : List Event) → told ≡ spelled (report_of_world setup events) →
     (side : Side) → at side told.ends ≡ end_now (end_at side (world setup events)).end
 ends_told told setup events same Caller = ap (λ (t : SpelledReport). t.ends.at_caller) same
 ends_told told setup events same Called = ap (λ (t : SpelledReport). t.ends.at_called) same

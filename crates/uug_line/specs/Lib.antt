@@ -20,6 +20,7 @@ pub mod Settled
 pub mod Shown
 pub mod SoundSetup
 pub mod Spelled
+pub mod StillReports
 pub mod StillHeld
 pub mod Speaking
 pub mod PastSessions

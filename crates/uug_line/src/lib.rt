@@ -26,4 +26,4 @@ pub use settling::settle;
 pub use setup::{EndSetup, Setup};
 pub use simulator::Simulator;
 pub use uug_session::Side;
-pub use verdict::LineVerdict;
+pub use verdict::{LineVerdict, Verdict2};

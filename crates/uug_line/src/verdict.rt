@@ -1,5 +1,8 @@
 use uug_session::Side;
 
+/// Names `LineVerdict`, beside the `Verdict` of a spool.
+pub type Verdict2 = LineVerdict;
+
 /// Whether each packet that was found on a line had been sent.
 #[derive(Clone, Copy, Debug, PartialEq, Eq)]
 pub enum LineVerdict {

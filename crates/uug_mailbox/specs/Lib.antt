@@ -1,6 +1,7 @@
 pub mod Code
 pub mod Executions
 pub mod HeldLines
+pub mod Keeping
 pub mod MailDates
 pub mod MailHoldings
 pub mod Offers

@@ -1,7 +1,7 @@
 -- What an end over a spool gives and takes (this project's profile).
-use Rattle.std.specs.Prelude.{ℕ, Bool, List, is_none, Option, Some, None, if◌then◌else◌}
+use Rattle.std.specs.Prelude.{ℕ, Bool, true, false, List, is_none, Option, Some, None, if◌then◌else◌}
 use Rattle.uug_conversation.specs.Holdings.{File, Holdings, Kept}
-use Rattle.uug_conversation.specs.MemoryHoldings.{first_named}
+use Rattle.uug_conversation.specs.MemoryHoldings.{first_named, has_name}
 use Rattle.uug_conversation.specs.declared.verdict.Verdict.TheVariants.{Never, Yes}
 use Rattle.uug_folder.specs.LocalNames.{local_source}
 use Rattle.uug_mailbox.specs.Places.{Public, landing, place_in}
@@ -18,6 +18,11 @@ given_by files name (Some file) = Some file
 abbrev pub given : List Kept → (name : List ℕ) → Option File
 given files name = given_by files name (first_named files name)
 
+-- whether the file of this name in the public folder may be given later
+abbrev pub delayed_in : Public → Option (List ℕ) → Bool
+delayed_in public None = false
+delayed_in public (Some name) = if public.is_unknown then true else has_name public.delayed name
+
 -- a file is taken that has a place
 abbrev pub is_refused : Public → (name : List ℕ) → Bool
 is_refused public name = is_none (place_in public name)
@@ -25,6 +30,7 @@ is_refused public name = is_none (place_in public name)
 abbrev pub mail_holdings : (lenient digests : Bool) → Public → List Kept → Holdings
 mail_holdings lenient digests public files = record {
   file = given files;
+  delayed = λ name. delayed_in public (local_source name);
   verdict = λ name. if is_refused public name then Never else Yes;
   immovable = is_refused public;
   landing = landing public;

@@ -21,9 +21,13 @@ pub record Public : Type 0 where
   pub barred : List (List ℕ)
   -- nothing can be put there at all
   pub is_closed : Bool
+  -- the names of the files that can't be given now, but later
+  pub delayed : List (List ℕ)
+  -- its files could not be listed: each may be given later
+  pub is_unknown : Bool
 
 abbrev pub shown_public : {A : Type 0} → PublicFolder A → Public
-shown_public p = record { folders = p.folders.items; barred = p.barred.items; is_closed = p.is_closed }
+shown_public p = record { folders = p.folders.items; barred = p.barred.items; is_closed = p.is_closed; delayed = p.delayed.items; is_unknown = p.is_unknown }
 
 -- ---- names
 

@@ -1,11 +1,12 @@
 //! The files of an end over a spool: those that it gives, and the folders into which those go that come.
-ghost use Rattle.std.specs.Prelude.{◌≡◌, ◌≢◌, ◌<◌, ◌≤◌, ◌⊎◌, ◌↔◌, [], ◌∷◌, ◌++◌, IfOk, OnErr, OnOk, length, map, true, vec_len, vec_capacity};
+ghost use Rattle.std.specs.Prelude.{◌≡◌, ◌≢◌, ◌<◌, ◌≤◌, ◌⊎◌, ◌↔◌, ◌^◌, ◌-◌, [], ◌∷◌, ◌++◌, IfOk, OnErr, OnOk, length, map, true, vec_len, vec_capacity};
 ghost use Rattle.uug_conversation.specs.FileView.{shown_file};
 ghost use Rattle.uug_conversation.specs.Holdings.{kept_file};
-ghost use Rattle.uug_conversation.specs.MemoryHoldings.{first_named, kept_of};
+ghost use Rattle.uug_conversation.specs.MemoryHoldings.{first_named, has_name, kept_of};
 ghost use Rattle.uug_folder.specs.LocalNames.{local_source};
 ghost use Rattle.uug_mailbox.specs.Code.MailModes.{mail_modes};
-ghost use Rattle.uug_mailbox.specs.MailHoldings.{file_at, given, is_refused, mail_holdings};
+ghost use Rattle.uug_mailbox.specs.Keeping.{keep_marks, keep_ops, place_for};
+ghost use Rattle.uug_mailbox.specs.MailHoldings.{delayed_in, file_at, given, is_refused, mail_holdings};
 ghost use Rattle.uug_mailbox.specs.Places.{place_in, shown_public};
 ghost use Rattle.uug_mailbox.specs.Placing.{came_of, marks_of, place_ops};
 ghost use Rattle.uug_spool.specs.Operations.{FrontDone, also_all};
@@ -65,6 +66,7 @@ impl<D: Disk, A: Allocator + Copy> MailSpool<D, A> {
     }
 }
 
+#[tactic(auto, using(crate::proofs::OverLemmas::none_done))]
 impl<D: Disk, A: Allocator + Copy> Spool for MailSpool<D, A> {
     ghost holdings = { λ s. mail_holdings s.lenient s.digests (shown_public s.public) (map kept_of s.given.items) };
 
@@ -88,7 +90,33 @@ impl<D: Disk, A: Allocator + Copy> Spool for MailSpool<D, A> {
         given(self.given.as_slice(), name)
     }
 
-    fn keep(&mut self, name: &Name, mode: u16, bytes: &[u8]) -> Result<(), KeepFault> {
+    fn is_delayed(&self, name: &Name) -> bool {
+        is_delayed_in(&self.public, &local_source(name))
+    }
+
+    /// Puts the file in its place by just the operations that its name, its bytes and the markers say.
+    fn keep(&mut self, name: &Name, mode: u16, bytes: &[u8]) -> Result<(), KeepFault>
+        requires { mode ≤ MODE_MAX }
+        ensures done { OnOk result (D.done self.new.folder.disk
+            ≡ also_all (keep_ops self.old name.now bytes.now) (D.done self.old.folder.disk)) }
+        ensures front { OnErr result (FrontDone (keep_ops self.old name.now bytes.now)
+            (D.done self.old.folder.disk) (D.done self.new.folder.disk)) }
+        ensures marks { OnOk result (marks_of self.new.folder
+            ≡ keep_marks self.old name.now bytes.now) }
+        ensures came { came_of self.new.folder ≡ came_of self.old.folder }
+        ensures holdings { ⟦<MailSpool<D, A> as Spool>⟧.holdings self.new
+            ≡ ⟦<MailSpool<D, A> as Spool>⟧.holdings self.old }
+        ensures ok { OnOk result (⟦<MailSpool<D, A> as Spool>⟧.kept self.new
+            ≡ ⟦<MailSpool<D, A> as Spool>⟧.kept self.old ++ kept_file name.now mode bytes.now ∷ []) }
+        ensures err { OnErr result (⟦<MailSpool<D, A> as Spool>⟧.kept self.new
+            ≡ ⟦<MailSpool<D, A> as Spool>⟧.kept self.old) }
+        ensures refused { (result ≡ Err KeepFault.Refused)
+            ↔ (is_refused (shown_public self.old.public) name.now ≡ true) }
+        ensures stands { result ≢ Err KeepFault.Device → self.new.faults ≡ self.old.faults }
+        ensures device { result ≡ Err KeepFault.Device
+            → (self.old.faults < self.new.faults) ⊎ (self.old.faults ≡ u64.MAX) }
+        ensures count { self.old.faults ≤ self.new.faults }
+    {
         let Some(target) = self.public.place_in(name) else {
             return Err(KeepFault::Refused);
         };
@@ -117,6 +145,22 @@ impl<D: Disk, A: Allocator + Copy> Spool for MailSpool<D, A> {
     }
 
     ghost modes = { λ s. mail_modes s.lenient s.digests (shown_public s.public) s.given.items };
+}
+
+/// Returns whether the file of this name in the public folder may be given later.
+fn is_delayed_in<A: Allocator>(public: &PublicFolder<A>, name: &Option<Name>) -> bool
+    ensures { result ≡ delayed_in (shown_public public.now) name.now }
+{
+    match name {
+        Some(name) => public.is_unknown || has_name(public.delayed.as_slice(), name),
+        None => false,
+    }
+}
+
+fn has_name(names: &[Name], name: &Name) -> bool
+    ensures { result ≡ has_name names.now name.now }
+{
+    names.iter().any(|n| n.as_bytes() == name.as_bytes())
 }
 
 /// The file under just this name; else that of this name in the public folder.

@@ -23,6 +23,10 @@ pub struct PublicFolder<A: Allocator> {
     pub barred: Vec<Name, A>,
     /// Tells whether nothing can be put there at all.
     pub is_closed: bool,
+    /// Names the files that can't be given now, but may be later.
+    pub delayed: Vec<Name, A>,
+    /// Says that its files could not be listed: each may be given later.
+    pub is_unknown: bool,
 }
 
 /// Splits a path at its last slash, if it has one.

@@ -1,5 +1,7 @@
 //! The jobs of an end over the C. files of a system.
 ghost use Rattle.std.specs.Prelude.{◌≡◌, ◌≤◌, ◌++◌, Some, IfErr, OnErr, OnOk, length, map};
+ghost use Rattle.uug_folder.specs.Notices.{also_told as notices_told};
+ghost use Rattle.uug_folder.specs.OpenJobs.{IsSettledOrNot, settled_in};
 ghost use Rattle.uug_folder.specs.TextFiles.{IsReadFault};
 ghost use Rattle.uug_spool.specs.Operations.{FrontDone, HasFault, TellsSome, also_all, also_told};
 ghost use Rattle.uug_mailbox.specs.OpenLines.{jobs_of};
@@ -170,13 +172,38 @@ impl<D: Disk, A: Allocator + Copy> JobStore for WorkStore<D, A> {
 
     ghost fault_count = { λ store. D.fault_count store.disk };
 
+    /// Takes the jobs off the disk by just the operations that their lines and files say.
     fn settle<B: Allocator + Copy>(
         &mut self,
         alloc: B,
         struck: &[Job],
         failed: &[Job],
         notice: &[u8],
-    ) -> Result<(), ToolFault> {
+    ) -> Result<(), ToolFault>
+        ensures done { OnOk result (D.done self.new.disk
+            ≡ also_all (settling_ops struck.now failed.now (lines_of self.old) (files_of self.old))
+            (D.done self.old.disk)) }
+        ensures front { OnErr result (FrontDone
+            (settling_ops struck.now failed.now (lines_of self.old) (files_of self.old))
+            (D.done self.old.disk) (D.done self.new.disk)) }
+        ensures lines { OnOk result (lines_of self.new
+            ≡ lines_after struck.now failed.now (lines_of self.old)) }
+        ensures files { OnOk result (files_of self.new
+            ≡ texts_settled struck.now failed.now (lines_of self.old) (files_of self.old)) }
+        ensures first { OnErr result (IsToldFirst notice.now
+            (D.told self.old.disk) (D.told self.new.disk)
+            (D.done self.old.disk) (D.done self.new.disk)) }
+        ensures ok { OnOk result (Some (jobs_of (lines_of self.new))
+            ≡ settled_in (struck.now ++ failed.now) (Some (jobs_of (lines_of self.old)))) }
+        ensures told { OnOk result (D.told self.new.disk
+            ≡ notices_told notice.now (D.told self.old.disk)) }
+        ensures err { OnErr result (IsSettledOrNot (struck.now ++ failed.now) notice.now
+            (Some (jobs_of (lines_of self.old))) (Some (jobs_of (lines_of self.new)))
+            (D.told self.old.disk) (D.told self.new.disk)) }
+        ensures calm { OnOk result (D.fault_count self.new.disk ≡ D.fault_count self.old.disk) }
+        ensures fault { IfErr result (λ fault.
+            IsReadFault fault (D.fault_count self.old.disk) (D.fault_count self.new.disk)) }
+    {
         self.settle_jobs(alloc, struck, failed, notice)
     }
 }

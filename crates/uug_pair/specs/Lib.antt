@@ -1,1 +1,2 @@
 pub mod GoneJobs
+pub mod PairFaults

@@ -1,5 +1,5 @@
 -- Whatever happens to an end, each Request job that it strikes has an entry of its own in what it has kept.
-use Rattle.std.proofs.Common.{◌≡◌, ℕ, nat_lt, Bool, true, false, List, [], ◌∷◌, ◌++◌, length, Option, Some, None, Result, Ok, Err, refl, sym, ap, subst, ◌∙◌, append_assoc}
+use Rattle.std.proofs.Common.{◌≡◌, ◌&&◌, ℕ, nat_lt, Bool, true, false, List, [], ◌∷◌, ◌++◌, length, Option, Some, None, Result, Ok, Err, refl, sym, ap, subst, ◌∙◌, append_assoc}
 use Rattle.std.proofs.lemmas.List.{append-nil}
 use Rattle.uug_talk.specs.Chunks.{Measure}
 use Rattle.uug_digest.specs.Digests.{told_by_answer, told_by_order}
@@ -12,7 +12,7 @@ use Rattle.uug_talk.specs.declared.order.Order.TheVariants as order
 use Rattle.uug_talk.specs.Answer.{answer_of}
 use Rattle.uug_talk.specs.Gathering.{Kind, OfCommand, OfFile, Gathering, limit_of}
 use Rattle.uug_talk.specs.Order.{order_of}
-use Rattle.uug_talk.specs.Unread.{refusal_of}
+use Rattle.uug_talk.specs.Lenient.{is_held, or_wished, refused_letter_of}
 use Rattle.uug_conversation.specs.declared.awaits.Awaits.{Awaits}
 use Rattle.uug_conversation.specs.declared.awaits.Awaits.TheVariants as awaits
 use Rattle.uug_conversation.specs.declared.job.Job.{Job}
@@ -25,7 +25,7 @@ use Rattle.uug_session.specs.EndStep.{EndState, Identity, EndEvent, end_step}
 use Rattle.uug_session.specs.Engine.{EngineState, end_of}
 use Rattle.uug_conversation.specs.Holdings.{File, Kept, Holdings, to_give}
 use Rattle.uug_conversation.specs.Jobs.{Lists, pass, fail, move_first, moved, moved_once}
-use Rattle.uug_conversation.specs.Machine.{State, Reply, goes_on, on_send, send_verdict, on_request, on_hang_up, on_unread, on_order, on_given_file_done, on_last_hang_up, sends_file, on_send_yes, move_held, on_send_answer, on_sent_job_done, on_request_answer, on_hang_up_answer, on_nothing_more, on_text, file_verdict, on_sent_file, on_asked_file, on_file_of, on_file, on_whole, on_gathered, on_past_limit, on_part, gathered_with, opening, step, comes_early, unless_early, reply_to}
+use Rattle.uug_conversation.specs.Machine.{State, Reply, goes_on, on_send, send_verdict, on_request, on_hang_up, on_unread, on_order, on_given_file_done, on_last_hang_up, sends_file, on_send_yes, move_refused, on_send_answer, on_sent_job_done, on_request_answer, on_hang_up_answer, on_nothing_more, on_text, file_verdict, on_sent_file, on_asked_file, on_file_of, on_file, on_whole, on_gathered, on_past_limit, on_part, gathered_with, opening, step, comes_early, unless_early, reply_to}
 use Rattle.uug_session.specs.Node.{NodeState, effect_of, struck_jobs}
 use Rattle.uug_session.specs.NodeArriving.{NodeEnd, TakesAll, hearer_of, node_taker}
 use Rattle.uug_conversation.specs.OwnRequests.{OwnRequestEntries, none, not_asked_for, asked_for, sent, KeepsWhatItAskedFor}
@@ -125,24 +125,25 @@ after_send h Yes target mode told l = quiet h l.struck
 after_send h Never target mode told l = quiet h l.struck
 after_send h Later target mode told l = quiet h l.struck
 
-after_request : (h : Holdings) (digests : Bool) (file : Option File) (l : Lists) → KeepsIn h l.struck (on_request digests file l)
-after_request h digests None l = quiet h l.struck
-after_request h digests (Some file) l = quiet h l.struck
+after_request : (h : Holdings) (digests : Bool) (file : Option File) (delayed : Bool) (l : Lists) → KeepsIn h l.struck (on_request digests file delayed l)
+after_request h digests None false l = quiet h l.struck
+after_request h digests None true l = quiet h l.struck
+after_request h digests (Some file) delayed l = quiet h l.struck
 
 after_hang_up : (h : Holdings) (next : Option Order) (l after : Lists) → after.struck ≡ l.struck → KeepsIn h l.struck (on_hang_up h next after)
 after_hang_up h None l after same = same_then h l.struck after.struck [] [] same refl
 after_hang_up h (Some next) l after same = same_then h l.struck after.struck [] [] same refl
 
-after_unread : (h : Holdings) (lenient : Bool) (refusal : Option Answer) (l : Lists) → KeepsIn h l.struck (on_unread lenient refusal l)
-after_unread h true (Some refusal) l = quiet h l.struck
+after_unread : (h : Holdings) (lenient : Bool) (letter : Option ℕ) (l : Lists) → KeepsIn h l.struck (on_unread lenient letter l)
+after_unread h true (Some letter) l = quiet h l.struck
 after_unread h _ _ l = quiet h l.struck
 
-after_order : (h : Holdings) (refusal : Option Answer) (told : Option FileDigest) (r : Result Order BadText) (l : Lists)
-    → KeepsIn h l.struck (on_order h refusal told r l)
-after_order h refusal told (Ok (order.Send source target user temp mode)) l = after_send h (send_verdict h (h.landing source target) told) (h.landing source target) mode told l
-after_order h refusal told (Ok (order.Request source target user)) l = after_request h h.digests (to_give h source) l
-after_order h refusal told (Ok order.HangUp) l = after_hang_up h (choice h l.ahead).next l (moved (choice h l.ahead).failing l) (chosen h l)
-after_order h refusal told (Err fault) l = after_unread h h.lenient refusal l
+after_order : (h : Holdings) (letter : Option ℕ) (told : Option FileDigest) (r : Result Order BadText) (l : Lists)
+    → KeepsIn h l.struck (on_order h letter told r l)
+after_order h letter told (Ok (order.Send source target user temp mode)) l = after_send h (send_verdict h (h.landing source target) told) (h.landing source target) mode told l
+after_order h letter told (Ok (order.Request source target user)) l = after_request h h.digests (to_give h source) (h.delayed source) l
+after_order h letter told (Ok order.HangUp) l = after_hang_up h (choice h l.ahead).next l (moved (choice h l.ahead).failing l) (chosen h l)
+after_order h letter told (Err fault) l = after_unread h h.lenient letter l
 
 -- ---- answers
 
@@ -176,19 +177,18 @@ one_sent h source target user temp s after is = record {
   own = sent none;
 }
 
-after_held : (lenient : Bool) (h : Holdings) (jobs p s f : List Job)
-    → KeepsIn h s (goes_on h (moved_once (move_held lenient jobs) (lists p jobs s f)) [])
+after_held : (held : Bool) (h : Holdings) (jobs p s f : List Job)
+    → KeepsIn h s (goes_on h (moved_once (move_refused held jobs) (lists p jobs s f)) [])
 after_held true h (job.Send source target user temp ∷ jobs) p s f =
     let struck = s ++ job.Send source target user temp ∷ [] in
     one_sent h source target user temp s (moved (choice h jobs).failing (lists p jobs struck f)).struck (choice_strikes_nothing h jobs p struck f)
 after_held _ h jobs p s f = passes h (lists p jobs s f) []
 
-after_send_answer : (h : Holdings) (r : Result Answer BadText) (l : Lists) → KeepsIn h l.struck (on_send_answer h r l)
-after_send_answer h (Ok answer.SendYes) l = after_send_yes h l.ahead l
-after_send_answer h (Ok answer.SendNever) l = fails h l []
-after_send_answer h (Ok answer.SendHeld) l = after_held h.lenient h l.ahead l.passed l.struck l.failed
-after_send_answer h (Ok answer.SendLater) l = passes h l []
-after_send_answer h _ l = quiet h l.struck
+after_send_answer : (h : Holdings) (held : Bool) (r : Result Answer BadText) (l : Lists) → KeepsIn h l.struck (on_send_answer h held r l)
+after_send_answer h held (Ok answer.SendYes) l = after_send_yes h l.ahead l
+after_send_answer h held (Ok answer.SendNever) l = fails h l []
+after_send_answer h held (Ok answer.SendLater) l = after_held held h l.ahead l.passed l.struck l.failed
+after_send_answer h held _ l = quiet h l.struck
 
 after_sent_job : (h : Holdings) (jobs p s f : List Job) (r : Result Answer BadText) → KeepsIn h s (on_sent_job_done h jobs r (lists p jobs s f))
 after_sent_job h (job.Send source target user temp ∷ jobs) p s f (Ok answer.DoneYes) =
@@ -218,12 +218,12 @@ after_nothing_more h (Ok answer.HangYes) l = quiet h l.struck
 after_nothing_more h _ l = quiet h l.struck
 
 after_text : (h : Holdings) (a : Awaits) (text : List ℕ) (l : Lists) → KeepsIn h l.struck (on_text h a text l)
-after_text h awaits.Order text l = after_order h (refusal_of text) (heard h.digests (told_by_order text)) (order_of text) l
+after_text h awaits.Order text l = after_order h (refused_letter_of text) (heard h.digests (told_by_order text)) (order_of text) l
 after_text h awaits.GivenFileDone text l = after_given_file h (answer_of text) l
 after_text h awaits.LastHangUp text l = after_last_hang_up h (answer_of text) l
-after_text h awaits.SendAnswer text l = after_send_answer h (answer_of text) l
+after_text h awaits.SendAnswer text l = after_send_answer h (is_held text && h.lenient) (answer_of text) l
 after_text h awaits.SentFileDone text l = after_sent_job h l.ahead l.passed l.struck l.failed (answer_of text)
-after_text h awaits.RequestAnswer text l = after_request_answer h (heard h.digests (told_by_answer text)) (answer_of text) l
+after_text h awaits.RequestAnswer text l = after_request_answer h (heard h.digests (told_by_answer text)) (or_wished (answer_of text) h.lenient text) l
 after_text h awaits.HangUpAnswer text l = after_hang_up_answer h (answer_of text) l
 after_text h awaits.NothingMore text l = after_nothing_more h (answer_of text) l
 after_text h _ text l = quiet h l.struck

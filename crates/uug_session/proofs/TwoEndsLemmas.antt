@@ -1,36 +1,21 @@
 -- Whatever two ends do that hear each other, each stands where the conversation says.
-use Rattle.std.proofs.Common.{◌≡◌, ℕ, zero, suc, ◌+◌, ◌≤◌, List, [], ◌∷◌, ◌++◌, length, take, drop, refl, sym, ap, subst, ◌∙◌, arith}
+use Rattle.std.proofs.Common.{◌≡◌, ℕ, suc, ◌+◌, ◌≤◌, List, [], ◌∷◌, ◌++◌, length, take, drop, refl, sym, ap, subst, ◌∙◌, arith}
 use Rattle.std.proofs.lemmas.List.{append_assoc, length-append, take-append-drop}
 use Rattle.std.proofs.Math.Seq.{take-append_seam, drop-append_seam}
 use Rattle.uug_link.specs.TwoLinks.{IsFrontOf}
 use Rattle.uug_conversation.specs.DialogueState.{is_empty}
-use Rattle.uug_conversation.specs.Holdings.{Kept}
-use Rattle.uug_conversation.specs.Jobs.{Move}
 use Rattle.uug_conversation.specs.Machine.{step}
-use Rattle.uug_conversation.specs.Messages.{Message, conversation_messages}
+use Rattle.uug_conversation.specs.Messages.{conversation_messages}
 use Rattle.uug_conversation.specs.Party.{Party}
-use Rattle.uug_conversation.specs.Runs.{Progress, taking, taking_all, progress_after, progress_at, IsAt}
+use Rattle.uug_conversation.specs.Runs.{taking, progress_after, progress_at, IsAt}
 use Rattle.uug_conversation.specs.Turns.{other, all_messages}
 use Rattle.uug_conversation.specs.declared.side.Side.{Side}
 use Rattle.uug_conversation.specs.declared.side.Side.TheVariants.{Caller, Called}
 use Rattle.uug_session.specs.TwoEnds.{Talker, progress_of, Two, sends, takes, after_act, Reached, reply_taken, at_first, after, IsTold}
-use Rattle.uug_conversation.specs.View.{Seen, seen, view, conversation_view, own_messages, others_messages, floor, party}
+use Rattle.uug_conversation.specs.View.{conversation_view, own_messages, others_messages, floor, party}
 use Rattle.uug_conversation.proofs.EarlyLemmas.{when_none_waits}
-
--- ---- what one end says the other hears
-
-others_are_own_of : (me speaker : Side) (bytes : List ℕ) (moves : List Move) (keeps : List Kept) (v w : List Seen) →
-    others_messages v ≡ own_messages w →
-    others_messages (seen me speaker bytes moves keeps ∷ v) ≡ own_messages (seen (other me) speaker bytes moves keeps ∷ w)
-others_are_own_of Caller Caller bytes moves keeps v w e = e
-others_are_own_of Called Called bytes moves keeps v w e = e
-others_are_own_of Caller Called bytes moves keeps v w e = ap (λ z. bytes ∷ z) e
-others_are_own_of Called Caller bytes moves keeps v w e = ap (λ z. bytes ∷ z) e
-
-pub others_are_own : (me : Side) (ms : List Message) → others_messages (view me ms) ≡ own_messages (view (other me) ms)
-others_are_own me [] = refl
-others_are_own me (m ∷ ms) =
-    others_are_own_of me m.speaker m.bytes m.moves m.keeps (view me ms) (view (other me) ms) (others_are_own me ms)
+use Rattle.uug_conversation.proofs.FloorLemmas.{floor_back, others_are_own}
+use Rattle.uug_conversation.proofs.OneEndLemmas.{no_length, take_at_most, taking_more}
 
 -- ---- fronts
 
@@ -45,16 +30,6 @@ front_take_of n whole = (drop n whole, take-append-drop n whole)
 
 front_length : (front whole : List (List ℕ)) → IsFrontOf front whole → length front ≤ length whole
 front_length front whole f = omega (arith, ap length f.1, length-append front f.0)
-
-take_at_most : (n : ℕ) (xs : List (List ℕ)) → length (take n xs) ≤ n
-take_at_most zero xs = omega arith
-take_at_most (suc n) [] = omega arith
-take_at_most (suc n) (x ∷ xs) = omega (arith, take_at_most n xs)
-
-taking_more : (p : Party) (start : Progress) (ms : List (List ℕ)) (m : List ℕ) →
-    taking_all p start (ms ++ m ∷ []) ≡ taking p (taking_all p start ms) m
-taking_more p start [] m = refl
-taking_more p start (x ∷ ms) m = taking_more p (taking p start x) ms m
 
 -- ---- what stays true of each end
 
@@ -93,32 +68,8 @@ within_floor me a b own others follow k =
     let n = floor (length own.taken) (conversation_view me a b) in
     omega (arith, length-append own.sent own.waiting, ap length (is_at me a b own others follow k).said, take_at_most n all)
 
--- ---- an end says all that it may before the other goes on
+-- ---- nothing waits where an end takes a message
 
--- one message more in front
-floor_by : (me speaker : Side) (bytes : List ℕ) (moves : List Move) (keeps : List Kept) (v w : List Seen) →
-    ((k n : ℕ) → suc k ≤ floor n w → floor k v ≤ n) → (k n : ℕ) →
-    suc k ≤ floor n (seen (other me) speaker bytes moves keeps ∷ w) → floor k (seen me speaker bytes moves keeps ∷ v) ≤ n
-floor_by Caller Caller bytes moves keeps v w more k zero h = absurd (omega (arith, h))
-floor_by Caller Caller bytes moves keeps v w more k (suc n) h = omega (arith, more k n h)
-floor_by Called Called bytes moves keeps v w more k zero h = absurd (omega (arith, h))
-floor_by Called Called bytes moves keeps v w more k (suc n) h = omega (arith, more k n h)
-floor_by Caller Called bytes moves keeps v w more zero n h = omega arith
-floor_by Caller Called bytes moves keeps v w more (suc k) n h = more k n (omega (arith, h))
-floor_by Called Caller bytes moves keeps v w more zero n h = omega arith
-floor_by Called Caller bytes moves keeps v w more (suc k) n h = more k n (omega (arith, h))
-
--- where the other end may say one message more than k when it has taken n, those n are all that may be said before
-floor_back : (me : Side) (ms : List Message) (k n : ℕ) → suc k ≤ floor n (view (other me) ms) → floor k (view me ms) ≤ n
-floor_back me [] k n h = absurd (omega (arith, h))
-floor_back me (m ∷ ms) k n h =
-    floor_by me m.speaker m.bytes m.moves m.keeps (view me ms) (view (other me) ms) (floor_back me ms) k n h
-
-no_length : (ms : List (List ℕ)) → length ms ≤ 0 → ms ≡ []
-no_length [] h = refl
-no_length (m ∷ ms) h = absurd (omega (arith, h))
-
--- so nothing waits where an end takes a message
 none_waits : (me : Side) (a b : Party) (own others : Talker) (m : List ℕ) → AllFollow a b → Keeps me a b own others →
     Keeps (other me) a b others own → IsFrontOf (own.taken ++ m ∷ []) others.sent → own.waiting ≡ []
 none_waits me a b own others m follow k j f =

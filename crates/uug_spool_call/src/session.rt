@@ -19,7 +19,7 @@ use crate::public_files::{add_public, look_at_public};
 use crate::spool_call::{SpoolCall, paths_of};
 use crate::spool_end::SpoolEnd;
 use crate::telling::{begin_call, end_call, tell_passed_over};
-use crate::work::read_work;
+use crate::work::{names_of, read_work};
 use std::alloc::{AllocError, Allocator};
 use std::fs::File;
 use std::io::ErrorKind;
@@ -178,11 +178,14 @@ fn begin<'a, 'p, A: Allocator + Copy, R: Files<File = File> + Eprint + Alloc + C
         folders,
         anothers,
         is_closed,
+        is_unknown,
     } = listing;
     let mut public = PublicFolder {
         folders,
         barred: anothers,
         is_closed,
+        delayed: Vec::new(alloc),
+        is_unknown,
     };
     let Arrivals { came, aside } = finish_arrivals(alloc, rt, paths, &mut public)?;
     let mut work = read_work(alloc, rt, paths, &place.me, most)?;
@@ -197,6 +200,7 @@ fn begin<'a, 'p, A: Allocator + Copy, R: Files<File = File> + Eprint + Alloc + C
         files.as_slice(),
         most,
     )?;
+    public.delayed = names_of(alloc, ungiven.as_slice())?;
     work.ungiven = ungiven;
     Ok(SpoolEnd::begin(alloc, rt, call, place, paths, came, work, public)?)
 }

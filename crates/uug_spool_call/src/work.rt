@@ -306,7 +306,10 @@ pub(crate) fn note_unread<A: Allocator>(
 }
 
 /// The names of these files.
-fn names_of<A: Allocator>(alloc: A, unread: &[Unread]) -> Result<Vec<Name, A>, AllocError>
+pub(crate) fn names_of<A: Allocator>(
+    alloc: A,
+    unread: &[Unread],
+) -> Result<Vec<Name, A>, AllocError>
     ensures { IfOk result (λ names. names.items ≡ map (λ one. one.name) unread.now) }
 {
     let mut names = Vec::new(alloc);

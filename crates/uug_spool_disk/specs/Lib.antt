@@ -1,2 +1,4 @@
 pub mod Access
+pub mod Paths
+pub mod Read
 pub mod Reach

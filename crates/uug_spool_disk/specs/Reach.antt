@@ -1,7 +1,9 @@
 -- Which of the system's errors say that no file which this program may read is at a path (this project's profile).
-use Rattle.std.specs.Prelude.{Bool, true, false}
+use Rattle.std.specs.Prelude.{not, Bool, true, false}
 use Rattle.std.specs.declared.io.ErrorKind.{ErrorKind}
 use Rattle.std.specs.declared.io.ErrorKind.TheVariants as kinds
+use Rattle.uug_spool.specs.declared.spool_names.Room.{Room}
+use Rattle.uug_spool.specs.declared.spool_names.Room.TheVariants as rooms
 
 abbrev pub is_out_of_reach : ErrorKind → Bool
 is_out_of_reach kinds.NotFound = true
@@ -21,3 +23,8 @@ is_no_place kinds.ReadOnlyFilesystem = true
 is_no_place kinds.CrossesDevices = true
 is_no_place kinds.InvalidFilename = true
 is_no_place _ = false
+
+-- a C. file only takes the place of one that is still there
+abbrev pub is_absent : Room → (is_there : Bool) → Bool
+is_absent rooms.Commands is_there = not is_there
+is_absent _ is_there = false

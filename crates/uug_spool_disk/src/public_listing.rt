@@ -24,6 +24,8 @@ pub struct PublicListing<A: Allocator> {
     pub anothers: Vec<Name, A>,
     /// Tells whether this program can't put anything there.
     pub is_closed: bool,
+    /// Tells whether the system failed to list it.
+    pub is_unknown: bool,
 }
 
 /// Who owns a file, and what its mode says.
@@ -60,14 +62,22 @@ fn is_anothers(folder: Access, owner: u32, me: u32) -> bool
 }
 
 impl<A: Allocator + Copy> PublicListing<A> {
-    /// That of a folder of which nothing is known.
-    pub fn unknown(alloc: A) -> Self {
+    /// Returns that of a folder in which nothing stands.
+    pub fn empty(alloc: A) -> Self {
         PublicListing {
             files: Vec::new(alloc),
             folders: Vec::new(alloc),
             anothers: Vec::new(alloc),
             is_closed: false,
+            is_unknown: false,
         }
+    }
+
+    /// Returns that of a folder that the system failed to list.
+    pub fn unknown(alloc: A) -> Self {
+        let mut listing = PublicListing::empty(alloc);
+        listing.is_unknown = true;
+        listing
     }
 
     /// Adds the name of an entry, if a session can say it. One that is gone by now is none.
@@ -105,7 +115,7 @@ pub fn list_public<A: Allocator + Copy, R: Files + Alloc + Clone + Drop>(
 {
     match read_listing(alloc, rt, paths.public()) {
         Ok(listing) => Ok(listing),
-        Err(error) if error.kind() == ErrorKind::NotFound => Ok(PublicListing::unknown(alloc)),
+        Err(error) if error.kind() == ErrorKind::NotFound => Ok(PublicListing::empty(alloc)),
         Err(error) => Err(RunFault::of(&error, paths.end_dir(), Resource::Dir)),
     }
 }
@@ -118,7 +128,7 @@ fn read_listing<A: Allocator + Copy, R: Files + Alloc + Clone + Drop>(
 ) -> io::Result<PublicListing<A>> {
     let folder = Access::of(&fs::metadata(rt, path)?);
     let me = user_of(rt);
-    let mut listing = PublicListing::unknown(alloc);
+    let mut listing = PublicListing::empty(alloc);
     listing.is_closed = is_closed(folder, me);
     for entry in fs::read_dir(rt, path)? {
         match entry {

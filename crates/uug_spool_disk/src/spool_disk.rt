@@ -1,9 +1,11 @@
 //! What is done to the folders of a spool on a disk.
-ghost use Rattle.std.specs.Prelude.{◌≡◌, ◌≢◌, ◌<◌, ◌≤◌, IsSome, None, Ok, OnErr, OnOk};
+ghost use Rattle.std.specs.IoError.{error_kind};
+ghost use Rattle.std.specs.Prelude.{◌≡◌, ◌≢◌, ◌<◌, ◌≤◌, true, IfErr, IsErr, IsOk, IsSome, None, Ok, OnErr, OnOk};
 ghost use Rattle.uug_spool.specs.SpoolNames.{spot_of};
 ghost use Rattle.uug_spool.specs.declared.spool_names.Room.TheVariants as rooms;
 ghost use Rattle.uug_spool.specs.declared.spool_names.Spot.{Spot};
 ghost use Rattle.uug_spool.specs.Operations.{HasFault};
+ghost use Rattle.uug_spool_disk.specs.Reach.{is_absent};
 
 use crate::call_files::is_named_pipe;
 use crate::spool_files::is_found;
@@ -193,8 +195,12 @@ impl<R: Files<File = File>, A: Allocator + Copy> Disk for SpoolDisk<'_, '_, R, A
     }
 }
 
-/// The answer, where it is no fault that there is no such file.
-fn unless_gone(answer: io::Result<()>) -> io::Result<()> {
+/// Returns the answer, where it is no fault that there is no such file.
+fn unless_gone(answer: io::Result<()>) -> io::Result<()>
+    ensures done { OnOk answer (IsOk result) }
+    ensures gone { IfErr answer (λ error. error_kind error ≡ ErrorKind.NotFound → IsOk result) }
+    ensures failed { IfErr answer (λ error. error_kind error ≢ ErrorKind.NotFound → IsErr result) }
+{
     match answer {
         Err(error) if error.kind() == ErrorKind::NotFound => Ok(()),
         answer => answer,
@@ -293,11 +299,29 @@ fn move_file<A: Allocator + Copy, R: Files>(
 ) -> io::Result<()> {
     let source = paths.file(alloc, from)?;
     let target = paths.file(alloc, to)?;
-    if to.room == Room::Commands && !is_found(fs::symlink_metadata(rt, target.as_str()))? {
-        return fs::remove_file(rt, source.as_str());
+    if to.room == Room::Commands {
+        let is_there = is_found(fs::symlink_metadata(rt, target.as_str()))?;
+        if is_absent(to.room, is_there) {
+            return drop_late(rt, source.as_str(), to.room, is_there);
+        }
     }
     move_path(alloc, rt, paths, to.room, source.as_str(), target.as_str())?;
     see_below(rt, to, target.as_str())
+}
+
+/// Returns whether a file comes too late for its place in this room: a C. file does where none is there any more.
+fn is_absent(room: Room, is_there: bool) -> bool
+    ensures { result ≡ is_absent room is_there }
+{
+    room == Room::Commands && !is_there
+}
+
+/// Takes a file away that comes too late for its place.
+fn drop_late<R: Files>(rt: &R, source: &str, room: Room, is_there: bool) -> io::Result<()>
+    requires { is_absent room is_there ≡ true }
+{
+    let _ = (room, is_there);
+    fs::remove_file(rt, source)
 }
 
 /// Gives the file at a path another one, in this room, whose folder is made if it lacks.

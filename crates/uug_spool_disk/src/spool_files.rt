@@ -1,7 +1,9 @@
 //! What stands in the folders of a spool.
-ghost use Rattle.std.specs.Prelude.{◌<◌, ◌≡◌, ◌≢◌, ◌≤◌, false, true, Err, IfErr, IfOk, IfSome, IsErr, None, Ok, Some, length};
+ghost use Rattle.std.specs.Fs.{IsSymlink, file_type};
 ghost use Rattle.std.specs.IoError.{error_kind};
+ghost use Rattle.std.specs.Prelude.{◌<◌, ◌≡◌, ◌≢◌, ◌≤◌, ◌↔◌, false, true, Err, IfErr, IfOk, IfSome, IsErr, IsTrue, None, Ok, Some, length};
 ghost use Rattle.uug_failure.specs.Faults.{IsFolderFault};
+ghost use Rattle.uug_spool_disk.specs.Read.{MayAllRead};
 ghost use Rattle.uug_spool_disk.specs.Reach.{is_no_place, is_out_of_reach};
 
 use crate::spool_paths::SpoolPaths;
@@ -269,7 +271,12 @@ pub fn linked_room<A: Allocator + Copy, R: Files>(
 }
 
 /// Returns whether what was looked at is a link. What is not there is none.
-fn is_link(seen: io::Result<Metadata>) -> io::Result<bool> {
+fn is_link(seen: io::Result<Metadata>) -> io::Result<bool>
+    ensures seen { IfOk seen (λ seen. IfOk result (λ is_link.
+        IsTrue is_link ↔ IsSymlink (file_type seen))) }
+    ensures gone { IfErr seen (λ error. error_kind error ≡ ErrorKind.NotFound → result ≡ Ok false) }
+    ensures failed { IfErr seen (λ error. error_kind error ≢ ErrorKind.NotFound → IsErr result) }
+{
     match seen {
         Ok(seen) => Ok(seen.is_symlink()),
         Err(error) if error.kind() == ErrorKind::NotFound => Ok(false),
@@ -317,12 +324,27 @@ fn read_plain<A: Allocator, R: Files<File = File>>(
     }
 }
 
-/// Opens a regular file that everybody may read. What another one has put in its place meanwhile, as a link, is none.
+/// Opens a regular file that everybody may read.
 fn open_plain<R: Files<File = File>>(rt: &R, path: &str) -> io::Result<Option<File>> {
     let seen = fs::symlink_metadata(rt, path)?;
-    if !seen.is_file() || seen.mode() & ALL_MAY_READ == 0 {
-        return Ok(None);
+    if is_readable_by_all(&seen) {
+        open_seen(rt, path, &seen)
+    } else {
+        Ok(None)
     }
+}
+
+/// Returns whether what was looked at is a regular file that everybody may read.
+fn is_readable_by_all(seen: &Metadata) -> bool
+    ensures { IsTrue result ↔ MayAllRead seen.now }
+{
+    seen.is_file() && seen.mode() & ALL_MAY_READ != 0
+}
+
+/// Opens a file that everybody may read, as it was looked at. What another one has put in its place meanwhile, as a link, is none.
+fn open_seen<R: Files<File = File>>(rt: &R, path: &str, seen: &Metadata) -> io::Result<Option<File>>
+    requires { MayAllRead seen.now }
+{
     let file = File::open(rt, path)?;
     let opened = file.metadata()?;
     if opened.dev() == seen.dev() && opened.ino() == seen.ino() {
@@ -379,7 +401,7 @@ fn read_regular<A: Allocator, R: Files>(
     }
 }
 
-/// All that comes from a reader, unless it is more than so many bytes.
+/// Returns all that comes from a reader, unless it is more than so many bytes.
 fn read_within<A: Allocator, R: Read + Drop>(
     alloc: A,
     reader: R,

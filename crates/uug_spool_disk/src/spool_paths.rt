@@ -1,5 +1,6 @@
 //! Where the folders of a spool are.
 ghost use Rattle.std.specs.Prelude.{◌≡◌, IfOk, string_bytes};
+ghost use Rattle.uug_spool_disk.specs.Paths.{file_path, room_path};
 
 use std::alloc::{AllocError, Allocator};
 use uug_failure::EndDir;
@@ -59,38 +60,44 @@ impl<A: Allocator> SpoolPaths<A> {
         }
     }
 
-    /// The path of a room.
-    pub(crate) fn room<B: Allocator>(&self, alloc: B, room: Room) -> Result<String<B>, AllocError> {
+    /// Returns the path of a room.
+    pub(crate) fn room<B: Allocator>(&self, alloc: B, room: Room) -> Result<String<B>, AllocError>
+        ensures { IfOk result (λ path. string_bytes path ≡ room_path self.now room) }
+    {
         let spool = self.spool.as_str();
         let system = self.system.as_str();
-        match room {
-            Room::Commands => format!(in alloc; "{spool}/{system}/C."),
-            Room::Data => format!(in alloc; "{spool}/{system}/D."),
-            Room::Text => format!(in alloc; "{spool}/{system}/D.X"),
-            Room::Execution => format!(in alloc; "{spool}/{system}/X."),
-            Room::Public => String::from_str(alloc, self.public.as_str()),
-            Room::Temporary => format!(in alloc; "{spool}/.Temp/{system}"),
-            Room::Marked => format!(in alloc; "{spool}/.Received/{system}"),
-            Room::Preserved => format!(in alloc; "{spool}/.Preserve"),
-        }
+        let path = match room {
+            Room::Commands => format!(in alloc; "{spool}/{system}/C.")?,
+            Room::Data => format!(in alloc; "{spool}/{system}/D.")?,
+            Room::Text => format!(in alloc; "{spool}/{system}/D.X")?,
+            Room::Execution => format!(in alloc; "{spool}/{system}/X.")?,
+            Room::Public => String::from_str(alloc, self.public.as_str())?,
+            Room::Temporary => format!(in alloc; "{spool}/.Temp/{system}")?,
+            Room::Marked => format!(in alloc; "{spool}/.Received/{system}")?,
+            Room::Preserved => format!(in alloc; "{spool}/.Preserve")?,
+        };
+        Ok(path)
     }
 
-    /// The path of a file.
+    /// Returns the path of a file.
     pub(crate) fn file<B: Allocator + Copy>(
         &self,
         alloc: B,
         spot: &Spot,
-    ) -> Result<String<B>, AllocError> {
+    ) -> Result<String<B>, AllocError>
+        ensures { IfOk result (λ path. string_bytes path ≡ file_path self.now spot.now) }
+    {
         let room = self.room(alloc, spot.room)?;
         let front = room.as_str();
         let name = spot.name.as_str();
-        match spot.room {
+        let path = match spot.room {
             Room::Preserved => {
                 // All systems have one folder there, and data of the same names.
                 let system = self.system.as_str();
-                format!(in alloc; "{front}/{system}.{name}")
+                format!(in alloc; "{front}/{system}.{name}")?
             }
-            _ => format!(in alloc; "{front}/{name}"),
-        }
+            _ => format!(in alloc; "{front}/{name}")?,
+        };
+        Ok(path)
     }
 }

@@ -29,6 +29,8 @@ fn public(rt: &impl Abort, alloc: Global) -> PublicFolder<Global> {
         folders,
         barred,
         is_closed: false,
+        delayed: Vec::new(alloc),
+        is_unknown: false,
     }
 }
 

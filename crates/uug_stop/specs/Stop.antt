@@ -1,5 +1,5 @@
 -- How the program ends (this project's profile).
-use Rattle.std.specs.Prelude.{◌≡◌, ◌==◌, ℕ, List, [], codes, if◌then◌else◌, None, Option, Some, Result, Ok, Err, IsErrAnd, string_bytes}
+use Rattle.std.specs.Prelude.{◌≡◌, ◌==◌, ℕ, Bool, true, false, List, [], codes, if◌then◌else◌, None, Option, Some, Result, Ok, Err, IsErrAnd, string_bytes}
 use Rattle.uug_stream.specs.Fault.{status_of}
 use Rattle.uug_stream.specs.declared.fault.ToolFault.{ToolFault}
 use Rattle.uug_stream.specs.declared.fault.ToolFault.TheVariants.{Device, InUse, Jobs, Memory, Read, Script, Usage, Write}
@@ -55,6 +55,10 @@ HasLine fault line (File name reason) = ⊥
 HasLine fault line (stops.InUse name) = ⊥
 HasLine fault line (CommandLine error) = ⊥
 
+-- the fault, and no line that says why
+abbrev pub SaysFault : ToolFault → Stop → Type 0
+SaysFault fault stop = HasLine fault [] stop
+
 -- why a file of this name can't be read, as a line, where it is known
 abbrev pub why_not_read : (path : List ℕ) → (why : Option SystemFailure) → List ℕ
 why_not_read path (Some failure) = reason_line (places path [] [] []) failure
@@ -101,11 +105,7 @@ SaysTooMuch (CommandLine error) = ⊥
 
 abbrev pub StopsOnDrawing : ToolFault → Stop → Type 0
 StopsOnDrawing Usage stop = SaysTooMuch stop
-StopsOnDrawing fault stop = stop ≡ Fault fault
-
-abbrev pub StopsOnDrawingFile : (path : List ℕ) → (why : Option SystemFailure) → ToolFault → Stop → Type 0
-StopsOnDrawingFile path why Read stop = NamesFile path why stop
-StopsOnDrawingFile path why fault stop = StopsOnDrawing fault stop
+StopsOnDrawing fault stop = SaysFault fault stop
 
 -- the folder or the line of this name is named, unless there was no memory for that
 abbrev pub NamesFolder : (dir : List ℕ) → Stop → Type 0
@@ -143,10 +143,20 @@ SaysUsage IsWrong (stops.InUse name) = ⊥
 SaysUsage IsWrong (Told f line) = ⊥
 SaysUsage IsWrong (CommandLine error) = ⊥
 
+-- of two ends it is said what is wrong with a line of jobs, and else the same as of one
+abbrev pub StopsOnLoudPair : PairTask → (why : Option SystemFailure) → ToolFault → (remark : List ℕ) → Stop → Type 0
+StopsOnLoudPair pair why (Jobs line) remark stop = HasLine (Jobs line) remark stop
+StopsOnLoudPair pair why fault remark stop = StopsOnFolders pair.socket.now pair.dir_a.now pair.dir_b.now why fault stop
+
+-- that, or no more than the fault
+abbrev pub StopsOnPairBy : (is_loud : Bool) → PairTask → (why : Option SystemFailure) → ToolFault → (remark : List ℕ) → Stop → Type 0
+StopsOnPairBy true pair why fault remark stop = StopsOnLoudPair pair why fault remark stop
+StopsOnPairBy false pair why fault remark stop = SaysFault fault stop
+
+-- what is wrong with their usage is always said, and that where it is asked for
 abbrev pub StopsOnPair : PairTask → (why : Option SystemFailure) → ToolFault → (remark : List ℕ) → Stop → Type 0
 StopsOnPair pair why Usage remark stop = SaysUsage (λ said. said ≡ pair_words pair.drop_every pair.flip_every) stop
-StopsOnPair pair why (Jobs line) remark stop = HasLine (Jobs line) remark stop
-StopsOnPair pair why fault remark stop = StopsOnFolders pair.socket.now pair.dir_a.now pair.dir_b.now why fault stop
+StopsOnPair pair why fault remark stop = StopsOnPairBy pair.is_loud pair why fault remark stop
 
 -- Of one end it is said what is wrong with its task, or with a line of its jobs, the line is named that another run holds, and else
 -- the same.
@@ -164,15 +174,15 @@ StopsOnQueue dir file why Usage remark stop = HasRemark Usage remark stop
 StopsOnQueue dir file (Some failure) Device remark stop = SaysReason (reason_line (places [] [] dir dir) failure) stop
 StopsOnQueue dir file why fault remark stop = stop ≡ Fault fault
 
+-- `scan`, `play` and `pair` say no more than the fault where nothing more is asked for
 abbrev pub StopsAs : Task → ToolFault → (remark : List ℕ) → (why : Option SystemFailure) → Stop → Type 0
-StopsAs (Scan (Some path)) fault remark why stop = StopsOnFile path.now why fault stop
+StopsAs (Scan file) fault remark why stop = SaysFault fault stop
 StopsAs (ScanVerbose (Some path)) fault remark why stop = StopsOnFile path.now why fault stop
-StopsAs (Play (Some path)) fault remark why stop = StopsOnFile path.now why fault stop
-StopsAs (PlaySettled (Some path)) fault remark why stop = StopsOnFile path.now why fault stop
+StopsAs (Play file) fault remark why stop = SaysFault fault stop
+StopsAs (PlaySettled file) fault remark why stop = SaysFault fault stop
 StopsAs (PlayVerbose None) fault remark why stop = StopsOnScript fault remark stop
 StopsAs (PlayVerbose (Some path)) fault remark why stop = StopsOnScriptFile path.now why fault remark stop
-StopsAs (PlayDrawn how None) fault remark why stop = StopsOnDrawing fault stop
-StopsAs (PlayDrawn how (Some path)) fault remark why stop = StopsOnDrawingFile path.now why fault stop
+StopsAs (PlayDrawn how file) fault remark why stop = StopsOnDrawing fault stop
 StopsAs (Pair pair) fault remark why stop = StopsOnPair pair why fault remark stop
 StopsAs (Call call) fault remark why stop = StopsOnEnd call why fault remark stop
 StopsAs (Queue queue) fault remark why stop = StopsOnQueue queue.dir.now (word_or_empty queue.file) why fault remark stop

@@ -4,10 +4,8 @@ ghost use Rattle.uug_reason.specs.Reasons.{places, reason_line};
 ghost use Rattle.uug_stop.specs.Stop.{EndsSo, SaysReason, SaysStream, StopsAs, status_of_stop};
 
 use crate::of_end::{stop_of_end, stop_of_pair, stop_of_queue};
-use crate::of_input::{
-    stop_of_drawing, stop_of_drawing_file, stop_of_file, stop_of_script, stop_of_script_file,
-};
-use crate::said::says_reason;
+use crate::of_input::{stop_of_drawing, stop_of_file, stop_of_script, stop_of_script_file};
+use crate::said::{says_fault, says_reason};
 use crate::stop::Stop;
 use std::alloc::Global;
 use uug_failure::SystemFailure;
@@ -26,13 +24,10 @@ fn stop_of(
     ensures { StopsAs task.entry fault (string_bytes remark) why result }
 {
     match task {
-        Task::Scan(Some(path))
-        | Task::ScanVerbose(Some(path))
-        | Task::Play(Some(path))
-        | Task::PlaySettled(Some(path)) => stop_of_file(alloc, path, fault, why),
+        Task::Scan(_) | Task::Play(_) | Task::PlaySettled(_) => says_fault(alloc, fault),
+        Task::ScanVerbose(Some(path)) => stop_of_file(alloc, path, fault, why),
         Task::PlayVerbose(None) => stop_of_script(fault, remark),
-        Task::PlayDrawn(_, None) => stop_of_drawing(alloc, fault),
-        Task::PlayDrawn(_, Some(path)) => stop_of_drawing_file(alloc, path, fault, why),
+        Task::PlayDrawn(_, _) => stop_of_drawing(alloc, fault),
         Task::PlayVerbose(Some(path)) => stop_of_script_file(alloc, path, fault, remark, why),
         Task::Pair(pair) => stop_of_pair(alloc, &pair, fault, remark, why),
         Task::Call(call) => stop_of_end(alloc, &call, fault, remark, why),

@@ -1,10 +1,10 @@
 //! Why one end or both gave up, and why nothing was queued.
 ghost use Rattle.std.specs.Prelude.{◌≡◌, string_bytes};
 ghost use Rattle.uug_disk.specs.Queued.{word_or_empty};
-ghost use Rattle.uug_stop.specs.Stop.{StopsOnCause, StopsOnEnd, StopsOnFolders, StopsOnPair, StopsOnQueue, output_of};
+ghost use Rattle.uug_stop.specs.Stop.{StopsOnCause, StopsOnEnd, StopsOnFolders, StopsOnLoudPair, StopsOnPair, StopsOnPairBy, StopsOnQueue, output_of};
 ghost use Rattle.uug_stop.specs.declared.of_end.TheConstants.{LOG};
 
-use crate::said::{names_file, names_folder, says_reason, says_usage};
+use crate::said::{names_file, names_folder, says_fault, says_reason, says_usage};
 use crate::stop::Stop;
 use std::alloc::Global;
 use uug_failure::{Cause, SystemFailure};
@@ -44,7 +44,7 @@ fn stop_of_folders(
     }
 }
 
-/// Why two ends gave up: what is wrong with their usage is said, and with a line of jobs.
+/// Says why two ends gave up: what is wrong with their usage always, and the rest with `-v`.
 pub(crate) fn stop_of_pair(
     alloc: Global,
     pair: &PairTask<'_>,
@@ -56,6 +56,38 @@ pub(crate) fn stop_of_pair(
 {
     match fault {
         ToolFault::Usage => says_usage(pair_remark(alloc, pair.drop_every, pair.flip_every)),
+        fault => stop_of_pair_by(alloc, pair, fault, remark, why),
+    }
+}
+
+/// Says why two ends gave up whose usage is right: only the fault without `-v`.
+fn stop_of_pair_by(
+    alloc: Global,
+    pair: &PairTask<'_>,
+    fault: ToolFault,
+    remark: String,
+    why: Option<SystemFailure>,
+) -> Stop
+    ensures { StopsOnPairBy pair.now.is_loud pair.now why fault (string_bytes remark) result }
+{
+    if pair.is_loud {
+        stop_of_loud_pair(alloc, pair, fault, remark, why)
+    } else {
+        says_fault(alloc, fault)
+    }
+}
+
+/// Says what is wrong with a line of jobs, or which call of the system failed.
+fn stop_of_loud_pair(
+    alloc: Global,
+    pair: &PairTask<'_>,
+    fault: ToolFault,
+    remark: String,
+    why: Option<SystemFailure>,
+) -> Stop
+    ensures { StopsOnLoudPair pair.now why fault (string_bytes remark) result }
+{
+    match fault {
         ToolFault::Jobs(_) => Stop::Told(fault, remark),
         fault => stop_of_folders(alloc, pair.socket, pair.dir_a, pair.dir_b, fault, why),
     }

@@ -1,8 +1,8 @@
 //! Why a task with an input gave up.
 ghost use Rattle.std.specs.Prelude.{string_bytes};
-ghost use Rattle.uug_stop.specs.Stop.{StopsOnDrawing, StopsOnDrawingFile, StopsOnFile, StopsOnScript, StopsOnScriptFile};
+ghost use Rattle.uug_stop.specs.Stop.{StopsOnDrawing, StopsOnFile, StopsOnScript, StopsOnScriptFile};
 
-use crate::said::{names_file, says_too_much};
+use crate::said::{names_file, says_fault, says_too_much};
 use crate::stop::Stop;
 use std::alloc::Global;
 use uug_failure::SystemFailure;
@@ -14,22 +14,7 @@ pub(crate) fn stop_of_drawing(alloc: Global, fault: ToolFault) -> Stop
 {
     match fault {
         ToolFault::Usage => says_too_much(alloc),
-        fault => Stop::Fault(fault),
-    }
-}
-
-/// The same of the script in the file of this name.
-pub(crate) fn stop_of_drawing_file(
-    alloc: Global,
-    path: &str,
-    fault: ToolFault,
-    why: Option<SystemFailure>,
-) -> Stop
-    ensures { StopsOnDrawingFile path.now why fault result }
-{
-    match fault {
-        ToolFault::Read => names_file(alloc, path, why),
-        fault => stop_of_drawing(alloc, fault),
+        fault => says_fault(alloc, fault),
     }
 }
 

@@ -1,6 +1,6 @@
 //! What is said where the program ends before its task is done, where there is memory to say so.
 ghost use Rattle.std.specs.Prelude.{◌≡◌, IfOk, MatchResult, string_bytes};
-ghost use Rattle.uug_stop.specs.Stop.{NamesFile, NamesFileFor, NamesFolder, SaysTooMuch, why_not_read};
+ghost use Rattle.uug_stop.specs.Stop.{NamesFile, NamesFileFor, NamesFolder, SaysFault, SaysTooMuch, why_not_read};
 
 use crate::stop::Stop;
 use std::alloc::{AllocError, Global};
@@ -19,6 +19,13 @@ pub(crate) fn says_too_much(alloc: Global) -> Stop
         Ok(remark) => Stop::Remarked(ToolFault::Usage, remark),
         Err(_) => Stop::Fault(ToolFault::Memory),
     }
+}
+
+/// Says the fault, and not why.
+pub(crate) fn says_fault(alloc: Global, fault: ToolFault) -> Stop
+    ensures { SaysFault fault result }
+{
+    Stop::Told(fault, String::new(alloc))
 }
 
 /// That a call of the system failed, as this line says, where there was memory for it.

@@ -23,7 +23,7 @@ pub enum Stop {
     /// Another run works in the folder of this name, or holds the line of this name.
     #[error("uucpair: device fault\nuucpair: {0} is in use\n")]
     InUse(String),
-    /// A fault, and a line that says where and why, if it is known.
+    /// Says a fault, and where and why, if that is known and asked for.
     #[error("uucpair: {0}\n{1}")]
     Told(ToolFault, String),
     /// The command line asks for no task: the usage, or the help where it was asked for.

@@ -14,6 +14,7 @@ use uug_disk::{
 use uug_failure::{EndText, RunFault, SystemFailure};
 use uug_folder::{FolderSpool, JobsFile, LocalNames, first_jobs};
 use uug_session::{Place, Spool, Stored};
+use uug_talk::Name;
 use uug_task::{CallTask, EndParts};
 use uug_transfer::TransferEnd;
 
@@ -96,13 +97,18 @@ fn make_parts<'a, A: Allocator + Copy, R: Files + Alloc + Clone + Drop>(
     ensures lenient { IfOk result (λ parts. parts.spool.lenient ≡ task.now.is_lenient) }
     ensures digests { IfOk result (λ parts. parts.spool.digests ≡ task.now.tells_digests) }
     ensures files { IfOk result (λ parts. parts.spool.files.files ≡ given.files.items) }
+    ensures delayed { IfOk result (λ parts. parts.spool.delayed ≡ given.delayed.items) }
     ensures number { IfOk result (λ parts. parts.number.file.faults.count ≡ 0) }
 {
     let OpenJobs { file, queue: all } = jobs;
-    let Given { files, offered } = given;
+    let Given {
+        files,
+        offered,
+        delayed,
+    } = given;
     let queue = first_jobs(alloc, all.pending(), offered)?;
     let number = SystemText::new(alloc, rt, task.end_dir(), EndText::Number)?;
-    let spool = make_spool(alloc, rt, task, files)?;
+    let spool = make_spool(alloc, rt, task, files, delayed)?;
     let JobsFile { file, before } = file;
     Ok(EndParts {
         place,
@@ -116,20 +122,23 @@ fn make_parts<'a, A: Allocator + Copy, R: Files + Alloc + Clone + Drop>(
     })
 }
 
-/// The spool over the folder of the task, with these files to give.
+/// Returns the spool over the folder of the task, with these files to give, and others that it may give later.
 fn make_spool<'a, A: Allocator + Copy, R: Files + Alloc + Clone + Drop>(
     alloc: A,
     rt: &'a R,
     task: &CallTask<'a>,
     files: Vec<Stored<A>, A>,
+    delayed: Vec<Name, A>,
 ) -> Result<SystemSpool<'a, R, A>, AllocError>
     ensures lenient { IfOk result (λ spool. spool.lenient ≡ task.now.is_lenient) }
     ensures digests { IfOk result (λ spool. spool.digests ≡ task.now.tells_digests) }
     ensures files { IfOk result (λ spool. spool.files.files ≡ files.items) }
+    ensures delayed { IfOk result (λ spool. spool.delayed ≡ delayed.items) }
 {
     let folder = SystemFolder::looking(alloc, rt, task.end_dir())?;
     let files = FolderSpool::new(alloc, files, folder);
     let mut spool = LocalNames::new(alloc, files);
+    spool.set_delayed(delayed);
     spool.set_lenient(task.is_lenient);
     spool.set_digests(task.tells_digests);
     Ok(spool)

@@ -2,7 +2,7 @@
 use Rattle.std.proofs.Common.{◌≡◌, ◌==◌, ◌&&◌, inl, inr, ℕ, ◌≤◌, true, List, [], ◌∷◌, length, nat_lt, Result, Ok, Err, IfOk, refl, sym, ap, subst, ◌∙◌, arith}
 use Rattle.std.proofs.lemmas.Bool.Decides.{nat_tests}
 use Rattle.uug_talk.specs.declared.answer.Answer.{Answer}
-use Rattle.uug_talk.specs.declared.answer.Answer.TheVariants.{SendYes, SendNever, SendHeld, SendLater, GiveYes, GiveNever, GiveLater, DoneYes, DoneYesMaster, DoneNever, DoneLater, HangYes, HangNo, WorkNo, RunNever}
+use Rattle.uug_talk.specs.declared.answer.Answer.TheVariants.{SendYes, SendNever, SendLater, GiveYes, GiveNever, GiveLater, DoneYes, DoneYesMaster, DoneNever, DoneLater, HangYes, HangNo}
 use Rattle.uug_talk.specs.declared.error.BadText.{BadText}
 use Rattle.uug_talk.specs.declared.error.BadText.TheVariants as fault
 use Rattle.uug_talk.specs.declared.words.TheConstants.{COMMAND_MAX}
@@ -32,11 +32,7 @@ not_third ws x y z behind more e n cs k = n (cs, more, e ∙ ap (λ b. (x ∷ y 
 pub answer-only : (ws : List (List ℕ)) (answer : Answer) → SpellsAnswer ws answer → answer_of_words ws ≡ Ok answer
 answer-only ws SendYes (behind, more, e) = ap answer_of_words e
 answer-only ws SendNever (behind, more, e) = ap answer_of_words e
-answer-only ws SendHeld (behind, more, e) = ap answer_of_words e
-answer-only ws SendLater ((behind, more, e), n, m) =
-    ap answer_of_words e
-    ∙ ap Ok (third-other behind 50 SendNever (third behind 56 SendHeld SendLater) (not_third ws 83 78 50 behind more e n))
-    ∙ ap Ok (third-other behind 56 SendHeld SendLater (not_third ws 83 78 56 behind more e m))
+answer-only ws SendLater ((behind, more, e), n) = ap answer_of_words e ∙ ap Ok (third-other behind 50 SendNever SendLater (not_third ws 83 78 50 behind more e n))
 answer-only ws (GiveYes mode) ((behind, more, e), g) =
     let gives : GivesMode ((82 ∷ 89 ∷ behind) ∷ more) mode = subst (λ w. GivesMode w mode) e g in
     ap answer_of_words e ∙ ap (λ r. r >>= (λ m. Ok (GiveYes m))) (given_mode-of (82 ∷ 89 ∷ behind) more mode gives)
@@ -48,8 +44,6 @@ answer-only ws DoneNever (behind, more, e) = ap answer_of_words e
 answer-only ws DoneLater ((behind, more, e), n) = ap answer_of_words e ∙ ap Ok (third-other behind 53 DoneNever DoneLater (not_third ws 67 78 53 behind more e n))
 answer-only ws HangYes (behind, more, e) = ap answer_of_words e
 answer-only ws HangNo (behind, more, e) = ap answer_of_words e
-answer-only ws WorkNo (behind, more, e) = ap answer_of_words e
-answer-only ws RunNever (behind, more, e) = ap answer_of_words e
 
 pub answer_of-spelled : (text : List ℕ) (answer : Answer) → ReadsAnswer text answer → answer_of text ≡ Ok answer
 answer_of-spelled text answer h =
@@ -82,26 +76,6 @@ module _ (x y z : ℕ) (same other : Answer)
         | inr u ↦ subst (SpellsAnswer ((a ∷ b ∷ c ∷ cs) ∷ more)) u.1 (two _ (begins_two a b x y (c ∷ cs) more t) (λ s. absurd (let e = s.2 in let k : c ≡ z = cc in grind (arith, nat_tests, u.0))))
       ]
 
--- SN, by the letter behind it
-spells_send_no : (a b : ℕ) (behind : List ℕ) (more : List (List ℕ)) → ((a == 83) && (b == 78)) ≡ true
-    → SpellsAnswer ((a ∷ b ∷ behind) ∷ more) (third behind 50 SendNever (third behind 56 SendHeld SendLater))
-spells_send_no a b [] more t = (begins_two a b 83 78 [] more t, λ s. absurd (let e = s.2 in cc), λ s. absurd (let e = s.2 in cc))
-spells_send_no a b (c ∷ cs) more t =
-    let p : a ≡ 83 = grind (arith, nat_tests) in
-    let q : b ≡ 78 = grind (arith, nat_tests) in
-    let ws : List (List ℕ) = (a ∷ b ∷ c ∷ cs) ∷ more in
-    elim (chosen (c == 50) SendNever (third (c ∷ cs) 56 SendHeld SendLater) (third (c ∷ cs) 50 SendNever (third (c ∷ cs) 56 SendHeld SendLater)) refl) [
-      | inl u ↦ (let k : c ≡ 50 = grind (arith, nat_tests, u.0) in subst (SpellsAnswer ws) u.1 (cs, more, cc))
-      | inr u ↦ subst (SpellsAnswer ws) u.1 (elim (chosen (c == 56) SendHeld SendLater (third (c ∷ cs) 56 SendHeld SendLater) refl) [
-        | inl v ↦ (let k : c ≡ 56 = grind (arith, nat_tests, v.0) in subst (SpellsAnswer ws) v.1 (cs, more, cc))
-        | inr v ↦ subst (SpellsAnswer ws) v.1 (
-          begins_two a b 83 78 (c ∷ cs) more t,
-          λ s. absurd (let e = s.2 in let k : c ≡ 50 = cc in grind (arith, nat_tests, u.0)),
-          λ s. absurd (let e = s.2 in let k : c ≡ 56 = cc in grind (arith, nat_tests, v.0)),
-        )
-      ])
-    ]
-
 gives_mode : (first : List ℕ) (more : List (List ℕ)) (mode : ℕ) → given_mode more ≡ Ok mode → GivesMode (first ∷ more) mode
 gives_mode first [] mode e = cc
 gives_mode first (word ∷ more) mode e = mode_from_read word mode e
@@ -110,16 +84,14 @@ spells_by : (a b : ℕ) (behind : List ℕ) (more : List (List ℕ)) (answer : A
 spells_by a b behind more answer e =
     let ws = (a ∷ b ∷ behind) ∷ more in
     by_test e (λ t e. as_answer ws _ answer (begins_two a b 83 89 behind more t) e) (λ _ e.
-    by_test e (λ t e. as_answer ws _ answer (spells_send_no a b behind more t) e) (λ _ e.
+    by_test e (λ t e. as_answer ws _ answer (spells_third 83 78 50 SendNever SendLater (λ _ s. s) (λ _ s n. (s, n)) a b behind more t) e) (λ _ e.
     by_test e (λ t e. let m = bind_ok (given_mode more) _ answer e in as_answer ws (GiveYes m.0) answer (begins_two a b 82 89 behind more t, gives_mode (a ∷ b ∷ behind) more m.0 m.1) m.2) (λ _ e.
     by_test e (λ t e. as_answer ws _ answer (spells_third 82 78 50 GiveNever GiveLater (λ _ s. s) (λ _ s n. (s, n)) a b behind more t) e) (λ _ e.
     by_test e (λ t e. as_answer ws _ answer (spells_third 67 89 77 DoneYesMaster DoneYes (λ _ s. s) (λ _ s n. (s, n)) a b behind more t) e) (λ _ e.
     by_test e (λ t e. as_answer ws _ answer (spells_third 67 78 53 DoneNever DoneLater (λ _ s. s) (λ _ s n. (s, n)) a b behind more t) e) (λ _ e.
     by_test e (λ t e. as_answer ws _ answer (begins_two a b 72 89 behind more t) e) (λ _ e.
     by_test e (λ t e. as_answer ws _ answer (begins_two a b 72 78 behind more t) e) (λ _ e.
-    by_test e (λ t e. as_answer ws _ answer (begins_two a b 88 78 behind more t) e) (λ _ e.
-    by_test e (λ t e. as_answer ws _ answer (begins_two a b 69 78 behind more t) e) (λ _ e.
-    absurd cc))))))))))
+    absurd cc))))))))
 
 spells_read : (ws : List (List ℕ)) (answer : Answer) → answer_of_words ws ≡ Ok answer → SpellsAnswer ws answer
 spells_read [] answer e = absurd cc

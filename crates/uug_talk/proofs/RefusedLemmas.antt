@@ -4,7 +4,7 @@ use Rattle.std.proofs.lemmas.Bool.{false≢true}
 use Rattle.std.proofs.lemmas.Bool.Decides.{nat_tests}
 use Rattle.std.specs.List.{list_any}
 use Rattle.uug_talk.specs.declared.answer.Answer.{Answer}
-use Rattle.uug_talk.specs.declared.answer.Answer.TheVariants.{SendYes, SendNever, SendHeld, SendLater, GiveYes, GiveNever, GiveLater, DoneYes, DoneYesMaster, DoneNever, DoneLater, HangYes, HangNo, WorkNo, RunNever}
+use Rattle.uug_talk.specs.declared.answer.Answer.TheVariants.{SendYes, SendNever, SendLater, GiveYes, GiveNever, GiveLater, DoneYes, DoneYesMaster, DoneNever, DoneLater, HangYes, HangNo}
 use Rattle.uug_talk.specs.declared.error.BadText.{BadText}
 use Rattle.uug_talk.specs.declared.error.BadText.TheVariants as fault
 use Rattle.uug_talk.specs.declared.order.Order.{Order}
@@ -178,14 +178,8 @@ err_is : {A : Type 0} {c d : BadText} → ◌≡◌ {A = Result A BadText} (Err 
 err_is e = cc
 
 -- the tests from one on
-abbrev from_test_10 : ℕ → ℕ → List ℕ → List (List ℕ) → Result Answer BadText
-from_test_10 a b behind more = cond ((a == 69) && (b == 78)) (Ok RunNever) (Err fault.Unknown)
-
-abbrev from_test_9 : ℕ → ℕ → List ℕ → List (List ℕ) → Result Answer BadText
-from_test_9 a b behind more = cond ((a == 88) && (b == 78)) (Ok WorkNo) (from_test_10 a b behind more)
-
 abbrev from_test_8 : ℕ → ℕ → List ℕ → List (List ℕ) → Result Answer BadText
-from_test_8 a b behind more = cond ((a == 72) && (b == 78)) (Ok HangNo) (from_test_9 a b behind more)
+from_test_8 a b behind more = cond ((a == 72) && (b == 78)) (Ok HangNo) (Err fault.Unknown)
 
 abbrev from_test_7 : ℕ → ℕ → List ℕ → List (List ℕ) → Result Answer BadText
 from_test_7 a b behind more = cond ((a == 72) && (b == 89)) (Ok HangYes) (from_test_8 a b behind more)
@@ -203,21 +197,19 @@ abbrev from_test_3 : ℕ → ℕ → List ℕ → List (List ℕ) → Result Ans
 from_test_3 a b behind more = cond ((a == 82) && (b == 89)) (given_mode more >>= (λ mode. Ok (GiveYes mode))) (from_test_4 a b behind more)
 
 abbrev from_test_2 : ℕ → ℕ → List ℕ → List (List ℕ) → Result Answer BadText
-from_test_2 a b behind more = cond ((a == 83) && (b == 78)) (Ok (third behind 50 SendNever (third behind 56 SendHeld SendLater))) (from_test_3 a b behind more)
+from_test_2 a b behind more = cond ((a == 83) && (b == 78)) (Ok (third behind 50 SendNever SendLater)) (from_test_3 a b behind more)
 
 refused_letters_by : (a b : ℕ) (behind : List ℕ) (more : List (List ℕ)) (d : BadText) → answer_by a b behind more ≡ Err d → RefusedLetters d ((a ∷ b ∷ behind) ∷ more)
 refused_letters_by a b behind more d whole =
     by_test {b = (a == 83) && (b == 89)} {x = Ok SendYes} {y = from_test_2 a b behind more} {z = Err d} whole (λ _ e. no_err e) (λ _ e.
-    by_test {b = (a == 83) && (b == 78)} {x = Ok (third behind 50 SendNever (third behind 56 SendHeld SendLater))} {y = from_test_3 a b behind more} {z = Err d} e (λ _ e. no_err e) (λ _ e.
+    by_test {b = (a == 83) && (b == 78)} {x = Ok (third behind 50 SendNever SendLater)} {y = from_test_3 a b behind more} {z = Err d} e (λ _ e. no_err e) (λ _ e.
     by_test {b = (a == 82) && (b == 89)} {x = given_mode more >>= (λ mode. Ok (GiveYes mode))} {y = from_test_4 a b behind more} {z = Err d} e (λ t e. elim (bind_err (given_mode more) (λ mode. Ok (GiveYes mode)) d e) [ inl k ↦ bad_mode a b behind more d t k | inr x ↦ no_err x.2 ]) (λ r e.
     by_test {b = (a == 82) && (b == 78)} {x = Ok (third behind 50 GiveNever GiveLater)} {y = from_test_5 a b behind more} {z = Err d} e (λ _ e. no_err e) (λ _ e.
     by_test {b = (a == 67) && (b == 89)} {x = Ok (third behind 77 DoneYesMaster DoneYes)} {y = from_test_6 a b behind more} {z = Err d} e (λ _ e. no_err e) (λ _ e.
     by_test {b = (a == 67) && (b == 78)} {x = Ok (third behind 53 DoneNever DoneLater)} {y = from_test_7 a b behind more} {z = Err d} e (λ _ e. no_err e) (λ _ e.
     by_test {b = (a == 72) && (b == 89)} {x = Ok HangYes} {y = from_test_8 a b behind more} {z = Err d} e (λ _ e. no_err e) (λ _ e.
-    by_test {b = (a == 72) && (b == 78)} {x = Ok HangNo} {y = from_test_9 a b behind more} {z = Err d} e (λ _ e. no_err e) (λ _ e.
-    by_test {b = (a == 88) && (b == 78)} {x = Ok WorkNo} {y = from_test_10 a b behind more} {z = Err d} e (λ _ e. no_err e) (λ _ e.
-    by_test {b = (a == 69) && (b == 78)} {x = Ok RunNever} {y = Err fault.Unknown} {z = Err d} e (λ _ e. no_err e) (λ _ e.
-    refused_like ((a ∷ b ∷ behind) ∷ more) fault.Unknown d (err_is e) (not_spelled ((a ∷ b ∷ behind) ∷ more) d whole, not_ry a b behind more r)))))))))))
+    by_test {b = (a == 72) && (b == 78)} {x = Ok HangNo} {y = Err fault.Unknown} {z = Err d} e (λ _ e. no_err e) (λ _ e.
+    refused_like ((a ∷ b ∷ behind) ∷ more) fault.Unknown d (err_is e) (not_spelled ((a ∷ b ∷ behind) ∷ more) d whole, not_ry a b behind more r)))))))))
 
 refused_letters : (ws : List (List ℕ)) (d : BadText) → answer_of_words ws ≡ Err d → RefusedLetters d ws
 refused_letters [] d e = refused_like [] fault.Unknown d (cc) (not_spelled [] d e, λ s. absurd (let k = s.2 in cc))

@@ -1,6 +1,6 @@
 -- Texts and messages whose reading is known, so that a wrong definition does not check.
 use Rattle.std.proofs.Common.{◌≡◌, ◌+◌, [], ◌∷◌, ◌++◌, length, map, replicate, codes, Some, None, Ok, Err, true, false, refl}
-use Rattle.uug_talk.specs.declared.answer.Answer.TheVariants.{SendYes, SendNever, SendHeld, SendLater, GiveYes, GiveNever, GiveLater, DoneYes, DoneYesMaster, DoneNever, DoneLater, HangYes, HangNo, WorkNo, RunNever}
+use Rattle.uug_talk.specs.declared.answer.Answer.TheVariants.{SendYes, SendNever, SendLater, GiveYes, GiveNever, GiveLater, DoneYes, DoneYesMaster, DoneNever, DoneLater, HangYes, HangNo}
 use Rattle.uug_talk.specs.declared.error.BadText.TheVariants as fault
 use Rattle.uug_talk.specs.declared.hail.TheConstants.{HAIL_MAX}
 use Rattle.uug_talk.specs.declared.name.TheConstants.{NAME_MAX}
@@ -10,10 +10,10 @@ use Rattle.uug_talk.specs.Answer.{answer_of, answer_text}
 use Rattle.uug_talk.specs.Call.{call_text, first_told, number_in_call}
 use Rattle.uug_talk.specs.Chunks.{Measure, command_messages, file_messages}
 use Rattle.uug_talk.specs.Gathering.{OfCommand, OfFile, gathered}
+use Rattle.uug_talk.specs.Lenient.{is_held, or_wished, refusal_text, refused_letter_of}
 use Rattle.uug_talk.specs.Name.{name_read}
 use Rattle.uug_talk.specs.Order.{order_of, order_text}
 use Rattle.uug_talk.specs.StreamTexts.{Rest, TooLong, texts_of}
-use Rattle.uug_talk.specs.Unread.{refusal_of}
 use Rattle.uug_talk.specs.Texts.{Passing, Open, Whole, hear}
 
 -- commands
@@ -55,7 +55,7 @@ orders = record {
 pub record AreAnswers : Type 0 where
   pub send_yes : answer_of (codes "SY 0") ≡ Ok SendYes
   pub send_never : answer_of (codes " SN22") ≡ Ok SendNever
-  pub send_held : answer_of (codes "SN80") ≡ Ok SendHeld
+  pub send_held : answer_of (codes "SN80") ≡ Ok SendLater
   pub send_later : answer_of (codes "SN9") ≡ Ok SendLater
   pub give_yes : answer_of (codes "RYx 0600 0777") ≡ Ok (GiveYes 384)
   pub give_default : answer_of (codes "RY0600") ≡ Ok (GiveYes 438)
@@ -68,9 +68,8 @@ pub record AreAnswers : Type 0 where
   pub done_later : answer_of (codes "CN4") ≡ Ok DoneLater
   pub hang_yes : answer_of (codes "HYes") ≡ Ok HangYes
   pub hang_no : answer_of (codes "HN") ≡ Ok HangNo
-  pub work_no : answer_of (codes "XN") ≡ Ok WorkNo
-  pub run_never : answer_of (codes "EN2") ≡ Ok RunNever
-  pub run_never_else : answer_of (codes "EN") ≡ Ok RunNever
+  pub work_no : answer_of (codes "XN") ≡ Err fault.Unknown
+  pub run_never : answer_of (codes "EN2") ≡ Err fault.Unknown
   pub unknown : answer_of (codes "XY") ≡ Err fault.Unknown
   pub split : answer_of (codes "S Y") ≡ Err fault.Unknown
   pub too_long : answer_of (replicate (COMMAND_MAX + 1) 120) ≡ Err fault.TooLong
@@ -94,7 +93,6 @@ answers = record {
   hang_no = refl;
   work_no = refl;
   run_never = refl;
-  run_never_else = refl;
   unknown = refl;
   split = refl;
   too_long = refl;
@@ -109,9 +107,8 @@ pub record AreWritten : Type 0 where
   pub give_yes : answer_text (GiveYes 420) ≡ codes "RY 0644"
   pub send_later : answer_text SendLater ≡ codes "SN4"
   pub done_never : answer_text DoneNever ≡ codes "CN5"
+  pub give_later : answer_text GiveLater ≡ codes "RN6"
   pub hang_no : answer_text HangNo ≡ codes "HN"
-  pub work_no : answer_text WorkNo ≡ codes "XN"
-  pub run_never : answer_text RunNever ≡ codes "EN2"
 
 pub written : AreWritten
 written = record {
@@ -122,21 +119,35 @@ written = record {
   give_yes = refl;
   send_later = refl;
   done_never = refl;
+  give_later = refl;
   hang_no = refl;
-  work_no = refl;
-  run_never = refl;
 }
 
--- what refuses a command that can't be read
+-- what only a lenient end reads
+pub record AreLenient : Type 0 where
+  pub held : is_held (codes "SN80 x") ≡ true
+  pub other : is_held (codes "SN4") ≡ false
+  pub wished : or_wished (answer_of (codes "RY 0644M 0x12")) true (codes "RY 0644M 0x12") ≡ Ok (GiveYes 420)
+  pub strict : or_wished (answer_of (codes "RY 0644M")) false (codes "RY 0644M") ≡ Err fault.Mode
+  pub plain : or_wished (answer_of (codes "RY 0644")) true (codes "RY 0644") ≡ Ok (GiveYes 420)
+  pub no_mode : or_wished (answer_of (codes "RY M")) true (codes "RY M") ≡ Err fault.Mode
+  pub other_letter : or_wished (answer_of (codes "RY 0644N")) true (codes "RY 0644N") ≡ Err fault.Mode
+
+pub lenient : AreLenient
+lenient = record { held = refl; other = refl; wished = refl; strict = refl; plain = refl; no_mode = refl; other_letter = refl }
+
+-- how a command is refused that can't be read
 pub record AreRefusals : Type 0 where
-  pub send : refusal_of (codes "S x") ≡ Some SendNever
-  pub request : refusal_of (codes "  R x y u -") ≡ Some GiveNever
-  pub work : refusal_of (codes "X a/* b u -") ≡ Some WorkNo
-  pub run : refusal_of (codes "E D.1 D.2 u - D.0 0644 n 12 rmail") ≡ Some RunNever
-  pub hang_up : refusal_of (codes "H") ≡ None
-  pub other : refusal_of (codes "Q x") ≡ None
-  pub longer : refusal_of (codes "SS x") ≡ None
-  pub none : refusal_of [] ≡ None
+  pub send : refused_letter_of (codes "S x") ≡ Some 83
+  pub request : refused_letter_of (codes "  R x y u -") ≡ Some 82
+  pub work : refused_letter_of (codes "X a/* b u -") ≡ Some 88
+  pub run : refused_letter_of (codes "E D.1 D.2 u - D.0 0644 n 12 rmail") ≡ Some 69
+  pub other : refused_letter_of (codes "Q x") ≡ Some 81
+  pub hang_up : refused_letter_of (codes "H") ≡ None
+  pub small : refused_letter_of (codes "q x") ≡ None
+  pub longer : refused_letter_of (codes "SS x") ≡ None
+  pub none : refused_letter_of [] ≡ None
+  pub text : refusal_text 83 ≡ codes "SN2"
 
 pub refusals : AreRefusals
 refusals = record {
@@ -144,10 +155,12 @@ refusals = record {
   request = refl;
   work = refl;
   run = refl;
-  hang_up = refl;
   other = refl;
+  hang_up = refl;
+  small = refl;
   longer = refl;
   none = refl;
+  text = refl;
 }
 
 -- with messages of 64 bytes, and commands filled up or short

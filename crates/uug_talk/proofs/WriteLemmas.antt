@@ -1,12 +1,12 @@
 -- What is written is read back.
-use Rattle.std.proofs.Common.{◌≡◌, ◌≢◌, ℕ, ◌+◌, ◌*◌, ◌≤◌, false, List, [], ◌∷◌, length, codes, Contains, Some, None, refl, sym, subst, arith}
+use Rattle.std.proofs.Common.{◌≡◌, ◌≢◌, ℕ, ◌+◌, ◌*◌, ◌≤◌, true, false, List, [], ◌∷◌, length, codes, Contains, Some, None, refl, sym, subst, arith}
 use Rattle.std.proofs.lemmas.Bool.{false≢true}
 use Rattle.std.proofs.lemmas.Bool.Decides.{nat_tests}
 use Rattle.std.proofs.lemmas.List.{length-append}
 use Rattle.std.proofs.lemmas.List.Elements.{All-from_recursion, All-nil, All-cons}
 use Rattle.std.specs.List.{AllByRecursion}
 use Rattle.uug_talk.specs.declared.answer.Answer.{Answer}
-use Rattle.uug_talk.specs.declared.answer.Answer.TheVariants.{SendYes, SendNever, SendHeld, SendLater, GiveYes, GiveNever, GiveLater, DoneYes, DoneYesMaster, DoneNever, DoneLater, HangYes, HangNo, WorkNo, RunNever}
+use Rattle.uug_talk.specs.declared.answer.Answer.TheVariants.{SendYes, SendNever, SendLater, GiveYes, GiveNever, GiveLater, DoneYes, DoneYesMaster, DoneNever, DoneLater, HangYes, HangNo}
 use Rattle.uug_talk.specs.declared.order.Order.{Order}
 use Rattle.uug_talk.specs.declared.order.Order.TheVariants.{Send, Request, HangUp}
 use Rattle.uug_talk.specs.declared.mode.TheConstants.{MODE_MAX}
@@ -14,6 +14,7 @@ use Rattle.uug_talk.specs.declared.name.TheConstants.{NAME_MAX}
 use Rattle.uug_talk.specs.declared.words.TheConstants.{COMMAND_MAX}
 use Rattle.uug_talk.specs.Answer.{BeginsWith, SpellsAnswer, ReadsAnswer, IsWritten, answer_words, answer_text}
 use Rattle.uug_talk.specs.Chunks.{IsCommandText}
+use Rattle.uug_talk.specs.Lenient.{is_refusable, refusal_text}
 use Rattle.uug_talk.specs.Mode.{IsOctalDigit, IsModeWord, mode_of, mode_digits}
 use Rattle.uug_talk.specs.Order.{SpellsOrder, ReadsOrder, HasMode, HasNames, order_words, order_text}
 use Rattle.uug_talk.specs.Words.{is_space, words}
@@ -53,16 +54,13 @@ reads_written SendNever h = refl
 reads_written SendLater h = refl
 reads_written (GiveYes mode) h = words-joined _ (IsWord-short 82 (89 ∷ []) (refl, (refl, tt)), (IsWord-digits mode, tt))
 reads_written GiveNever h = refl
-reads_written SendHeld h = absurd h
-reads_written GiveLater h = absurd h
+reads_written GiveLater h = refl
 reads_written DoneYes h = refl
 reads_written DoneYesMaster h = absurd h
 reads_written DoneNever h = refl
 reads_written DoneLater h = refl
 reads_written HangYes h = refl
 reads_written HangNo h = refl
-reads_written WorkNo h = refl
-reads_written RunNever h = refl
 
 other_third : (x y z w : ℕ) → z ≢ w → ¬ BeginsWith ((x ∷ y ∷ w ∷ []) ∷ []) (x ∷ y ∷ z ∷ [])
 other_third x y z w n (behind, more, e) = n cc
@@ -73,19 +71,16 @@ no_third x y z (behind, more, e) = absurd cc
 spells_written : (answer : Answer) → IsWritten answer → SpellsAnswer (answer_words answer) answer
 spells_written SendYes h = ([], [], refl)
 spells_written SendNever h = ([], [], refl)
-spells_written SendLater h = ((52 ∷ [], [], refl), other_third 83 78 50 52 (omega arith), other_third 83 78 56 52 (omega arith))
+spells_written SendLater h = ((52 ∷ [], [], refl), other_third 83 78 50 52 (omega arith))
 spells_written (GiveYes mode) h = (([], mode_digits mode ∷ [], refl), (IsModeWord-digits mode, mode_of-digits mode h))
 spells_written GiveNever h = ([], [], refl)
-spells_written SendHeld h = absurd h
-spells_written GiveLater h = absurd h
+spells_written GiveLater h = ((54 ∷ [], [], refl), other_third 82 78 50 54 (omega arith))
 spells_written DoneYes h = (([], [], refl), no_third 67 89 77)
 spells_written DoneYesMaster h = absurd h
 spells_written DoneNever h = ([], [], refl)
 spells_written DoneLater h = ((52 ∷ [], [], refl), other_third 67 78 53 52 (omega arith))
 spells_written HangYes h = ([], [], refl)
 spells_written HangNo h = ([], [], refl)
-spells_written WorkNo h = ([], [], refl)
-spells_written RunNever h = (50 ∷ [], [], refl)
 
 short_written : (answer : Answer) → IsWritten answer → length (answer_text answer) ≤ COMMAND_MAX
 short_written SendYes h = omega arith
@@ -93,16 +88,13 @@ short_written SendNever h = omega arith
 short_written SendLater h = omega arith
 short_written (GiveYes mode) h = omega arith
 short_written GiveNever h = omega arith
-short_written SendHeld h = absurd h
-short_written GiveLater h = absurd h
+short_written GiveLater h = omega arith
 short_written DoneYes h = omega arith
 short_written DoneYesMaster h = absurd h
 short_written DoneNever h = omega arith
 short_written DoneLater h = omega arith
 short_written HangYes h = omega arith
 short_written HangNo h = omega arith
-short_written WorkNo h = omega arith
-short_written RunNever h = omega arith
 
 pub ReadsAnswer-written : (text : List ℕ) (answer : Answer) → IsWritten answer → text ≡ answer_text answer → ReadsAnswer text answer
 ReadsAnswer-written text answer h e = subst (λ t. ReadsAnswer t answer) (sym e) (record {
@@ -215,16 +207,13 @@ answer_no_zero SendNever h = no_zero-three 83 78 50 (omega arith) (omega arith) 
 answer_no_zero SendLater h = no_zero-three 83 78 52 (omega arith) (omega arith) (omega arith)
 answer_no_zero (GiveYes mode) h = no_zero-joined (answer_words (GiveYes mode)) (no_zero-two 82 89 (omega arith) (omega arith), (no_zero-digits mode, tt))
 answer_no_zero GiveNever h = no_zero-three 82 78 50 (omega arith) (omega arith) (omega arith)
-answer_no_zero SendHeld h = absurd h
-answer_no_zero GiveLater h = absurd h
+answer_no_zero GiveLater h = no_zero-three 82 78 54 (omega arith) (omega arith) (omega arith)
 answer_no_zero DoneYes h = no_zero-two 67 89 (omega arith) (omega arith)
 answer_no_zero DoneYesMaster h = absurd h
 answer_no_zero DoneNever h = no_zero-three 67 78 53 (omega arith) (omega arith) (omega arith)
 answer_no_zero DoneLater h = no_zero-three 67 78 52 (omega arith) (omega arith) (omega arith)
 answer_no_zero HangYes h = no_zero-two 72 89 (omega arith) (omega arith)
 answer_no_zero HangNo h = no_zero-two 72 78 (omega arith) (omega arith)
-answer_no_zero WorkNo h = no_zero-two 88 78 (omega arith) (omega arith)
-answer_no_zero RunNever h = no_zero-three 69 78 50 (omega arith) (omega arith) (omega arith)
 
 order_no_zero : (order : Order) → HasNames order → HasNoZero (order_text order)
 order_no_zero (Send source target user None mode) h = no_zero-joined (order_words (Send source target user None mode)) (
@@ -259,6 +248,12 @@ order_no_zero HangUp h = no_zero-one 72 (omega arith)
 
 pub IsCommandText-answer : (text : List ℕ) (answer : Answer) → IsWritten answer → text ≡ answer_text answer → IsCommandText text
 IsCommandText-answer text answer h e = subst IsCommandText (sym e) (record { short = short_written answer h; no_zero = answer_no_zero answer h })
+
+pub IsCommandText-refusal : (text : List ℕ) (letter : ℕ) → is_refusable letter ≡ true → text ≡ refusal_text letter → IsCommandText text
+IsCommandText-refusal text letter h e = subst IsCommandText (sym e) (record {
+  short = omega arith;
+  no_zero = no_zero-three letter 78 50 (let some : 65 ≤ letter = grind (arith, nat_tests) in omega (arith, some)) (omega arith) (omega arith);
+})
 
 pub IsCommandText-order : (text : List ℕ) (order : Order) → HasNames order → text ≡ order_text order → IsCommandText text
 IsCommandText-order text order h e = subst IsCommandText (sym e) (record { short = omega (arith, short_order order h); no_zero = order_no_zero order h })

@@ -1,8 +1,8 @@
 -- What an answer is as a text (Taylor UUCP manual, "UUCP Protocol"; what is read past, and that an
--- unknown number behind SN, RN or CN means later, and any EN never, is this project's profile).
+-- unknown number behind SN, RN or CN means later, is this project's profile).
 use Rattle.std.specs.Prelude.{◌≡◌, ◌==◌, ◌&&◌, ℕ, ◌<◌, ◌≤◌, List, [], ◌∷◌, ◌++◌, length, codes, nat_lt, Result, Ok, Err, if◌then◌else◌}
 use Rattle.uug_talk.specs.declared.answer.Answer.{Answer}
-use Rattle.uug_talk.specs.declared.answer.Answer.TheVariants.{SendYes, SendNever, SendHeld, SendLater, GiveYes, GiveNever, GiveLater, DoneYes, DoneYesMaster, DoneNever, DoneLater, HangYes, HangNo, WorkNo, RunNever}
+use Rattle.uug_talk.specs.declared.answer.Answer.TheVariants.{SendYes, SendNever, SendLater, GiveYes, GiveNever, GiveLater, DoneYes, DoneYesMaster, DoneNever, DoneLater, HangYes, HangNo}
 use Rattle.uug_talk.specs.declared.answer.TheConstants.{DEFAULT_MODE}
 use Rattle.uug_talk.specs.declared.error.BadText.{BadText}
 use Rattle.uug_talk.specs.declared.error.BadText.TheVariants as fault
@@ -26,8 +26,7 @@ GivesMode (first ∷ word ∷ more) mode = IsModeWord word × (mode ≡ mode_of 
 abbrev pub SpellsAnswer : List (List ℕ) → Answer → Type 0
 SpellsAnswer ws SendYes = BeginsWith ws (codes "SY")
 SpellsAnswer ws SendNever = BeginsWith ws (codes "SN2")
-SpellsAnswer ws SendHeld = BeginsWith ws (codes "SN8")
-SpellsAnswer ws SendLater = BeginsWith ws (codes "SN") × (¬ BeginsWith ws (codes "SN2")) × (¬ BeginsWith ws (codes "SN8"))
+SpellsAnswer ws SendLater = BeginsWith ws (codes "SN") × ¬ BeginsWith ws (codes "SN2")
 SpellsAnswer ws (GiveYes mode) = BeginsWith ws (codes "RY") × GivesMode ws mode
 SpellsAnswer ws GiveNever = BeginsWith ws (codes "RN2")
 SpellsAnswer ws GiveLater = BeginsWith ws (codes "RN") × ¬ BeginsWith ws (codes "RN2")
@@ -37,8 +36,6 @@ SpellsAnswer ws DoneNever = BeginsWith ws (codes "CN5")
 SpellsAnswer ws DoneLater = BeginsWith ws (codes "CN") × ¬ BeginsWith ws (codes "CN5")
 SpellsAnswer ws HangYes = BeginsWith ws (codes "HY")
 SpellsAnswer ws HangNo = BeginsWith ws (codes "HN")
-SpellsAnswer ws WorkNo = BeginsWith ws (codes "XN")
-SpellsAnswer ws RunNever = BeginsWith ws (codes "EN")
 
 -- the text is the answer
 pub record ReadsAnswer (text : List ℕ) (answer : Answer) : Type 0 where
@@ -59,13 +56,11 @@ abbrev pub IsRefusedAnswer : BadText → List ℕ → Type 0
 IsRefusedAnswer fault.TooLong text = COMMAND_MAX < length text
 IsRefusedAnswer f text = (length text ≤ COMMAND_MAX) × RefusedLetters f (words text)
 
--- Writing. A refusal that a later try may change is written as SN4, or CN4.
+-- Writing. A refusal that a later try may change is written as SN4, RN6 or CN4.
 
--- what is written: three answers are only read
+-- what is written: CYM is only read
 abbrev pub IsWritten : Answer → Type 0
 IsWritten (GiveYes mode) = mode ≤ MODE_MAX
-IsWritten SendHeld = ⊥
-IsWritten GiveLater = ⊥
 IsWritten DoneYesMaster = ⊥
 IsWritten _ = Unit {0}
 
@@ -75,14 +70,13 @@ answer_words SendNever = codes "SN2" ∷ []
 answer_words SendLater = codes "SN4" ∷ []
 answer_words (GiveYes mode) = codes "RY" ∷ mode_digits mode ∷ []
 answer_words GiveNever = codes "RN2" ∷ []
+answer_words GiveLater = codes "RN6" ∷ []
 answer_words DoneYes = codes "CY" ∷ []
 answer_words DoneNever = codes "CN5" ∷ []
 answer_words DoneLater = codes "CN4" ∷ []
 answer_words HangYes = codes "HY" ∷ []
 answer_words HangNo = codes "HN" ∷ []
-answer_words WorkNo = codes "XN" ∷ []
-answer_words RunNever = codes "EN2" ∷ []
-answer_words _ = []
+answer_words DoneYesMaster = []
 
 abbrev pub answer_text : Answer → List ℕ
 answer_text answer = joined (answer_words answer)
@@ -102,15 +96,13 @@ given_mode (word ∷ more) = mode_read word
 abbrev pub answer_by : ℕ → ℕ → List ℕ → List (List ℕ) → Result Answer BadText
 answer_by a b behind more =
     if (a == 83) && (b == 89) then Ok SendYes else
-    (if (a == 83) && (b == 78) then Ok (third behind 50 SendNever (third behind 56 SendHeld SendLater)) else
+    (if (a == 83) && (b == 78) then Ok (third behind 50 SendNever SendLater) else
     (if (a == 82) && (b == 89) then given_mode more >>= (λ mode. Ok (GiveYes mode)) else
     (if (a == 82) && (b == 78) then Ok (third behind 50 GiveNever GiveLater) else
     (if (a == 67) && (b == 89) then Ok (third behind 77 DoneYesMaster DoneYes) else
     (if (a == 67) && (b == 78) then Ok (third behind 53 DoneNever DoneLater) else
     (if (a == 72) && (b == 89) then Ok HangYes else
-    (if (a == 72) && (b == 78) then Ok HangNo else
-    (if (a == 88) && (b == 78) then Ok WorkNo else
-    (if (a == 69) && (b == 78) then Ok RunNever else Err fault.Unknown)))))))))
+    (if (a == 72) && (b == 78) then Ok HangNo else Err fault.Unknown)))))))
 
 abbrev pub answer_of_words : List (List ℕ) → Result Answer BadText
 answer_of_words [] = Err fault.Unknown

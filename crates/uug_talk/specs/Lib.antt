@@ -6,6 +6,7 @@ pub mod Gathering
 pub mod Hail
 pub mod HailCalls
 pub mod Held
+pub mod Lenient
 pub mod Lines
 pub mod MessagesLeft
 pub mod Mode
@@ -15,5 +16,4 @@ pub mod Order
 pub mod Refusal
 pub mod StreamTexts
 pub mod Texts
-pub mod Unread
 pub mod Words

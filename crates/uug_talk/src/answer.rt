@@ -19,8 +19,6 @@ pub enum Answer {
     SendYes,
     /// `SN2`: the file will never be taken.
     SendNever,
-    /// `SN8`: the file is there already.
-    SendHeld,
     /// Any other `SN`: the file may be taken later.
     SendLater,
     /// `RY`: the file comes, with this mode.
@@ -41,21 +39,17 @@ pub enum Answer {
     HangYes,
     /// `HN`: the roles are exchanged.
     HangNo,
-    /// `XN`: the request for work is refused.
-    WorkNo,
-    /// `EN2`: the command will never be run.
-    RunNever,
 }
 
 impl Answer {
-    /// Whether it can be written: it is none of the three answers that are only read, and a mode is at
+    /// Returns whether it can be written: it isn't `DoneYesMaster`, which is only read, and a mode is at
     /// most `MODE_MAX`.
     pub fn is_writable(&self) -> bool
         ensures { IsTrue result ↔ IsWritten self.now }
     {
         match self {
             Answer::GiveYes(mode) => *mode <= MODE_MAX,
-            Answer::SendHeld | Answer::GiveLater | Answer::DoneYesMaster => false,
+            Answer::DoneYesMaster => false,
             _ => true,
         }
     }
@@ -89,7 +83,6 @@ fn read_letters(text: &[u8]) -> Result<Answer, BadText>
     match first {
         [b'S', b'Y', ..] => Ok(Answer::SendYes),
         [b'S', b'N', b'2', ..] => Ok(Answer::SendNever),
-        [b'S', b'N', b'8', ..] => Ok(Answer::SendHeld),
         [b'S', b'N', ..] => Ok(Answer::SendLater),
         [b'R', b'Y', ..] => Ok(Answer::GiveYes(given_mode(rest)?)),
         [b'R', b'N', b'2', ..] => Ok(Answer::GiveNever),
@@ -100,8 +93,6 @@ fn read_letters(text: &[u8]) -> Result<Answer, BadText>
         [b'C', b'N', ..] => Ok(Answer::DoneLater),
         [b'H', b'Y', ..] => Ok(Answer::HangYes),
         [b'H', b'N', ..] => Ok(Answer::HangNo),
-        [b'X', b'N', ..] => Ok(Answer::WorkNo),
-        [b'E', b'N', ..] => Ok(Answer::RunNever),
         _ => Err(BadText::Unknown),
     }
 }
@@ -116,7 +107,7 @@ fn given_mode(rest: &[u8]) -> Result<u16, BadText>
     }
 }
 
-/// The text of an answer, without its zero byte. Three answers are only read; `is_writable` tells.
+/// Returns the text of an answer, without its zero byte. `DoneYesMaster` is only read; `is_writable` tells.
 pub fn write_answer(answer: &Answer) -> ArrayVec<u8, WRITTEN_MAX>
     requires { IsWritten answer.now }
     ensures text { result.items ≡ answer_text answer.now }
@@ -142,14 +133,13 @@ fn spell_answer(answer: &Answer) -> Text
             text
         }
         Answer::GiveNever => short_text(b"RN2"),
+        Answer::GiveLater => short_text(b"RN6"),
         Answer::DoneYes => short_text(b"CY"),
         Answer::DoneNever => short_text(b"CN5"),
         Answer::DoneLater => short_text(b"CN4"),
         Answer::HangYes => short_text(b"HY"),
         Answer::HangNo => short_text(b"HN"),
-        Answer::WorkNo => short_text(b"XN"),
-        Answer::RunNever => short_text(b"EN2"),
-        Answer::SendHeld | Answer::GiveLater | Answer::DoneYesMaster => unreachable!(),
+        Answer::DoneYesMaster => unreachable!(),
     }
 }
 

@@ -9,12 +9,12 @@ mod error;
 mod gather;
 mod hail;
 pub mod laws;
+mod lenient;
 mod lines;
 mod mode;
 mod name;
 mod number;
 mod order;
-mod unread;
 mod words;
 
 pub use answer::{Answer, DEFAULT_MODE, read_answer, write_answer};
@@ -25,12 +25,12 @@ pub use gather::{FILE_MAX, Gather, Progress};
 pub use hail::{
     HAIL_MAX, HAIL_WRITTEN_MAX, Hail, TEXT_START, TextTooLong, is_hail_text, write_hail,
 };
+pub use lenient::{is_held, read_wished, refusal_text, refused_letter};
 pub use lines::{LINE_MAX, split_line};
 pub use mode::{MODE_MAX, mode_digits, read_mode};
 pub use name::{NAME_MAX, Name};
 pub use number::read_number;
 pub use order::{Order, read_order, write_order};
-pub use unread::refusal_of;
 pub use words::{
     COMMAND_MAX, WRITTEN_MAX, four_words, one_word, split_word, three_words, two_words,
 };

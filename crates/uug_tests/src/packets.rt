@@ -5,8 +5,8 @@ use arrayvec::ArrayVec;
 use std::alloc::AllocGlobal;
 use std::process::Abort;
 use uug_packet::{
-    Control, NoPacket, Packet, Seq, check, control_packet, decode, encode, field_code, field_size,
-    is_written, message_in, message_start, re_ack,
+    Control, HEADER_SIZE, NoPacket, Packet, Seq, check, control_packet, decode, encode, field_code,
+    field_size, is_written, message_in, message_start, re_ack,
 };
 
 /// The number of a packet: all that are written here are below eight.
@@ -59,6 +59,77 @@ fn writes_and_reads_packets(rt: HostRuntime) {
     assert_same(&rt, decode(&out), Ok((packet, 38)));
     let init = [0x10, 0x09, 0x6f, 0xaa, 0x3b, 0xf7];
     assert_same(&rt, control_packet(Control::InitA(number(3))), init);
+}
+
+/// Holds the code of a field's size, how many of its bytes are missing, and the bytes before the message that say so.
+const FIELDS: &[(u8, usize, &[u8])] = &[
+    (1, 0, b""),
+    (1, 1, b"\x01"),
+    (1, 2, b"\x02"),
+    (1, 32, b"\x20"),
+    (2, 0, b""),
+    (2, 1, b"\x01"),
+    (2, 2, b"\x02"),
+    (2, 64, b"\x40"),
+    (3, 0, b""),
+    (3, 1, b"\x01"),
+    (3, 2, b"\x02"),
+    (3, 127, b"\x7f"),
+    (4, 0, b""),
+    (4, 1, b"\x01"),
+    (4, 2, b"\x02"),
+    (4, 127, b"\x7f"),
+    (4, 128, b"\x80\x01"),
+    (4, 256, b"\x80\x02"),
+    (5, 0, b""),
+    (5, 1, b"\x01"),
+    (5, 2, b"\x02"),
+    (5, 127, b"\x7f"),
+    (5, 128, b"\x80\x01"),
+    (5, 512, b"\x80\x04"),
+    (6, 0, b""),
+    (6, 1, b"\x01"),
+    (6, 2, b"\x02"),
+    (6, 127, b"\x7f"),
+    (6, 128, b"\x80\x01"),
+    (6, 1024, b"\x80\x08"),
+    (7, 0, b""),
+    (7, 1, b"\x01"),
+    (7, 2, b"\x02"),
+    (7, 127, b"\x7f"),
+    (7, 128, b"\x80\x01"),
+    (7, 2048, b"\x80\x10"),
+    (8, 0, b""),
+    (8, 1, b"\x01"),
+    (8, 2, b"\x02"),
+    (8, 127, b"\x7f"),
+    (8, 128, b"\x80\x01"),
+    (8, 4096, b"\x80\x20"),
+];
+
+/// Writes a packet with so many bytes missing in its field, and reads it: it begins so, and is the same packet.
+fn assert_read_back(rt: &impl Abort, (k, missing, front): (u8, usize, &[u8])) {
+    let k = k.max(1).min(8);
+    let size = field_size(k);
+    let packet = Packet::Carry {
+        seq: number(k),
+        ack: number(3),
+        k,
+        message: &[b'm'; 4096][..size.saturating_sub(missing)],
+    };
+    let mut out = ArrayVec::new();
+    encode(&packet, &mut out);
+    let field = out.as_slice().get(HEADER_SIZE..).unwrap_or(&[]);
+    assert_so(rt, field.starts_with(front));
+    assert_same(rt, field.get(front.len()) == Some(&b'm'), missing < size);
+    assert_same(rt, decode(&out), Ok((packet, HEADER_SIZE + size)));
+}
+
+#[test]
+fn reads_what_it_writes_in_each_field(rt: HostRuntime) {
+    for row in FIELDS {
+        assert_read_back(&rt, *row);
+    }
 }
 
 /// A packet in a field of 32 bytes, which is written with the acknowledgement `old` and then gets `ack`: it is then these

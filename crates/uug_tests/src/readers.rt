@@ -21,8 +21,9 @@ const PACKET: [u8; 38] = [
 ];
 
 /// A data packet whose checksum is one too high, and in its field what reads as RR 1.
-const BROKEN_FRONT: [u8; 12] = [
-    0x10, 0x01, 0x96, 0x6a, 0x88, 0x75, 0x10, 0x09, 0x89, 0xaa, 0x21, 0x0b,
+const BROKEN: [u8; 38] = [
+    0x10, 0x01, 0x96, 0x6a, 0x88, 0x75, 0x10, 0x09, 0x89, 0xaa, 0x21, 0x0b, 0, 0, 0, 0, 0, 0, 0, 0,
+    0, 0, 0, 0, 0, 0, 0, 0, 0, 0, 0, 0, 0, 0, 0, 0, 0, 0,
 ];
 
 /// What a reader finds in it.
@@ -71,8 +72,40 @@ fn take_pieces(rt: &impl Abort, reader: &mut Reader<Global>) {
     take_piece(rt, reader, &HEADER, &[ready], 6);
     take_piece(rt, reader, &[0; 31], &[], 37);
     take_piece(rt, reader, &[0], &[zeros()], 0);
-    take_piece(rt, reader, &BROKEN_FRONT, &[], 12);
+    take_piece(rt, reader, &BROKEN[..12], &[], 12);
     take_piece(rt, reader, &[0; 26], &[Found::Bad, ready], 0);
+}
+
+/// Pushes these bytes one by one. With the last one, and not before, the items are found.
+fn take_bytes<A: Allocator>(
+    rt: &impl Abort,
+    reader: &mut Reader<A>,
+    bytes: &[u8; 38],
+    items: &[Found<'_>],
+) {
+    for (waiting, byte) in bytes[..37].iter().enumerate() {
+        take_piece(rt, reader, &[*byte], &[], waiting.saturating_add(1));
+    }
+    take_piece(rt, reader, &bytes[37..], items, 0);
+}
+
+/// Pushes the packet in two pieces, which it is cut into at each of its places.
+fn take_cuts<A: Allocator>(rt: &impl Abort, reader: &mut Reader<A>) {
+    for cut in 1..38 {
+        let (front, rest) = PACKET.split_at(cut);
+        take_piece(rt, reader, front, &[], cut);
+        take_piece(rt, reader, rest, &[zeros()], 0);
+    }
+}
+
+#[test]
+fn finds_a_packet_however_it_is_cut(rt: HostRuntime) {
+    let mut reader = reader(&rt, rt.alloc());
+    take_piece(&rt, &mut reader, &PACKET, &[zeros()], 0);
+    take_bytes(&rt, &mut reader, &PACKET, &[zeros()]);
+    take_cuts(&rt, &mut reader);
+    let ready = control(Control::Rr(number(1)));
+    take_bytes(&rt, &mut reader, &BROKEN, &[Found::Bad, ready]);
 }
 
 #[test]

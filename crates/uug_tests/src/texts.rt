@@ -33,6 +33,13 @@ fn what_is_read_is_written(rt: HostRuntime) {
     }
 }
 
+#[test]
+fn a_file_that_is_given_without_a_mode_gets_one(rt: HostRuntime) {
+    for text in [b"RY".as_slice(), b" RY ", b"RYx"] {
+        assert_same(&rt, read_answer(text), Ok(Answer::GiveYes(0o666)));
+    }
+}
+
 /// Numbers that the caller `a` keeps, and what it says.
 const SAID: &[(Option<u32>, &[u8])] = &[
     (None, b"Sa"),
@@ -137,6 +144,24 @@ fn what_is_cut_is_gathered(rt: HostRuntime) {
         gathers_a_command(&rt, &bytes[..len], false);
         gathers_a_command(&rt, &bytes[..len], true);
     }
+}
+
+/// Gathers the longest file, in the longest messages.
+fn gather_longest(rt: &impl Abort, file: &mut Gather<Global>) {
+    for _ in 0..256 {
+        assert_same(rt, push(file, &[b'f'; 4096]), Some(Ok(Progress::More)));
+    }
+    assert_same(rt, file.bytes().len(), 1_048_576);
+}
+
+#[test]
+fn a_file_has_at_most_1048576_bytes(rt: HostRuntime) {
+    let mut file = Gather::file(rt.alloc());
+    gather_longest(&rt, &mut file);
+    assert_same(&rt, push(&mut file, b"f"), Some(Err(BadText::TooLong)));
+    assert_same(&rt, file.bytes().len(), 1_048_576);
+    assert_same(&rt, push(&mut file, b""), Some(Ok(Progress::Whole)));
+    assert_so(&rt, file.bytes().iter().all(|byte| *byte == b'f'));
 }
 
 /// A text as long as a command may be, in messages of 32 bytes, and the message behind them.

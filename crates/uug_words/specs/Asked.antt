@@ -115,6 +115,7 @@ pub record IsPairIn (entries : Entries) (task : PairTask) : Type 0 where
   pub dir_b : task.dir_b.now ≡ text_in entries (codes "DIR_B")
   pub drop_every : task.drop_every ≡ number_in entries (codes "drop-every")
   pub flip_every : task.flip_every ≡ number_in entries (codes "flip-every")
+  pub is_loud : task.is_loud ≡ is_given entries (codes "verbose")
 
 abbrev pub tool_at : Side → Text
 tool_at Caller = codes "call"

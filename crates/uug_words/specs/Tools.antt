@@ -84,7 +84,7 @@ play_tool = tool (codes "play")
 abbrev pub pair_tool : Shape
 pair_tool = tool (codes "pair")
     (path_rule (codes "SOCKET") ∷ path_rule (codes "DIR_A") ∷ path_rule (codes "DIR_B")
-    ∷ every_rule (codes "drop-every") ∷ every_rule (codes "flip-every") ∷ [])
+    ∷ every_rule (codes "drop-every") ∷ every_rule (codes "flip-every") ∷ verbose_rule ∷ [])
 
 -- a tool with these arguments behind its own
 abbrev pub with_arguments : Shape → List Rule → Shape

@@ -37,7 +37,7 @@ pub enum Task<'a> {
     ScanVerbose(Option<&'a str>),
     /// The report of the script in a file, or on standard input, to standard output.
     Play(Option<&'a str>),
-    /// The same; and it is said why jobs are not done, or where the script is bad, what is wrong.
+    /// Plays the same script, and says why jobs are not done, or why no report was written.
     PlayVerbose(Option<&'a str>),
     /// The report of the script, and what the run settles to or why it doesn't.
     PlaySettled(Option<&'a str>),
@@ -64,6 +64,8 @@ pub struct PairTask<'a> {
     pub drop_every: Option<u32>,
     /// The N of which every Nth packet is changed.
     pub flip_every: Option<u32>,
+    /// Asks for why they gave up.
+    pub is_loud: bool,
 }
 
 /// The text of an argument, which is empty where it has none.
@@ -177,6 +179,7 @@ fn pair_task<'a>(matches: &ArgMatches<'a>) -> PairTask<'a>
         dir_b: text(matches, "DIR_B"),
         drop_every: number(matches, "drop-every"),
         flip_every: number(matches, "flip-every"),
+        is_loud: is_given(matches, "verbose"),
     }
 }
 

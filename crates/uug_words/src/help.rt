@@ -63,7 +63,7 @@ pub const PLAY: &str =
 Empty lines and lines that begin with # are skipped.
 
 With -v a line on standard error says of each job that is not done why, behind the
-report, and of a bad script what is wrong with its line.
+report, and of a bad script what is wrong with its line, or why a file can't be read.
 With --settle the run goes on after the script, on a line that loses nothing more,
 and a second report follows the first: the status is of that. It may where no end was
 fooled, both ends are talking, neither is quiet on repeats or has timed out more than 6
@@ -140,6 +140,8 @@ Example:
   mkdir -p a/send && echo hello > x && uucpair queue a send x y --user me
 prints
   queued send x y me";
+
+pub const WHY: &str = "Says why it gave up, where it did";
 
 pub const USER: &str = "Who queues it; without it USER, LOGNAME or uucp";
 

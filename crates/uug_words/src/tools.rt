@@ -90,7 +90,7 @@ fn play_command<'a>(alloc: Global) -> Result<Command<'a>, AllocError>
     ))?
     .arg(verbose(
         alloc,
-        "Says why jobs are not done, and what is wrong with a bad script",
+        "Says why jobs are not done, and what went wrong: with a bad script, or a file",
     ))?
     .arg(flag(
         alloc,
@@ -138,7 +138,8 @@ fn pair_command<'a>(alloc: Global) -> Result<Command<'a>, AllocError>
     .arg(path(alloc, "DIR_A", "The folder of the caller"))?
     .arg(path(alloc, "DIR_B", "The folder of the called end"))?
     .arg(every(alloc, "drop-every", "Loses every Nth packet"))?
-    .arg(every(alloc, "flip-every", "Changes every Nth packet"))
+    .arg(every(alloc, "flip-every", "Changes every Nth packet"))?
+    .arg(verbose(alloc, help::WHY))
 }
 
 /// The tool that is one end at a line, where it calls.

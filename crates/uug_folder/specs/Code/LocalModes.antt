@@ -17,5 +17,5 @@ given_in_range : (h : Holdings) → AreModes h → (source : Option (List ℕ)) 
 given_in_range h modes None = tt
 given_in_range h modes (Some name) = in_range (h.file name) (modes name)
 
-pub local_modes : (lenient digests : Bool) (h : Holdings) → AreModes h → AreModes (local_holdings lenient digests h)
-local_modes lenient digests h modes name file found = subst IsInRange found (given_in_range h modes (local_source name))
+pub local_modes : (lenient digests : Bool) (delayed : List (List ℕ)) (h : Holdings) → AreModes h → AreModes (local_holdings lenient digests delayed h)
+local_modes lenient digests delayed h modes name file found = subst IsInRange found (given_in_range h modes (local_source name))

@@ -3,7 +3,6 @@ use Rattle.std.proofs.Common.{◌≡◌, ℕ, ◌+◌, ◌≤◌, Bool, true, fa
 use Rattle.std.proofs.lemmas.List.{take_all}
 use Rattle.uug_link.specs.Announced.{Announced}
 use Rattle.uug_link.specs.InRange.{IsAnnouncement}
-use Rattle.uug_link.specs.State.{IsPlain}
 use Rattle.uug_session.specs.declared.end.End.TheVariants as ends
 use Rattle.uug_conversation.specs.Count.{Count, count_keeper}
 use Rattle.uug_session.specs.Arriving.{Buffered}
@@ -155,6 +154,16 @@ module _ (setup : SetupValue) where
       ap (λ (verdict : LineVerdict). so verdict [] []) (sym clean_is)
       ∙ ap₂ (λ (a b : List ℕ). so run.verdict a b) (sym caller_holds) (sym called_holds)
 
+  -- an end of a run is set to what it was set up with
+  run_owns : (run : Run DialogueState) → Stands setup run → ((side : Side) → IsAnnouncement (at side setup).own) → (side : Side) →
+      (end_at side (counted run)).end.state.link.own ≡ (at side setup).own
+  run_owns run stands announces side =
+      let here = (end_at side run).end in
+      let there = (end_at (other side) run).end in
+      ap (λ (h : Buffered (LineEndState Count)). h.end.state.link.own) (counted_at run side)
+      ∙ pair_own setup run.brought stands.sound announces side (counted_end here) (counted_end there)
+      (pair side here there (stands.joined side))
+
   settles_run : (number : ℕ) (run : Run DialogueState) → Stands setup run → ((side : Side) → IsAnnouncement (at side setup).own) →
       MaySettle (counted run) → SettlesFrom setup number (counted run)
   settles_run number run stands announces may =
@@ -167,15 +176,18 @@ module _ (setup : SetupValue) where
     where
       plain : (side : Side) → (at side setup).own.quiet ≡ false
       plain side =
-          let here = (end_at side run).end in
-          let there = (end_at (other side) run).end in
-          sym (ap (λ (a : Announced). a.quiet) (pair_own setup run.brought stands.sound announces side (counted_end here) (counted_end there)
-          (pair side here there (stands.joined side))))
-          ∙ subst (λ (h : Buffered (LineEndState Count)). IsPlain h.end.state.link) (counted_at run side) (may.ends side).plain
+          sym (ap (λ (a : Announced). a.quiet) (run_owns run stands announces side)) ∙ (may.ends side).plain
 
   announcements : (events : List Event) → AreOfTypes setup events → (side : Side) → IsAnnouncement (at side setup).own
   announcements events types side =
       record { window = (types.sound side).window; size_code = (types.of_bytes side).size_code }
+
+  pub owns : (events : List Event) → AreOfTypes setup events → (side : Side) →
+      (end_at side (world setup events)).end.state.link.own ≡ (at side setup).own
+  owns events types side =
+      let g = run_goes setup types.sound events in
+      subst (λ (r : Run Count). (end_at side r).end.state.link.own ≡ (at side setup).own) g.counted_is
+      (run_owns (run_of_ends setup events) g.stands (announcements events types) side)
 
   pub settles_from : (events : List Event) → AreOfTypes setup events → MaySettle (world setup events) →
       SettlesFrom setup (length events) (world setup events)

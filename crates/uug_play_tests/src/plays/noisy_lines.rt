@@ -127,30 +127,53 @@ const LENIENT_LINES: [&str; 4] = [
     "lenient caller\nlenient called\n",
 ];
 
-/// The lines that say how the ends are set.
+/// Lets neither end tell digests, the caller, the called end, and both.
+const DIGEST_LINES: [&str; 4] = [
+    "",
+    "digest caller\n",
+    "digest called\n",
+    "digest caller\ndigest called\n",
+];
+
+/// Holds the windows that the ends announce, and the lines that set them.
 #[derive(Clone, Copy, Debug)]
 struct Settings {
+    windows: (u8, u8),
     quiet: &'static str,
     short: &'static str,
     lenient: &'static str,
+    digest: &'static str,
 }
 
 impl Settings {
-    /// Those of the list of this number. Among the lists each combination occurs.
+    /// Returns those of the list of this number. Among the lists each combination of the first three lines occurs, and each of the
+    /// last.
     fn of_list(list: u32) -> Self {
         Settings {
             quiet: QUIET_LINES[list as usize / 5 % 4],
-            short: SHORT_LINES[list as usize / 20 % 4],
-            lenient: LENIENT_LINES[(list as usize + list as usize / 4) % 4],
+            ..Settings::plain_of_list(list)
         }
     }
 
     /// The same, where neither end is quiet on repeats.
     fn plain_of_list(list: u32) -> Self {
         Settings {
+            windows: windows_of_list(list as usize),
             quiet: "",
             short: SHORT_LINES[list as usize / 20 % 4],
             lenient: LENIENT_LINES[(list as usize + list as usize / 4) % 4],
+            digest: DIGEST_LINES[(list as usize / 3 + list as usize / 20) % 4],
+        }
+    }
+
+    /// Returns those of ends that announce this window, with nothing set.
+    fn off(window: u8) -> Self {
+        Settings {
+            windows: (window, window),
+            quiet: "",
+            short: "",
+            lenient: "",
+            digest: "",
         }
     }
 }
@@ -162,15 +185,16 @@ fn report_with(
     settings: Settings,
     events: &[Event],
 ) -> Result<Report<Global>, Fail> {
-    let (caller, called) = windows_of_list(list as usize);
     let (small, large) = (SIZES[list as usize % 2], SIZES[list as usize / 2 % 2]);
     let Settings {
+        windows: (caller, called),
         quiet,
         short,
         lenient,
+        digest,
     } = settings;
     let text = format!(in alloc;
-        "caller a {caller} {small}\ncalled b {called} {large}\n{quiet}{short}{lenient}{JOBS}"
+        "caller a {caller} {small}\ncalled b {called} {large}\n{quiet}{short}{lenient}{digest}{JOBS}"
     )?;
     report_of(alloc, text.as_str(), events)
 }
@@ -181,10 +205,10 @@ fn report_of(alloc: Global, text: &str, events: &[Event]) -> Result<Report<Globa
     Ok(run(alloc, script.setup, events)?)
 }
 
-/// The report of the list of this number.
-fn report_of_list(alloc: Global, list: u32) -> Result<Report<Global>, Fail> {
+/// Returns the report of the list of this number, with ends that are set so.
+fn report_of_list(alloc: Global, list: u32, settings: Settings) -> Result<Report<Global>, Fail> {
     let events = events_of_list(alloc, list)?;
-    report_with(alloc, list, Settings::of_list(list), events.as_slice())
+    report_with(alloc, list, settings, events.as_slice())
 }
 
 /// The events of the list of this number, and then all is lost that is on the line.
@@ -286,9 +310,9 @@ fn keeps_promises(report: &Report<Global>, caller: u8, called: u8) -> bool {
 }
 
 /// Plays the list of this number. Whether both ends kept each promise, and how many jobs of the caller were done.
-fn play_list(alloc: Global, list: u32) -> Result<(bool, usize), Fail> {
-    let (caller, called) = windows_of_list(list as usize);
-    let report = report_of_list(alloc, list)?;
+fn play_list(alloc: Global, list: u32, settings: Settings) -> Result<(bool, usize), Fail> {
+    let (caller, called) = settings.windows;
+    let report = report_of_list(alloc, list, settings)?;
     let is_right = keeps_promises(&report, caller, called);
     let struck = report.caller().queue().struck().len();
     drop(report);
@@ -296,8 +320,12 @@ fn play_list(alloc: Global, list: u32) -> Result<(bool, usize), Fail> {
 }
 
 /// How many jobs of the caller were done in the list of this number.
-fn struck_in_list(rt: &(impl Abort + AllocGlobal), list: u32) -> Result<usize, Fail> {
-    let (is_right, struck) = play_list(rt.alloc(), list)?;
+fn struck_in_list(
+    rt: &(impl Abort + AllocGlobal),
+    list: u32,
+    settings: Settings,
+) -> Result<usize, Fail> {
+    let (is_right, struck) = play_list(rt.alloc(), list, settings)?;
     assert_so_at(rt, is_right, list);
     Ok(struck)
 }
@@ -306,9 +334,27 @@ fn struck_in_list(rt: &(impl Abort + AllocGlobal), list: u32) -> Result<usize, F
 fn keeps_its_promises_on_noisy_lines(rt: HostRuntime) -> Result<(), Fail> {
     let mut struck = 0usize;
     for list in 0..LISTS {
-        struck = struck_in_list(&rt, list)?.saturating_add(struck);
+        struck = struck_in_list(&rt, list, Settings::of_list(list))?.saturating_add(struck);
     }
     assert_so_at(&rt, struck >= LISTS as usize, struck);
+    Ok(())
+}
+
+/// Plays all lists with ends that announce this window, and for which nothing is set.
+fn play_plainly(rt: &(impl Abort + AllocGlobal), window: u8) -> Result<(), Fail> {
+    let mut struck = 0usize;
+    for list in 0..LISTS {
+        struck = struck_in_list(rt, list, Settings::off(window))?.saturating_add(struck);
+    }
+    assert_so_at(rt, struck >= LISTS as usize / 2, struck);
+    Ok(())
+}
+
+#[test]
+fn keeps_its_promises_where_nothing_is_set(rt: HostRuntime) -> Result<(), Fail> {
+    for window in WINDOWS {
+        play_plainly(&rt, window)?;
+    }
     Ok(())
 }
 

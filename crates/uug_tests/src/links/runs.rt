@@ -19,8 +19,15 @@ const HALTED: Answer = Err(LinkFault::Halted);
 
 #[test]
 fn announces_windows_and_sizes(rt: HostRuntime) {
-    assert_same(&rt, Announce::new(0, 48), Err(BadAnnounce::BadWindow));
-    assert_same(&rt, Announce::new(7, 48), Err(BadAnnounce::BadSize));
+    for (window, size, fault) in [
+        (0, 64, BadAnnounce::BadWindow),
+        (8, 64, BadAnnounce::BadWindow),
+        (0, 48, BadAnnounce::BadWindow),
+        (8, 48, BadAnnounce::BadWindow),
+        (7, 48, BadAnnounce::BadSize),
+    ] {
+        assert_same(&rt, Announce::new(window, size), Err(fault));
+    }
     let greatest = announce(&rt, 7, 4096);
     assert_same(&rt, (greatest.window(), greatest.size()), (7, 4096));
 }

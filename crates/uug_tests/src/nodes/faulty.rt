@@ -51,6 +51,10 @@ impl<A: Allocator + Copy> Spool for FaultySpool<A> {
         None
     }
 
+    fn is_delayed(&self, _name: &Name) -> bool {
+        false
+    }
+
     fn keep(&mut self, name: &Name, mode: u16, bytes: &[u8]) -> Result<(), KeepFault> {
         if self.faults == 0 {
             self.faults = 1;

@@ -28,7 +28,7 @@ type Refusal<'a> = (&'a [u8], &'a [u8]);
 
 /// A name of 201 bytes stands in for the word `LONG`.
 const UNREADABLE: &[Refusal<'static>] = &[
-    (b"X a* y u -", b"XN"),
+    (b"X a* y u -", b"XN2"),
     (b"E x y u - D.0 0644 u 3 rmail me", b"EN2"),
     (b"S LONG y u - D.0 0644", b"SN2"),
     (b"S x\x7f y u - D.0 0644", b"SN2"),
@@ -37,10 +37,11 @@ const UNREADABLE: &[Refusal<'static>] = &[
     (b"R LONG y u -", b"RN2"),
     (b"R x y\x7f u -", b"RN2"),
     (b"R x y", b"RN2"),
+    (b"Q x", b"QN2"),
 ];
 
-/// What no end refuses: another first word, and none.
-const UNKNOWN: &[&[u8]] = &[b"Q x", b"SX x", b"HY", b""];
+/// Texts that no end refuses: the first word is no capital letter alone, or there is none.
+const UNKNOWN: &[&[u8]] = &[b"q x", b"SX x", b"HY", b"QN2", b""];
 
 /// A file of one byte is taken behind the message 1 of each, and all is over.
 const TAKES_A_FILE: &[Row<'static>] = &[
@@ -259,6 +260,43 @@ const HELD_FILES: &[Script<'static>] = &[
 #[test]
 fn takes_a_job_as_done_whose_file_is_there(rt: HostRuntime) {
     play_all(&rt, rt.alloc(), HELD_FILES);
+}
+
+/// Gives the file, and asks for the turn.
+const WISHED: Row<'static> = (Hear(&[WideCommand(1, 1, b"RY 0644M 0x1")]), &[Rr(1)]);
+
+const WISHES: &[Script<'static>] = &[
+    Script {
+        start: wide_peers::CALLER_STARTS,
+        has: &[Given::Lenient, Given::Job(REQUEST)],
+        rows: &[
+            (Hear(&[InitC(2)]), &[Command(1, 0, b"R q y u -")]),
+            WISHED,
+            (Hear(&[Wide(2, 1, b"f")]), &[Rr(2)]),
+            (
+                Hear(&[Wide(3, 1, b"")]),
+                &[Rr(3), Command(2, 3, b"CY"), Command(3, 3, b"H")],
+            ),
+        ],
+        phase: Phase::Talking,
+        left: &[Left::Struck(REQUEST), Left::Stored(b"y", b"f")],
+    },
+    Script {
+        start: wide_peers::CALLER_STARTS,
+        has: &[Given::Job(REQUEST)],
+        rows: &[
+            (Hear(&[InitC(2)]), &[Command(1, 0, b"R q y u -")]),
+            (Hear(&[WideCommand(1, 1, b"RY 0644M 0x1")]), &[Rr(1), Close]),
+        ],
+        phase: Phase::Ended(End::BadTalk),
+        left: &[Left::Pending(REQUEST)],
+    },
+];
+
+// a file that is not taken, since the other end says what it wants behind its mode; one that a strict end takes
+#[test]
+fn takes_a_file_whose_giver_wants_to_be_master(rt: HostRuntime) {
+    play_all(&rt, rt.alloc(), WISHES);
 }
 
 /// What becomes of its file is said while most of it waits.

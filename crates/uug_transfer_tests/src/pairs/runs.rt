@@ -15,7 +15,7 @@ use std::{env, fs, io, process};
 use uug_disk::{SystemText, lock_dir};
 use uug_failure::{Cause, EndDir, EndText, Resource, SystemFailure};
 use uug_folder::TextFile;
-use uug_pair::pair_run;
+use uug_pair::{pair_run, pair_run_with_reason};
 use uug_refusal::Refusing;
 use uug_stream::ToolFault;
 use uug_talk::Name;
@@ -523,19 +523,20 @@ fn run_ends<A: Allocator + Copy>(
     why: &mut Option<SystemFailure>,
 ) -> Result<u8, ToolFault> {
     let (socket, a, b) = (paths.socket.as_str(), paths.a.as_str(), paths.b.as_str());
-    pair_run(alloc, rt, socket, a, b, drop_every, flip_every, output, why)
+    pair_run_with_reason(alloc, rt, socket, a, b, drop_every, flip_every, output, why)
 }
 
-/// Runs two ends over the folders `a` and `b` and the socket `socket` in this folder.
+/// Runs two ends over the folders `a` and `b` and the socket `socket` in this folder, and asks for no reason.
 fn run_within<A: Allocator + Copy>(
     alloc: A,
     rt: &(impl Files<File = File> + Net + Abort + AllocGlobal + Clone + Drop),
     dir: &str,
-    every: Every,
+    (drop_every, flip_every): Every,
     output: &mut ShortOutput,
 ) -> Result<u8, ToolFault> {
     let paths = Paths::within(rt, dir);
-    run_ends(alloc, rt, &paths, every, output, &mut None)
+    let (socket, a, b) = (paths.socket.as_str(), paths.a.as_str(), paths.b.as_str());
+    pair_run(alloc, rt, socket, a, b, drop_every, flip_every, output)
 }
 
 /// The file of this name has these bytes.
@@ -623,9 +624,12 @@ fn assert_held(
     let lock = lock_dir(rt.alloc(), rt, first(path.as_str())).expect(rt, "a lock");
     place(rt, dir, PART);
     let mut output = ShortOutput::new(0);
-    let answer = run_within(rt.alloc(), rt, dir, (None, None), &mut output);
+    let paths = Paths::within(rt, dir);
+    let answer = run_ends(rt.alloc(), rt, &paths, (None, None), &mut output, &mut None);
+    let plain = run_within(rt.alloc(), rt, dir, (None, None), &mut output);
     drop(lock);
     assert_same(rt, answer, Err(ToolFault::InUse(number)));
+    assert_same(rt, plain, Err(ToolFault::Device));
     assert_same(rt, output.text(), b"");
     assert_file(rt, dir, "a/jobs", b"send x y u\n");
     assert_so(rt, has_file(rt, dir, "b/got/.part.7.0") || number == 1);

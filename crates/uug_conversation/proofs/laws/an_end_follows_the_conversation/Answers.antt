@@ -1,5 +1,6 @@
 use Rattle.uug_conversation.proofs.FirstLaw.{first_law}
+use Rattle.uug_conversation.proofs.OneEndLemmas.{turn_follows}
 use Rattle.uug_conversation.proofs.laws.an_end_follows_the_conversation.Goals as goal
 
 pub returns : goal.returns
-returns c = first_law
+returns c a b s t me struck failed kept = turn_follows me a b struck failed kept (first_law a b s t me)

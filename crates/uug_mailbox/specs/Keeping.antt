@@ -1,0 +1,29 @@
+-- What is done on the disk when a file that comes is kept (this project's profile).
+use Rattle.std.specs.Prelude.{ℕ, List, [], Option, Some, None}
+use Rattle.uug_spool.specs.Operations.{Op}
+use Rattle.uug_spool.specs.declared.spool_names.Spot.{Spot}
+use Rattle.uug_mailbox.specs.Places.{place_in, shown_public}
+use Rattle.uug_mailbox.specs.Placing.{came_of, marks_after, marks_of, place_ops}
+use Rattle.uug_mailbox.specs.declared.mail_spool.MailSpool.{MailSpool}
+use Rattle.uug_mailbox.specs.declared.marks.Marks.{Marks}
+use Rattle.uug_mailbox.specs.declared.spool_folder.SpoolFolder.{SpoolFolder}
+
+-- a name without a place has nothing done for it
+abbrev pub ops_at : {D A : Type 0} → SpoolFolder D A → (place : Option Spot) → (bytes : List ℕ) → List Op
+ops_at folder None bytes = []
+ops_at folder (Some place) bytes = place_ops (marks_of folder) (came_of folder) place bytes
+
+abbrev pub marks_at : {D A : Type 0} → SpoolFolder D A → (place : Option Spot) → (bytes : List ℕ) → Marks
+marks_at folder None bytes = marks_of folder
+marks_at folder (Some place) bytes = marks_after (marks_of folder) (came_of folder) place bytes
+
+abbrev pub place_for : {D A : Type 0} → MailSpool D A → (name : List ℕ) → Option Spot
+place_for spool name = place_in (shown_public spool.public) name
+
+-- a file of this name and these bytes comes into its place
+abbrev pub keep_ops : {D A : Type 0} → MailSpool D A → (name bytes : List ℕ) → List Op
+keep_ops spool name bytes = ops_at spool.folder (place_for spool name) bytes
+
+-- the markers that stand then
+abbrev pub keep_marks : {D A : Type 0} → MailSpool D A → (name bytes : List ℕ) → Marks
+keep_marks spool name bytes = marks_at spool.folder (place_for spool name) bytes

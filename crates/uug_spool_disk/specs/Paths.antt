@@ -1,0 +1,29 @@
+-- Where the folders and files of a spool are (that each system has a folder with one for each kind of its files is Taylor UUCP's; the
+-- folders whose names begin with a dot are as it has them too, but that each system has its own in .Temp and .Received).
+use Rattle.std.specs.Prelude.{ℕ, List, ◌++◌, codes, string_bytes}
+use Rattle.uug_spool.specs.declared.spool_names.Room.{Room}
+use Rattle.uug_spool.specs.declared.spool_names.Room.TheVariants as rooms
+use Rattle.uug_spool.specs.declared.spool_names.Spot.{Spot}
+use Rattle.uug_spool_disk.specs.declared.spool_paths.SpoolPaths.{SpoolPaths}
+
+-- the folder of one kind of files, for a system of the spool at this path, beside this public folder
+abbrev pub room_at : (spool system public : List ℕ) → Room → List ℕ
+room_at spool system public rooms.Commands = spool ++ codes "/" ++ system ++ codes "/C."
+room_at spool system public rooms.Data = spool ++ codes "/" ++ system ++ codes "/D."
+room_at spool system public rooms.Text = spool ++ codes "/" ++ system ++ codes "/D.X"
+room_at spool system public rooms.Execution = spool ++ codes "/" ++ system ++ codes "/X."
+room_at spool system public rooms.Public = public
+room_at spool system public rooms.Temporary = spool ++ codes "/.Temp/" ++ system
+room_at spool system public rooms.Marked = spool ++ codes "/.Received/" ++ system
+room_at spool system public rooms.Preserved = spool ++ codes "/.Preserve"
+
+abbrev pub room_path : {A : Type 0} → SpoolPaths A → Room → List ℕ
+room_path paths room = room_at (string_bytes paths.spool) paths.system (string_bytes paths.public) room
+
+-- all systems have one folder of preserved files, and data of the same names
+abbrev pub name_at : (system : List ℕ) → Room → (name : List ℕ) → List ℕ
+name_at system rooms.Preserved name = system ++ codes "." ++ name
+name_at system _ name = name
+
+abbrev pub file_path : {A : Type 0} → SpoolPaths A → Spot → List ℕ
+file_path paths spot = room_path paths spot.room ++ codes "/" ++ name_at paths.system spot.room spot.name

@@ -1,0 +1,104 @@
+#!/usr/bin/env bash
+# What Taylor UUCP makes of a file that we can't read for a moment, and we of its RY with an M. Taylor asks for a file whose
+# opening the system refuses us in the first session: its job has to wait, the mail after it has to come, and the next session
+# has to bring the file. Then we ask Taylor, which has a job of its own, for a file. Needs Debian's packages (apt-get install
+# uucp socat strace), and root, since uucico runs as the user uucp. Run by hand:
+#     interop/later.sh [PROGRAM]
+# PROGRAM is crates/uucpair/out/uucpair where none is named. Its last line is the number of rows that are as they should be.
+set -u
+root=$(cd "$(dirname "$0")/.." && pwd)
+. "$root/interop/common.sh"
+program=$(readlink -f "${1:-$root/crates/uucpair/out/uucpair}")
+work=$(mktemp -d)
+chmod 755 "$work"
+started=()
+good=0
+rows=0
+trap 'kill "${started[@]}" 2>/dev/null; rm -rf "$work"' EXIT
+
+set_up() {
+    rm -rf "$work/taylor" "$work/ours" "$work/line"
+    taylor_settings taylor "$work/taylor" "$work/line"
+    mkdir -p "$work"/ours/{send,got}
+    cat >"$work/taylor/sys" <<END
+system ours
+time any
+port gate
+chat ""
+protocol g
+remote-send ~
+remote-receive ~
+local-send ~
+local-receive ~
+END
+    echo "the mail" >"$work/taylor/pub/mail"
+    echo "theirs" >"$work/taylor/pub/theirs"
+    echo "late" >"$work/ours/send/late"
+    chmod 644 "$work"/taylor/pub/*
+    # uucico puts a file only where everybody may.
+    chmod 777 "$work/taylor/pub"
+    chown -R uucp:uucp "$work/taylor"
+    : >"$work/ours/jobs"
+}
+
+# row NAME EXPECTED GOT
+row() {
+    rows=$((rows + 1))
+    if [ "$2" = "$3" ]; then
+        good=$((good + 1))
+        echo "$1: $3"
+    else
+        echo "$1: expected $2, but $3"
+        cat "$work/err"
+        tail -n 5 "$work/taylor/log/Log"
+    fi
+}
+
+waiting() {
+    as_uucp uustat -I "$work/taylor/config" -a | grep -c .
+}
+
+# answered WORD..: a session in which Taylor calls us; WORD.. goes before our program
+answered() {
+    local answerer
+    "$@" "$program" answer "unix:$work/line" "$work/ours" --me ours --peer taylor -v >"$work/out" 2>"$work/err" &
+    answerer=$!
+    started+=("$answerer")
+    wait_for "$work/line"
+    chmod 666 "$work/line"
+    (cd / && as_uucp /usr/sbin/uucico -I "$work/taylor/config" -f -s ours)
+    wait "$answerer"
+}
+
+# called: a session in which we call Taylor
+called() {
+    (cd / && exec socat "UNIX-LISTEN:$work/line,mode=666" \
+        "EXEC:runuser -u uucp -- /usr/sbin/uucico -I $work/taylor/config") 2>"$work/socat.err" &
+    started+=($!)
+    wait_for "$work/line"
+    "$program" call "unix:$work/line" "$work/ours" --me ours --peer taylor -v >"$work/out" 2>"$work/err"
+    local status=$?
+    # uucico takes its log's lock once more when it has heard the end of the line.
+    sleep 1
+    return "$status"
+}
+
+set_up
+as_uucp uucp -I "$work/taylor/config" -r -g B 'ours!~/late' "$work/taylor/pub/late"
+as_uucp uucp -I "$work/taylor/config" -r -g N "$work/taylor/pub/mail" 'ours!~/mail'
+answered strace -f -o /dev/null -P "$work/ours/send/late" -e inject=openat:error=EMFILE
+row "the session" "called done pending 0 struck 0 failed 0" "$(head -1 "$work/out")"
+row "the mail after it" "the mail" "$(cat "$work/ours/got/mail" 2>&1)"
+row "Taylor's jobs then" 1 "$(waiting)"
+row "what is said" 1 "$(grep -c 'late is not given: it can.t be read' "$work/err")"
+answered
+row "the next session brings it" "late, 0 jobs" "$(cat "$work/taylor/pub/late" 2>&1), $(waiting) jobs"
+
+set_up
+as_uucp uucp -I "$work/taylor/config" -r "$work/taylor/pub/mail" 'ours!~/mail'
+echo 'request ~/theirs theirs me' >"$work/ours/jobs"
+called
+row "we ask, and Taylor has a job" "status 0, caller done pending 0 struck 1 failed 0" "status $?, $(head -1 "$work/out")"
+row "what has come" "theirs, the mail" "$(cat "$work/ours/got/theirs" 2>&1), $(cat "$work/ours/got/mail" 2>&1)"
+echo "$good of $rows as they should be"
+[ "$good" = "$rows" ]

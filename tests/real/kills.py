@@ -1,0 +1,176 @@
+"""Kills of either end, at each so-manieth call of the system and at each that changes a disk; and the order in which things go
+to the device."""
+import re
+
+from lines import finish, load, wrong
+from suite import listens_at, report, scene, text_of, wait_until, write
+
+CHANGES = "rename,renameat,renameat2,link,linkat,unlink,unlinkat,fsync,ftruncate"
+
+
+def traced(one, *more):
+    return ("strace", "-f", "-qq", "-o", one.path("trace"), *more)
+
+
+def calls_of(one, which):
+    """How many such calls each end makes in a session that is well."""
+    counts = {}
+    for end in ("beta", "alpha"):
+        ends = load(one)
+        front = traced(one, "-e", f"trace={which}")
+        called = ends.answer(one.line, "--timeout", "10", **({"front": front} if end == "beta" else {}))
+        ends.call(one.line, "--timeout", "10", **({"front": front} if end == "alpha" else {}))
+        called.end()
+        counts[end] = sum("(" in line for line in text_of(one.path("trace")).splitlines())
+    return counts
+
+
+def killed(one, end, which, when):
+    """A session in which this end is killed at such a call. What is wrong then, and when all is done."""
+    ends = load(one)
+    front = traced(one, "-e", f"trace={which}", "-e", f"inject={which}:signal=SIGKILL:when={when}")
+    called = ends.answer(one.line, "--timeout", "10", "--wait", "3", **({"front": front} if end == "beta" else {}))
+    if listens_at(one.line[5:]):
+        ends.call(one.line, "--timeout", "10", **({"front": front} if end == "alpha" else {}))
+    called.end()
+    return [f"behind the kill: {fault}" for fault in wrong(ends)] + [f"in the end: {fault}" for fault in finish(ends)]
+
+
+def sweep(one, end, which, step):
+    count = calls_of(one, which)[end]
+    one.holds(f"{end} makes such calls", count > 5, count)
+    faults = {}
+    moments = range(1 + step // 2, count + 1, step)
+    for when in moments:
+        found = killed(one, end, which, when)
+        if found:
+            faults[when] = found
+    one.row(f"{len(moments)} kills of {end}", faults, {})
+
+
+@scene("strace")
+def kills_of_who_calls(one):
+    sweep(one, "alpha", "all", 10)
+
+
+@scene("strace")
+def kills_of_who_is_called(one):
+    sweep(one, "beta", "all", 10)
+
+
+@scene("strace")
+def kills_at_changes_of_who_calls(one):
+    sweep(one, "alpha", CHANGES, 1)
+
+
+@scene("strace")
+def kills_at_changes_of_who_is_called(one):
+    sweep(one, "beta", CHANGES, 1)
+
+
+def mailed(nodes, number):
+    """A mail and a file of each node for the other one, under names of this trial."""
+    for node in nodes.names:
+        nodes.mail(node, f"{number:04}", f"mail {number} of {node}\n")
+        nodes.queue(node, f"C.Z{number:04}", f"S {nodes.at(node, 'src')}/f ~/f{number} u -C D.1{number:03} 0644 ",
+                **{f"_1{number:03}": f"file {number} of {node}\n"})
+
+
+def spool_trial(one, nodes, number, victim, front):
+    """A session in which a node is killed, and those that follow, with what has come run between them. What is wrong in the end."""
+    from spools import AS_NOBODY, deliver
+
+    mailed(nodes, number)
+    mails = []
+    nodes.own()
+    how = {node: {"front": (*front, *AS_NOBODY) if node == victim else AS_NOBODY} for node in nodes.names}
+    called = one.start(nodes.words("answer", "beta", one.line, "alpha"), **how["beta"])
+    wait_until(lambda: called.process.poll() is not None or listens_at(one.line[5:]))
+    caller = one.run(nodes.words("call", "alpha", one.line, "beta"), **how["alpha"])
+    # Whom nobody has called waits on.
+    called.end() if caller.out or called.process.poll() is not None else called.stop()
+    deliver(nodes, mails)
+    for _ in range(3):
+        if not any("/C./" in name for node in nodes.names for name in nodes.there(node)):
+            break
+        caller, called = nodes.talk()
+        deliver(nodes, mails)
+    faults = []
+    if sorted(mails) != [f"mail {number} of {node}\n" for node in nodes.names]:
+        faults.append(f"the mails that came: {sorted(mails)}")
+    for node in nodes.names:
+        if nodes.pub(node).get(f"f{number}") != f"file {number} of {nodes.other(node)}\n":
+            faults.append(f"the file at {node}: {nodes.pub(node).get(f'f{number}')!r}")
+        left = [name for name in nodes.there(node) if not name.startswith((".Received", ".Preserve/failed"))]
+        if left:
+            faults.append(f"{node} has {left}")
+    return faults
+
+
+def spool_sweep(one, victim, step):
+    from spools import Nodes
+
+    nodes = Nodes(one)
+    spool_trial(one, nodes, 0, victim, traced(one, "-e", f"trace={CHANGES}"))
+    count = sum("(" in line for line in text_of(one.path("trace")).splitlines())
+    one.holds(f"{victim} makes such calls", count > 10, count)
+    faults = {}
+    for when in range(1, count + 1, step):
+        found = spool_trial(one, nodes, when, victim, traced(one, "-e", f"trace={CHANGES}", "-e",
+                f"inject={CHANGES}:signal=SIGKILL:when={when}"))
+        if found:
+            faults[when] = found
+    one.row(f"kills of {victim} over a spool", faults, {})
+
+
+@scene("strace")
+def kills_over_a_spool_of_who_calls(one):
+    spool_sweep(one, "alpha", 2)
+
+
+@scene("strace")
+def kills_over_a_spool_of_who_is_called(one):
+    spool_sweep(one, "beta", 2)
+
+
+def order_of(trace, path):
+    """In which order a file at this path gets its bytes, its name and its folder on the device, and something is said of it."""
+    part, steps = None, []
+    lines = text_of(trace).splitlines()
+    place = next((number for number, line in enumerate(lines) if re.search(rf'rename\w*\(.*"{re.escape(path)}"(?:, 0)?\) = 0',
+            line)), None)
+    if place is None:
+        return [f"no renaming to {path}"]
+    part = re.findall(r'"([^"]*)"', lines[place])[0]
+    if any("fsync(" in line and f"{part}>" in line for line in lines[:place]):
+        steps.append("its bytes")
+    steps.append("its name")
+    folder = path.rpartition("/")[0]
+    for line in lines[place + 1:]:
+        if "fsync(" in line and f"{folder}>" in line and "its folder" not in steps:
+            steps.append("its folder")
+        if re.search(r"(write|sendto|sendmsg)\(\d+<(UNIX|socket|TCP)", line):
+            steps.append("what is said")
+            break
+    return steps
+
+
+ORDER = ["its bytes", "its name", "its folder", "what is said"]
+
+
+@scene("strace")
+def what_is_on_the_device(one):
+    """A file that comes, the jobs that are left and the number are on the device before anything is said of them."""
+    for end in ("beta", "alpha"):
+        ends = load(one)
+        for name in ("alpha", "beta"):
+            write(ends.at(name, "number"), "4\n")
+        front = {"front": ("strace", "-f", "-y", "-qq", "-s", "200", "-o", one.path("trace"))}
+        called = ends.answer(one.line, **(front if end == "beta" else {}))
+        caller = ends.call(one.line, **(front if end == "alpha" else {}))
+        called = called.end()
+        done = [(0, report(side, struck=4), "") for side in ("caller", "called")]
+        one.row(f"both are well, {end}", [caller.all(), called.all()], done)
+        other = "beta" if end == "alpha" else "alpha"
+        for name in (f"got/{other}1", f"got/{other}3", "jobs", "number"):
+            one.row(f"{name} at {end}", order_of(one.path("trace"), f"{end}/{name}"), ORDER)

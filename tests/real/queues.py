@@ -1,0 +1,289 @@
+"""`queue`: what it does and says; copies, which go where their jobs go; and jobs that come while a session runs."""
+import fcntl
+import os
+import threading
+import time
+
+from lines import Cable
+from suite import Ends, filler, names_in, report, said, scene, text_in, text_of, wait_until, write
+
+
+def queue(one, *words, front=()):
+    return one.run(["queue", "alpha", *words], front=front)
+
+
+def names(ends, folder):
+    return names_in(ends.at("alpha", folder))
+
+
+@scene()
+def what_queue_says(one):
+    ends = Ends(one)
+    write(one.path("files/x"), "one\n")
+    write(one.path("x"), "two\n")
+    write(one.path("most"), filler("most", 1_048_576))
+    write(one.path("more"), filler("more", 1_048_577))
+    write(one.path("a b"), "")
+    write(one.path(".h"), "")
+    os.mkfifo(one.path("pipe"))
+    cant = lambda name, why: (3, "", said("device fault", f"can't read {name}", f"{name}: {why}"))
+    bad = "SOURCE, TARGET and the user are names of 1 to 200 printing characters without a space"
+    for what, words, expected in (
+        ("nothing waits", (), (0, "", "")),
+        ("send", ("send", "files/x", "--user", "me"), (0, "queued send x x me\n", "")),
+        ("a name that is taken", ("send", "x", "y", "--user", "me"), (0, "queued send x.1 y me\n", "")),
+        ("request", ("request", "~/q", "--user", "me"), (0, "queued request ~/q q me\n", "")),
+        ("request with a target", ("request", "q", "r", "--user", "me"), (0, "queued request q r me\n", "")),
+        ("the list", (), (0, "send x x me\nsend x.1 y me\nrequest ~/q q me\nrequest q r me\n", "")),
+        ("the longest file", ("send", "most", "--user", "me"), (0, "queued send most most me\n", "")),
+        ("a longer one", ("send", "more"), cant("more", "over 1048576 bytes")),
+        ("no file", ("send", "none"), cant("none", "no such file or directory")),
+        ("a folder", ("send", "files"), cant("files", "not a regular file")),
+        ("a pipe", ("send", "pipe"), cant("pipe", "not a regular file")),
+    ):
+        one.row(what, queue(one, *words).all(), expected)
+    for what, words in (("a hidden file", ("send", ".h")), ("a space", ("send", "a b")), ("no file is named", ("send",)),
+            ("another order", ("fetch", "x"))):
+        ended = queue(one, *words)
+        one.row(what, (ended.status, ended.out, ended.err.splitlines()[0]), (2, "", "uucpair: bad usage"))
+    one.row("the copies", {name: text_of(ends.at("alpha", f"send/{name}")) for name in names(ends, "send")},
+            {"x": "one\n", "x.1": "two\n", ".copy.x": "one\n", ".copy.x.1": "two\n", "most": filler("most", 1_048_576),
+            ".copy.most": filler("most", 1_048_576)})
+    one.row("the jobs", text_of(ends.at("alpha", "jobs")),
+            "send x x me\nsend x.1 y me\nrequest ~/q q me\nrequest q r me\nsend most most me\n")
+    write(ends.at("alpha", "jobs"), "send z z me")
+    one.row("behind a line without its line feed", queue(one, "send", "files/x", "--user", "me").out, "queued send x x me\n")
+    one.row("which gets one", text_of(ends.at("alpha", "jobs")), "send z z me\nsend x x me\n")
+
+
+@scene()
+def copies_go_where_their_jobs_go(one):
+    ends = Ends(one)
+    for name in ("done", "failed", "waits", "theirs"):
+        write(one.path(f"files/{name}"), f"{name}\n")
+    ends.give("alpha", mine="mine\n")
+    queue(one, "send", "files/done", "--user", "me")
+    queue(one, "send", "files/failed", ".no", "--user", "me")
+    one.row("the copies", names(ends, "send"), [".copy.done", ".copy.failed", "done", "failed", "mine"])
+    caller, called = ends.talk()
+    one.row("the session", caller.out, report("caller", struck=1, failed=["send failed .no me"]))
+    one.row("that of a job that is done is gone, and mine is not", names(ends, "send"), ["mine"])
+    one.row("that of one that failed is kept", {name: text_of(ends.at("alpha", f"failed.files/{name}")) for name in names(ends,
+            "failed.files")}, {"failed": "failed\n"})
+    one.row("its name is taken", queue(one, "send", "files/failed", "again", "--user", "me").out,
+            "queued send failed.1 again me\n")
+    ends.jobs("alpha", "send failed tried me")
+    caller, called = ends.talk()
+    one.row("it is tried again with its copy", (caller.out, text_of(ends.at("beta", "got/tried"))),
+            (report("caller", struck=1), "failed\n"))
+    one.row("and stays as long as it is told of", names(ends, "failed.files"), ["failed"])
+    # a job waits whose file is not there, and one whose copy is another's file by now
+    ends.jobs("alpha", "send waits early me")
+    one.row("a name that a job has", queue(one, "send", "files/waits", "late", "--user", "me").out,
+            "queued send waits.1 late me\n")
+    queue(one, "send", "files/theirs", "--user", "me")
+    os.remove(ends.at("alpha", "send/theirs"))
+    write(ends.at("alpha", "send/theirs"), "another's\n")
+    ends.jobs("alpha", "send waits.1 late me")
+    queue(one, "request", "q", "--user", "me")
+    queue(one, "send", "files/done", "--user", "me")
+    one.row("copies that wait, and another's file", {name: text_of(ends.at("alpha", f"send/{name}")) for name in names(ends,
+            "send") if name != "mine"},
+            {"waits.1": "waits\n", ".copy.waits.1": "waits\n", "done": "done\n", ".copy.done": "done\n", "theirs": "another's\n"})
+    # nothing goes while somebody replaces the file of jobs, or where it can't be seen which have failed
+    os.rename(ends.at("alpha", "jobs"), one.path("aside"))
+    ends.talk()
+    one.row("without a file of jobs nothing goes", names(ends, "send"),
+            [".copy.done", ".copy.waits.1", "done", "mine", "theirs", "waits.1"])
+    os.rename(one.path("aside"), ends.at("alpha", "jobs"))
+    ends.jobs("alpha", "send none none me")
+    os.rename(ends.at("alpha", "failed"), one.path("told"))
+    os.mkdir(ends.at("alpha", "failed"))
+    queue(one, "send", "files/theirs", "--user", "me")
+    one.row("nor where `failed` can't be read", names(ends, "failed.files") + [name for name in names(ends,
+            "send") if "waits" in name],
+            ["failed", ".copy.waits.1", "waits.1"])
+
+
+def append(path, lines):
+    """Appends to the jobs as `queue` does it: with their lock, to the file that has their name then."""
+    while True:
+        with open(path, "a") as file:
+            fcntl.flock(file, fcntl.LOCK_EX)
+            if os.path.samestat(os.fstat(file.fileno()), os.stat(path)):
+                file.write(lines)
+                return
+
+
+@scene()
+def jobs_that_come_meanwhile(one):
+    """While a session runs, jobs are queued and appended: none is lost, none is done twice, comments stay."""
+    ends = Ends(one)
+    ends.give("alpha", **{f"f{number}": filler(f"f{number}", 4000) for number in range(6)}, late="late\n")
+    write(one.path("files/q"), "queued\n")
+    ends.jobs("alpha", "# first", *(f"send f{number} f{number} me" for number in range(6)), "# last")
+    called = ends.answer(one.line)
+    cable = Cable(one, rate=12_000)
+    caller = one.start(ends.words("call", cable.line))
+    wait_until(lambda: len(names_in(ends.at("beta", "got"))) > 1)
+    one.row("queue", queue(one, "send", "files/q", "--user", "me").all(), (0, "queued send q q me\n", ""))
+    append(ends.at("alpha", "jobs"), "# mine\nsend late late me\nsend f0 f0 me\n")
+    wait_until(lambda: len(names_in(ends.at("beta", "got"))) > 3)
+    one.row("a job that is queued without a file", queue(one, "request", "none", "--user", "me").out,
+            "queued request none none me\n")
+    cable.rate = 10_000_000
+    one.row("the session", (caller.end().all(), called.end().all()),
+            ((0, report("caller", struck=6), ""), (0, report("called"), "")))
+    one.row("the jobs then", text_of(ends.at("alpha", "jobs")),
+            "# first\n# last\nsend q q me\n# mine\nsend late late me\nsend f0 f0 me\nrequest none none me\n")
+    one.row("the copy waits", text_of(ends.at("alpha", "send/q")), "queued\n")
+    caller, called = ends.talk()
+    one.row("the next session", (caller.out, text_of(ends.at("alpha", "jobs"))),
+            (report("caller", struck=3, failed=["request none none me"]), "# first\n# last\n# mine\n"))
+    one.row("what came of them", (text_of(ends.at("beta", "got/q")), text_of(ends.at("beta", "got/late"))),
+            ("queued\n", "late\n"))
+
+
+@scene("strace")
+def jobs_that_come_late(one):
+    """While another file of jobs takes the place of the old one, which lasts a while here, jobs are appended: none is lost."""
+    ends = Ends(one)
+    ends.give("alpha", x="x\n")
+    ends.jobs("alpha", *(f"send x x{number} me" for number in range(3)))
+    calls = "flock,rename,renameat,renameat2,fsync"
+    called = ends.answer(one.line)
+    caller = one.start(ends.words("call", one.line), front=("strace", "-f", "-qq", "-o", "/dev/null", "-e", f"trace={calls}",
+            "-e", f"inject={calls}:delay_enter=60000"))
+    appended, number = [], 0
+    while caller.process.poll() is None and number < 300:
+        number += 1
+        line = f"send x late{number} me"
+        file = os.open(ends.at("alpha", "jobs"), os.O_WRONLY | os.O_APPEND)
+        os.write(file, f"{line}\n".encode())
+        # what is written to a file that has no name any more may be lost
+        if os.fstat(file).st_nlink:
+            appended.append(line)
+        os.close(file)
+        time.sleep(0.02)
+    ended = caller.end()
+    called.end()
+    jobs = text_of(ends.at("alpha", "jobs")).splitlines()
+    one.holds("the session is done, and nothing has failed",
+            ended.status == 0 and ended.out.startswith("caller done pending 0 ") and ended.out.endswith(" failed 0\n"),
+            ended.all())
+    come = names_in(ends.at("beta", "got"))
+    one.row("no job is lost", [line for line in appended if line not in jobs and line.split()[2] not in come], [])
+    one.row("none is there twice", len(jobs), len(set(jobs)))
+    one.holds("jobs were appended", len(appended) > 5, appended)
+
+
+@scene()
+def the_same_job_twice(one):
+    """Of two lines that are the same each is one job."""
+    ends = Ends(one)
+    ends.give("alpha", x="x\n")
+    ends.jobs("alpha", "send x x me", "send x x me", "send  x   x me")
+    caller, called = ends.talk()
+    one.row("three jobs", (caller.out, text_of(ends.at("alpha", "jobs"))), (report("caller", struck=3), ""))
+    ends.jobs("alpha", "send x x me", "send none none me", "send x x me")
+    called = ends.answer(one.line)
+    caller = ends.call(Cable(one, most=700).line, "--timeout", "10")
+    called.end()
+    struck = int(caller.out.split()[5])
+    one.row("as many lines are left as were not done", text_of(ends.at("alpha", "jobs")).count("send x x me") + struck, 2)
+
+
+@scene()
+def more_than_a_session_offers(one):
+    """--most: the jobs behind the first whose files have so many bytes wait, which is said."""
+    ends = Ends(one)
+    ends.give("alpha", a=filler("a", 600_000), b=filler("b", 600_000), c="c\n")
+    ends.jobs("alpha", "send a a me", "send b b me", "send c c me")
+    caller, called = ends.talk(call=["--most", "1048576"])
+    one.row("the first session", caller.all(), (0, report("caller", struck=1), said("2 jobs wait for the next session")))
+    one.row("what waits", text_of(ends.at("alpha", "jobs")), "send b b me\nsend c c me\n")
+    caller, called = ends.talk(call=["--most", "1048576"])
+    one.row("the next one", (caller.all(), text_of(ends.at("alpha", "jobs"))), ((0, report("caller", struck=2), ""), ""))
+
+
+@scene()
+def many_who_queue(one):
+    """Four processes queue ten jobs each while sessions run over the folder: each comes once."""
+    ends = Ends(one)
+    faults = []
+
+    def feed(who):
+        for number in range(10):
+            write(one.path(f"feed{who}/f"), f"file {who} {number}\n")
+            ended = one.run(["queue", "alpha", "send", f"feed{who}/f", f"t{who}.{number}", "--user", "me"])
+            if ended.status:
+                faults.append(ended.all())
+
+    feeders = [threading.Thread(target=feed, args=(who,)) for who in range(4)]
+    for feeder in feeders:
+        feeder.start()
+    struck, rounds = 0, 0
+    while rounds < 60 and (any(feeder.is_alive() for feeder in feeders) or text_of(ends.at("alpha", "jobs"))):
+        rounds += 1
+        caller, called = ends.talk()
+        if caller.status or called.status:
+            faults.append((caller.all(), called.all()))
+            break
+        struck += int(caller.out.split()[5])
+    for feeder in feeders:
+        feeder.join()
+    one.row("nothing fails", faults, [])
+    one.row("each is done once", struck, 40)
+    one.row("each has come", {name: text_of(ends.at("beta", f"got/{name}")) for name in names_in(ends.at("beta", "got"))},
+            {f"t{who}.{number}": f"file {who} {number}\n" for who in range(4) for number in range(10)})
+    one.row("no copy is left", names(ends, "send"), [])
+
+
+@scene("strace")
+def kills_of_who_queues(one):
+    """A kill at each change leaves a job with its copy, or none of both but for what the next one takes away."""
+    changes = "openat,write,rename,link,linkat,unlink,unlinkat,fsync,ftruncate"
+    faults = []
+    for when in range(1, 60):
+        ends = Ends(one)
+        write(one.path("files/x"), "x\n")
+        ended = queue(one, "send", "files/x", "--user", "me",
+                front=("strace", "-f", "-qq", "-o", "/dev/null", "-e", f"trace={changes}", "-e",
+                f"inject={changes}:signal=SIGKILL:when={when}"))
+        jobs = text_of(ends.at("alpha", "jobs"))
+        if jobs not in ("", "send x x me\n") or jobs and text_in(ends.at("alpha", "send/x")) != "x\n":
+            faults.append((when, jobs, names(ends, "send")))
+        if jobs:
+            caller, _ = ends.talk()
+            if caller.out != report("caller", struck=1) or text_of(ends.at("beta", "got/x")) != "x\n":
+                faults.append((when, caller.all()))
+        queue(one, "send", "files/x", "y", "--user", "me")
+        caller, _ = ends.talk()
+        if caller.out != report("caller", struck=1) or [name for name in names(ends, "send") if not jobs or name != "x"]:
+            faults.append((when, caller.all(), names(ends, "send")))
+        for end in ("alpha", "beta"):
+            for folder in ("send", "got"):
+                for name in names_in(ends.at(end, folder)):
+                    os.remove(ends.at(end, f"{folder}/{name}"))
+            if os.path.exists(ends.at(end, "jobs")):
+                os.remove(ends.at(end, "jobs"))
+        if ended.status == 0:
+            break
+    one.row("what is left", faults, [])
+
+
+@scene()
+def who_queues(one):
+    """The user of a job is that of --user, else of USER or LOGNAME where they are names, else `uucp`."""
+    Ends(one)
+    for what, env, user in (("USER", {"USER": "u", "LOGNAME": "l"}, "u"),
+            ("a USER that is no name", {"USER": "a b", "LOGNAME": "l"}, "l"),
+                            ("none", {"USER": "", "LOGNAME": ""}, "uucp")):
+        ended = one.run(["queue", "alpha", "request", "q"], env=env)
+        one.row(what, ended.all(), (0, f"queued request q q {user}\n", ""))
+    one.row("a folder that is not there", one.run(["queue", "none"]).all(),
+            (3, "", said("device fault", "none: no such file or directory")))
+    write(one.path("alpha/jobs"), "send x\n")
+    ended = one.run(["queue", "alpha", "request", "q"])
+    one.row("bad jobs", (ended.status, ended.out, ended.err.splitlines()[0], text_of(one.path("alpha/jobs"))),
+            (2, "", "uucpair: bad jobs at line 1", "send x\n"))
