@@ -12,7 +12,7 @@ set -eu
 export LC_ALL=C
 umask 022
 root=$(dirname "$(dirname "$(readlink -f "$0")")")
-documents=(README.md CHANGELOG.md docs/{TUTORIAL,OPERATING,PROTOCOL,INTEROP,PROOFS}.md)
+documents=(README.md CHANGELOG.md docs/{TUTORIAL,OPERATING,PROTOCOL,PROOFS}.md)
 
 fail() {
     echo "release.sh: $*" >&2
@@ -82,8 +82,8 @@ CONTROL
 write_debian_changelog() {
     echo "uucpair ($version) unstable; urgency=medium"
     echo
-    awk '/^## / { parts++ } parts == 1 && /^- / { sub(/^- /, ""); print }' "$root/CHANGELOG.md" | fold -sw 74 |
-        sed -e 's/ *$//' -e '/^[0-9]* [A-Z][a-z]* 20[0-9]*: /s/^/  * /' -e '/^  \* /!s/^/    /'
+    awk '/^## / { parts++ } parts == 1 && sub(/^- /, "* ")' "$root/CHANGELOG.md" | fold -sw 74 |
+        sed -e 's/ *$//' -e 's/^\* /  &/' -e '/^  \* /!s/^/    /'
     echo
     echo " -- $maintainer  $(date -uRd "@$SOURCE_DATE_EPOCH")"
 }
