@@ -144,7 +144,7 @@ measure() {
 # row KIND BYTES WINDOW SIZE EVERY: prints a line for each program, and one for the two `uucico` where they do the same.
 row() {
     local number checked rest beside=
-    # With packets of 4,096 bytes and a window of seven `uucico` stores other bytes (docs/INTEROP.md).
+    # With packets of 4,096 bytes and a window of seven `uucico` stores other bytes (docs/OPERATING.md).
     [ -z "$uucico" ] || [ "$1 $2" != "clean $mb" ] || [ "$4" = 4096 ] || beside=$4
     "$work/make" "$2" 0 "$4" 0 >"$work/files_only"
     "$work/make" "$2" "$3" "$4" "$5" >"$work/text"

@@ -9,7 +9,7 @@
 # where Taylor may give up. A third number, as in 64:7:8192, is the size of the longest file of such a session, beside
 # a few short ones; without it the sizes are those of SIZES. Each session prints a line when it is over, with its seconds.
 # The last line is the number of sessions in which all went well. As it stands this takes up to ten minutes. A uucico that
-# takes a file waits ten seconds where a data packet was lost (docs/INTEROP.md): a MiB in packets of 64 bytes takes a
+# takes a file waits ten seconds where a data packet was lost (docs/OPERATING.md): a MiB in packets of 64 bytes takes a
 # quarter of an hour.
 set -u
 root=$(cd "$(dirname "$0")/.." && pwd)
@@ -21,7 +21,7 @@ started=()
 trap 'kill "${started[@]}" 2>/dev/null; rm -rf "$work"' EXIT
 
 all_sizes=${SIZES:-0 1 63 64 65 4096 1048576}
-# Not 4096:7: uucico stores wrong bytes where more than 16,384 may be on their way to it (docs/INTEROP.md).
+# Not 4096:7: uucico stores wrong bytes where more than 16,384 may be on their way to it (docs/OPERATING.md).
 terms=${TERMS_LIST-64:3 64:7 1024:3 1024:7 2048:7 4096:3}
 
 # set_up SIZE WINDOW: Taylor's folders and settings, and a folder of ours

@@ -57,7 +57,7 @@ def of_program(crate, kind, name):
         match = re.search(head, text, re.M)
         if match:
             end = re.compile(r"[{;]").search(text, match.end()).start()
-            lines = text[match.start() : sources.behind(text, end) if text[end] == "{" else end + 1].splitlines()
+            lines = text[match.start() : sources.after(text, end) if text[end] == "{" else end + 1].splitlines()
             return path, [line for line in lines if line.strip() and not line.strip().startswith("#")]
     return None
 

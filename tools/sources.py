@@ -1,7 +1,7 @@
 """What the crates have, read from their sources: for tools/docs_check.py and tools/contracts_index.py.
 
-It reads the text as `rt fmt` lays it out, and is no parser of the language: functions with the names of their clauses
-and their comments, types and traits, constants that are whole numbers, definitions in specs/, and must-fail edits.
+It reads the text as `rt fmt` lays it out, and is no parser of the language: functions with the names of their clauses,
+types and traits, constants that are whole numbers, definitions in specs/, and must-fail edits.
 """
 import functools
 import os
@@ -18,8 +18,8 @@ DEFINITION = re.compile(r"(?:(?:abbrev|record|data|pub|unfoldable|opaque) )+([^\
 CONSTANT = re.compile(r"^\s*(?:pub(?:\([^)]*\))? )?const (\w+): \w+ = ([^;\"]+);", re.M)
 
 
-def read(path):
-    with open(os.path.join(ROOT, path), encoding="utf-8") as file:
+def read(path, errors="strict"):
+    with open(os.path.join(ROOT, path), encoding="utf-8", errors=errors) as file:
         return file.read()
 
 
@@ -35,23 +35,10 @@ def files():
 
 
 @functools.lru_cache(None)
-def dependencies():
-    """The crates, in the order of crates.txt, each with what it stands on."""
-    lines = [line for line in read("crates.txt").splitlines() if ":" in line and not line.startswith("#")]
-    return {crate.strip(): below.split() for crate, _, below in (line.partition(":") for line in lines)}
-
-
 def crates():
-    return tuple(dependencies())
-
-
-def crate_comment(crate):
-    """The //! comment with which the first file of a crate begins."""
-    for path in (f"crates/{crate}/src/lib.rt", f"crates/{crate}/src/main.rt"):
-        if path in files():
-            lines = read(path).splitlines()
-            return "\n".join(line[3:].strip() for line in lines if line.startswith("//!"))
-    return ""
+    """The crates, in the order of crates.txt."""
+    lines = read("crates.txt").splitlines()
+    return tuple(line.split(":")[0].strip() for line in lines if ":" in line and not line.startswith("#"))
 
 
 def of_crate(crate, folder, ending):
@@ -64,8 +51,8 @@ def without_hidden(text):
     return HIDDEN.sub(lambda found: re.sub(r"[^\n]", " ", found.group()), text)
 
 
-def behind(text, start):
-    """The place behind the bracket that closes the one at `start`."""
+def after(text, start):
+    """The place after the bracket that closes the one at `start`."""
     depth = 0
     for place in range(start, len(text)):
         if text[place] in OPENING:
@@ -77,18 +64,6 @@ def behind(text, start):
     return len(text)
 
 
-def comment_before(text, start):
-    """The /// comment above the line at `start`, without what stands between them in #[..] and //."""
-    lines, taken = text[:start].split("\n")[:-1], []
-    while lines:
-        line = lines.pop().strip()
-        if line.startswith("///"):
-            taken.insert(0, line[3:].strip())
-        elif taken or not (line.startswith(("#[", "//")) or line.endswith("]") or line.startswith("ghost use")):
-            break
-    return "\n".join(taken)
-
-
 def first_sentence(comment):
     """The first sentence of a comment, in one line."""
     text = " ".join(comment.split("\n\n")[0].split())
@@ -97,9 +72,8 @@ def first_sentence(comment):
 
 
 class Function:
-    def __init__(self, crate, path, owner, trait, name, visible, contract, comment, line):
-        self.crate, self.path, self.owner, self.trait = crate, path, owner, trait
-        self.name, self.visible, self.comment, self.line = name, visible, comment, line
+    def __init__(self, path, owner, trait, name, visible, contract):
+        self.path, self.owner, self.trait, self.name, self.visible = path, owner, trait, name, visible
         self.clauses, self.contract = contract
 
     @property
@@ -109,7 +83,7 @@ class Function:
     def clause_texts(self):
         """The kind, the name and the text of each clause."""
         heads = re.finditer(r"(ensures|requires)\*?\s*(\w*)\s*(?=\{)", self.contract)
-        return [(*head.groups(), self.contract[head.end() : behind(self.contract, head.end())]) for head in heads]
+        return [(*head.groups(), self.contract[head.end() : after(self.contract, head.end())]) for head in heads]
 
     @property
     def module(self):
@@ -117,7 +91,7 @@ class Function:
 
 
 def signature_end(text, place):
-    """The place of the first clause, body or semicolon behind a function's name."""
+    """The place of the first clause, body or semicolon after a function's name."""
     depth = 0
     clause = re.compile(r"(ensures|requires|where)\b")
     while place < len(text):
@@ -141,7 +115,7 @@ def clauses_at(text, place):
         if not match:
             return found, text[start:place]
         found.append((match.group(1), match.group(3)))
-        place = behind(text, match.end())
+        place = after(text, match.end())
 
 
 def owners(text):
@@ -161,7 +135,7 @@ def owners(text):
         if block.group(2) == "impl" and " for " in head:
             trait, head = head.split(" for ", 1)
         name = re.match(r"&?(?:mut )?(?:\w+::)*(\w+)", head)
-        found.append((block.start(), behind(text, start), name.group(1) if name else head, trait, block.group(2)))
+        found.append((block.start(), after(text, start), name.group(1) if name else head, trait, block.group(2)))
     return found
 
 
@@ -169,8 +143,7 @@ def owners(text):
 def functions_of(crate):
     found = []
     for path in of_crate(crate, "src", ".rt"):
-        whole = read(path)
-        text = without_hidden(whole)
+        text = without_hidden(read(path))
         blocks = owners(text)
         for match in FUNCTION.finditer(text):
             owner = trait = kind = None
@@ -179,9 +152,7 @@ def functions_of(crate):
                     owner, trait, kind = name, of_trait, block
             visible = (match.group(2) or "").strip() == "pub" or (kind == "trait")
             contract = clauses_at(text, signature_end(text, match.end()))
-            comment = comment_before(whole, match.start() + len(match.group(1)))
-            line = text.count("\n", 0, match.start()) + 1
-            found.append(Function(crate, path, owner, trait, match.group(3), visible, contract, comment, line))
+            found.append(Function(path, owner, trait, match.group(3), visible, contract))
     return tuple(found)
 
 
@@ -268,7 +239,7 @@ def constants():
 
 
 def definitions_in_order(path):
-    """The names that a file of specs/ defines, in its order: they stand at the margin, behind words like `abbrev`."""
+    """The names that a file of specs/ defines, in its order: at the margin, after words like `abbrev`."""
     found = []
     for line in read(path).splitlines():
         match = DEFINITION.match(line)
