@@ -76,6 +76,16 @@ fn take_pieces(rt: &impl Abort, reader: &mut Reader<Global>) {
     take_piece(rt, reader, &[0; 26], &[Found::Bad, ready], 0);
 }
 
+/// Pushes a byte, after which nothing is found and so many bytes wait.
+fn take_byte<A: Allocator>(
+    rt: &impl Abort,
+    reader: &mut Reader<A>,
+    byte: u8,
+    waiting: usize,
+) {
+    take_piece(rt, reader, &[byte], &[], waiting);
+}
+
 /// Pushes these bytes one by one. With the last one, and not before, the items are found.
 fn take_bytes<A: Allocator>(
     rt: &impl Abort,
@@ -84,17 +94,22 @@ fn take_bytes<A: Allocator>(
     items: &[Found<'_>],
 ) {
     for (waiting, byte) in bytes[..37].iter().enumerate() {
-        take_piece(rt, reader, &[*byte], &[], waiting.saturating_add(1));
+        take_byte(rt, reader, *byte, waiting.saturating_add(1));
     }
     take_piece(rt, reader, &bytes[37..], items, 0);
+}
+
+/// Pushes the packet in two pieces, the first of which has so many bytes.
+fn take_cut<A: Allocator>(rt: &impl Abort, reader: &mut Reader<A>, cut: usize) {
+    let (front, rest) = PACKET.split_at(cut.min(38));
+    take_piece(rt, reader, front, &[], cut);
+    take_piece(rt, reader, rest, &[zeros()], 0);
 }
 
 /// Pushes the packet in two pieces, which it is cut into at each of its places.
 fn take_cuts<A: Allocator>(rt: &impl Abort, reader: &mut Reader<A>) {
     for cut in 1..38 {
-        let (front, rest) = PACKET.split_at(cut);
-        take_piece(rt, reader, front, &[], cut);
-        take_piece(rt, reader, rest, &[zeros()], 0);
+        take_cut(rt, reader, cut);
     }
 }
 
