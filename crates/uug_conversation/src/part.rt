@@ -178,8 +178,22 @@ fn part_of_text(text: &[u8], size: usize, short: bool, offset: usize, message: &
     ensures next { result ≡ false → offset + size ≤ length text.now }
 {
     let rest = behind(text, offset);
-    first_into(&mut Chunks::command(rest, size, short), message);
+    first_into(&mut command_chunks(rest, size, short), message);
     rest.len() < size
+}
+
+fn command_chunks(text: &[u8], size: usize, short: bool) -> Chunks<'_>
+    requires text { IsCommandText text.now }
+    requires some { 0 < size }
+    requires fits { size ≤ MESSAGE_MAX }
+    ensures { messages_left result
+        ≡ command_messages (record { size = size; short = short }) text.now }
+{
+    if short {
+        Chunks::short_command(text, size)
+    } else {
+        Chunks::command(text, size)
+    }
 }
 
 fn part_of_file(bytes: &[u8], size: usize, offset: usize, message: &mut Message) -> bool

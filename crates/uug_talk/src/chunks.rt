@@ -1,4 +1,4 @@
-ghost use Rattle.std.specs.Prelude.{◌≡◌, ◌≢◌, ◌+◌, ◌<◌, ◌≤◌, [], ◌∷◌, ◌++◌, length, take, drop, replicate, All, IsTrue, ◌↔◌};
+ghost use Rattle.std.specs.Prelude.{◌≡◌, ◌≢◌, ◌+◌, ◌<◌, ◌≤◌, [], ◌∷◌, ◌++◌, true, false, length, take, drop, replicate, All, IsTrue, ◌↔◌};
 ghost use Rattle.std.specs.Bool.{OnTrue, OnFalse};
 ghost use Rattle.std.specs.Iterator.{YieldsFirstBy, item_count};
 ghost use Rattle.uug_talk.specs.declared.chunks.TheConstants.{MESSAGE_MAX};
@@ -47,19 +47,35 @@ pub fn is_command_text(text: &[u8]) -> bool
 impl<'a> Chunks<'a> {
     ghost use Rattle.uug_talk.specs.MessagesLeft.{messages_left};
 
-    /// The messages of a command, with at most `size` bytes each, which is 1 to `MESSAGE_MAX`. Where `short` is set,
-    /// the last one ends with the zero byte of the command. `is_command_text` tells whether the text may be sent so.
-    pub fn command(text: &'a [u8], size: usize, short: bool) -> Self
+    /// Returns the messages of a command, with at most `size` bytes each, which is 1 to `MESSAGE_MAX`. `is_command_text`
+    /// tells whether the text may be sent so.
+    pub fn command(text: &'a [u8], size: usize) -> Self
         requires text { IsCommandText text.now }
         requires some { 0 < size }
         requires fits { size ≤ MESSAGE_MAX }
         ensures { messages_left result
-            ≡ command_messages (record { size = size; short = short }) text.now }
+            ≡ command_messages (record { size = size; short = false }) text.now }
     {
         Chunks {
             rest: text,
             size,
-            short,
+            short: false,
+            ending: Ending::Zeros,
+        }
+    }
+
+    /// Returns the messages of a command as `command` does, but the last one ends with the command's zero byte.
+    pub fn short_command(text: &'a [u8], size: usize) -> Self
+        requires text { IsCommandText text.now }
+        requires some { 0 < size }
+        requires fits { size ≤ MESSAGE_MAX }
+        ensures { messages_left result
+            ≡ command_messages (record { size = size; short = true }) text.now }
+    {
+        Chunks {
+            rest: text,
+            size,
+            short: true,
             ending: Ending::Zeros,
         }
     }

@@ -129,11 +129,16 @@ fn gathers_a_file(rt: &impl Abort, alloc: Global, bytes: &[u8]) {
     assert_same(rt, file.bytes(), bytes);
 }
 
-fn gathers_a_command(rt: &impl Abort, text: &[u8], short: bool) {
+fn gathers_back(rt: &impl Abort, text: &[u8], chunks: Chunks<'_>) {
     let mut command = Gather::<Global>::command();
-    assert_so(rt, is_command_text(text));
-    gather_all(rt, &mut command, Chunks::command(text, 64, short));
+    gather_all(rt, &mut command, chunks);
     assert_same(rt, command.bytes(), text);
+}
+
+fn gathers_a_command(rt: &impl Abort, text: &[u8]) {
+    assert_so(rt, is_command_text(text));
+    gathers_back(rt, text, Chunks::command(text, 64));
+    gathers_back(rt, text, Chunks::short_command(text, 64));
 }
 
 #[test]
@@ -141,8 +146,7 @@ fn what_is_cut_is_gathered(rt: HostRuntime) {
     let bytes = [b'x'; 100];
     for len in [0, 63, 64, 100] {
         gathers_a_file(&rt, rt.alloc(), &bytes[..len]);
-        gathers_a_command(&rt, &bytes[..len], false);
-        gathers_a_command(&rt, &bytes[..len], true);
+        gathers_a_command(&rt, &bytes[..len]);
     }
 }
 
