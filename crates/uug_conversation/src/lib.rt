@@ -24,7 +24,7 @@ mod whole_file;
 pub use awaits::Awaits;
 pub use dialogue::Dialogue;
 pub use job::Job;
-pub use memory_spool::MemorySpool;
+pub use memory_spool::{MemorySpool, has_name};
 pub use outgoing::SAYINGS_MAX;
 pub use queue::{JOBS_MAX, Queue, QueueFault};
 pub use side::Side;

@@ -113,9 +113,9 @@ impl<A: Allocator + Copy> Spool for MemorySpool<A> {
     ghost faults = { λ _. 0 };
 
     fn may_keep(&self, name: &Name) -> Verdict {
-        if has_name(self.denied.as_slice(), name) {
+        if has_name(self.denied.as_slice(), name.as_bytes()) {
             Verdict::Never
-        } else if has_name(self.postponed.as_slice(), name) {
+        } else if has_name(self.postponed.as_slice(), name.as_bytes()) {
             Verdict::Later
         } else {
             Verdict::Yes
@@ -135,7 +135,7 @@ impl<A: Allocator + Copy> Spool for MemorySpool<A> {
     }
 
     fn keep(&mut self, name: &Name, mode: u16, bytes: &[u8]) -> Result<(), KeepFault> {
-        if has_name(self.immovable.as_slice(), name) {
+        if has_name(self.immovable.as_slice(), name.as_bytes()) {
             return Err(KeepFault::Refused);
         }
         if push_file(&mut self.stored, self.alloc, *name, mode, bytes).is_err() {
@@ -159,10 +159,11 @@ impl<A: Allocator + Copy> Spool for MemorySpool<A> {
     ghost modes = { λ m. modes_in_range m.files.items };
 }
 
-fn has_name(names: &[Name], name: &Name) -> bool
-    ensures { result ≡ has_name names.now name.now }
+/// Returns whether one of the names has these bytes.
+pub fn has_name(names: &[Name], bytes: &[u8]) -> bool
+    ensures { result ≡ has_name names.now bytes.now }
 {
-    names.iter().any(|n| n.as_bytes() == name.as_bytes())
+    names.iter().any(|name| name.as_bytes() == bytes)
 }
 
 fn first_named<'a, A: Allocator>(files: &'a [Stored<A>], name: &Name) -> Option<FileView<'a>>

@@ -1,5 +1,6 @@
 pub mod Barred
 pub mod Copies
+pub mod Delayed
 pub mod Numbers
 pub mod Parts
 pub mod Pipes

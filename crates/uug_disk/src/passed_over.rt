@@ -1,5 +1,7 @@
 //! What is said on standard error of files that are not given.
-ghost use Rattle.std.specs.Prelude.{◌<◌};
+ghost use Rattle.std.specs.Prelude.{◌≡◌, ◌<◌, OnOk};
+ghost use Rattle.uug_disk.specs.Delayed.{with_delayed};
+ghost use Rattle.uug_failure.specs.Passing.{may_pass};
 
 use std::alloc::{AllocError, Allocator};
 use uug_failure::Cause;
@@ -78,7 +80,9 @@ impl<'a, R: Eprint, A: Allocator> PassedOver<'a, R, A> {
     }
 
     /// The file at this path is not given. What can't be seen of the path is escaped.
-    pub(crate) fn note(&mut self, lack: Lack, path: &str) {
+    pub(crate) fn note(&mut self, lack: Lack, path: &str)
+        ensures { self.new.delayed ≡ self.old.delayed }
+    {
         let place = lack.place();
         if self.counts[place] == 0 {
             let path = path.escape_debug();
@@ -95,7 +99,10 @@ impl<'a, R: Eprint, A: Allocator> PassedOver<'a, R, A> {
         name: Name,
         path: &str,
         cause: Cause,
-    ) -> Result<(), AllocError> {
+    ) -> Result<(), AllocError>
+        ensures { OnOk result (self.new.delayed.items
+            ≡ with_delayed (may_pass cause) name self.old.delayed.items) }
+    {
         self.note(Lack::Access, path);
         if cause.may_pass() {
             self.delayed.push(name)?;

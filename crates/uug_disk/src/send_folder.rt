@@ -7,10 +7,12 @@ use crate::part_path::is_part;
 use crate::queued_copy::COPY_FRONT;
 use std::alloc::{AllocError, Allocator};
 use std::fs::{DirEntry, File, ReadDir};
-use std::io::{ErrorKind, Read};
+use std::io::ErrorKind;
 use std::rt::Files;
 use std::{fs, io};
-use uug_failure::{Cause, EndDir, EndText, LISTINGS_MAX, Resource, RunFault, was_interrupted};
+use uug_failure::{
+    Cause, EndDir, EndText, LISTINGS_MAX, Resource, RunFault, read_within, was_interrupted,
+};
 use uug_session::Stored;
 use uug_talk::{FILE_MAX, Name};
 
@@ -22,24 +24,6 @@ pub const GIVEN_MODE: u16 = 0o644;
 
 /// The most bytes of a text in a folder, such as that of its jobs.
 pub const TEXT_MAX: usize = 16_777_216;
-
-/// Returns all that comes from a reader, unless it is more than so many bytes.
-fn read_within<A: Allocator, R: Read + Drop>(
-    alloc: A,
-    reader: R,
-    most: usize,
-) -> io::Result<Option<Vec<u8, A>>>
-    requires { most < u64.MAX }
-    ensures within { IfOk result (λ found. IfSome found (λ bytes. length bytes.items ≤ most)) }
-{
-    let mut bytes = Vec::new(alloc);
-    let mut front = reader.take(most as u64 + 1);
-    front.read_to_end(&mut bytes)?;
-    if bytes.len() > most {
-        return Ok(None);
-    }
-    Ok(Some(bytes))
-}
 
 /// Whether there is a regular file at a path, at the end of links too: a link that leads nowhere has none. So no pipe
 /// is opened, which would wait for a writer.

@@ -1,5 +1,4 @@
 ghost use Rattle.std.specs.Prelude.{◌≡◌, ◌+◌, ◌<◌, ◌≤◌, ◌++◌, [], length, IfOk, IsSome, None, string_bytes, string_len, string_capacity};
-ghost use Rattle.uug_conversation.specs.MemoryHoldings.{has_name};
 ghost use Rattle.uug_talk.specs.declared.name.TheConstants.{NAME_MAX};
 ghost use Rattle.uug_disk.specs.Barred.{barred_by};
 
@@ -11,6 +10,7 @@ use std::fs::DirEntry;
 use std::io::ErrorKind;
 use std::rt::Files;
 use std::{fs, io};
+use uug_conversation::has_name;
 use uug_failure::{Cause, EndDir, Faults, Resource, SystemFailure};
 use uug_folder::{Folder, FolderFailed};
 use uug_talk::{NAME_MAX, Name};
@@ -123,17 +123,11 @@ impl<R: Files, A: Allocator> Folder for SystemFolder<'_, R, A> {
 
     fn is_barred(&self, name: &Name) -> bool {
         if name.as_bytes().len() <= self.longest {
-            has_name(self.folders.as_slice(), name)
+            has_name(self.folders.as_slice(), name.as_bytes())
         } else {
             true
         }
     }
-}
-
-fn has_name(names: &[Name], name: &Name) -> bool
-    ensures { result ≡ has_name names.now name.now }
-{
-    names.iter().any(|n| n.as_bytes() == name.as_bytes())
 }
 
 /// The names that folders have in the one at this path, up to `FOLDERS_MAX`. One that can't be read has none.

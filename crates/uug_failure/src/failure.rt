@@ -1,6 +1,6 @@
 //! Why a call of the system failed.
 ghost use Rattle.std.specs.Prelude.{◌≡◌};
-ghost use Rattle.uug_failure.specs.Passing.{may_pass};
+ghost use Rattle.uug_failure.specs.Passing.{is_out_of_reach, may_pass};
 
 use std::io;
 use std::io::ErrorKind;
@@ -114,17 +114,24 @@ impl Cause {
         ensures { result ≡ may_pass self }
     {
         match self {
-            Cause::Refused(kind, _) => !matches!(
-                kind,
-                ErrorKind::NotFound
-                    | ErrorKind::NotADirectory
-                    | ErrorKind::PermissionDenied
-                    | ErrorKind::FilesystemLoop
-                    | ErrorKind::InvalidFilename
-            ),
+            Cause::Refused(kind, _) => !is_out_of_reach(kind),
             Cause::MovedNothing | Cause::TooMuch | Cause::NotAFile | Cause::InUse => false,
         }
     }
+}
+
+/// Returns whether an error of this kind says that no file which this program may read is at a path.
+pub fn is_out_of_reach(kind: ErrorKind) -> bool
+    ensures { result ≡ is_out_of_reach kind }
+{
+    matches!(
+        kind,
+        ErrorKind::NotFound
+            | ErrorKind::NotADirectory
+            | ErrorKind::PermissionDenied
+            | ErrorKind::FilesystemLoop
+            | ErrorKind::InvalidFilename
+    )
 }
 
 /// A call of the system that failed.

@@ -1,6 +1,6 @@
 ghost use Rattle.std.specs.Prelude.{◌≡◌, ◌<◌, ◌++◌, [], ◌∷◌, MatchOption, Some, None, false, map, vec_len, vec_capacity};
 ghost use Rattle.uug_folder.specs.Folders.{folder_holdings};
-ghost use Rattle.uug_conversation.specs.MemoryHoldings.{has_name, kept_of};
+ghost use Rattle.uug_conversation.specs.MemoryHoldings.{kept_of};
 ghost use Rattle.uug_conversation.specs.Code.StoredModes.{modes_in_range};
 ghost use Rattle.uug_folder.specs.Code.LocalModes.{local_modes};
 ghost use Rattle.uug_folder.specs.LocalNames.{StandUnder, behind_root, holdings_here, kept_here, last_part, local_landing, local_name, local_source};
@@ -9,6 +9,7 @@ use crate::folder::Folder;
 use crate::folder_spool::{FolderSpool, is_hidden};
 use std::alloc::Allocator;
 use std::marker::Model;
+use uug_conversation::has_name;
 use uug_session::{FileView, KeepFault, Spool, Verdict};
 use uug_talk::Name;
 
@@ -152,13 +153,6 @@ impl<F: Folder, A: Allocator + Copy> Spool for LocalNames<F, A> {
     ghost modes = { λ s. local_modes s.lenient s.digests s.delayed
         (folder_holdings (F.barred s.files.folder) (map kept_of s.files.files))
         (modes_in_range s.files.files) };
-}
-
-/// Returns whether one of the names has these bytes.
-fn has_name(names: &[Name], bytes: &[u8]) -> bool
-    ensures { result ≡ has_name names.now bytes.now }
-{
-    names.iter().any(|name| name.as_bytes() == bytes)
 }
 
 /// The name in the folder of a file that a real system names, if there is one.

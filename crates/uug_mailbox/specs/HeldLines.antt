@@ -1,11 +1,11 @@
 -- Lines of C. files whose data can't be read now (this project's profile).
 use Rattle.std.specs.Prelude.{ℕ, Bool, false, List, map, Option, Some, None, if◌then◌else◌}
-use Rattle.uug_mailbox.specs.OpenLines.{has_name}
+use Rattle.uug_conversation.specs.MemoryHoldings.{has_name}
 use Rattle.uug_mailbox.specs.declared.open_line.OpenLine.{OpenLine}
 
 abbrev pub is_held : (unread : List (List ℕ)) → (copy : Option (List ℕ)) → Bool
 is_held unread None = false
-is_held unread (Some copy) = has_name copy unread
+is_held unread (Some copy) = has_name unread copy
 
 -- such a line stays, and so do its copy and its C. file; no session offers it
 abbrev pub held_line : (unread : List (List ℕ)) → OpenLine → OpenLine

@@ -1,8 +1,7 @@
 -- The lines of C. files that are not over, and what is left of them where some jobs are (that a line with a copy is over when
 -- the copy is gone is what Taylor UUCP 1.07 does; the rest is this project's profile).
 use Rattle.std.specs.Prelude.{◌==◌, ℕ, suc, List, [], ◌∷◌, ◌++◌, length, Bool, false, not, Option, Some, None, Result, Ok, Err, if◌then◌else◌}
-use Rattle.std.specs.List.{list_any}
-use Rattle.std.specs.Str.{bytes_eq}
+use Rattle.uug_conversation.specs.MemoryHoldings.{has_name}
 use Rattle.uug_conversation.specs.declared.job.Job.{Job}
 use Rattle.uug_folder.specs.JobsAfter.{without_said}
 use Rattle.uug_folder.specs.OpenJobs.{with_said}
@@ -17,13 +16,10 @@ use Rattle.uug_mailbox.specs.declared.open_line.OpenLine.{OpenLine}
 abbrev pub line_of : (file : List ℕ) (number : ℕ) (copy : Option (List ℕ)) (job : Option Job) → OpenLine
 line_of file number copy job = record { file = file; number = number; copy = copy; job = job }
 
-abbrev pub has_name : (name : List ℕ) (names : List (List ℕ)) → Bool
-has_name name names = list_any (λ other. bytes_eq other name) names
-
 -- a line with a copy is over when the copy is none of the names that are there
 abbrev pub is_over : (there : List (List ℕ)) (copy : Option (List ℕ)) → Bool
 is_over there None = false
-is_over there (Some copy) = not (has_name copy there)
+is_over there (Some copy) = not (has_name there copy)
 
 abbrev pub second_lines : (file : List ℕ) (number : ℕ) (copy : Option (List ℕ)) (second : Option Job) → List OpenLine
 second_lines file number copy None = []

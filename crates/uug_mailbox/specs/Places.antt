@@ -4,13 +4,13 @@ use Rattle.std.specs.Option.{option_map, unwrap_or}
 use Rattle.std.specs.Path.{rsplit_once, slash}
 use Rattle.std.specs.Prelude.{◌==◌, ◌&&◌, ◌||◌, ◌-◌, not, ℕ, Bool, true, false, List, [], ◌++◌, length, take, codes, nat_eq, is_none, Option, Some, None, Result, Ok, Err, if◌then◌else◌}
 use Rattle.std.specs.List.{ends_with}
+use Rattle.uug_conversation.specs.MemoryHoldings.{has_name}
 use Rattle.uug_talk.specs.Name.{name_of}
 use Rattle.uug_spool.specs.SpoolNames.{local_name, spot, spot_of}
 use Rattle.uug_spool.specs.declared.spool_names.Barred.{Barred}
 use Rattle.uug_spool.specs.declared.spool_names.Room.{Room}
 use Rattle.uug_spool.specs.declared.spool_names.Room.TheVariants as rooms
 use Rattle.uug_spool.specs.declared.spool_names.Spot.{Spot}
-use Rattle.uug_mailbox.specs.OpenLines.{has_name}
 use Rattle.uug_mailbox.specs.declared.places.PublicFolder.{PublicFolder}
 
 -- the public folder, as it is when the session begins
@@ -51,7 +51,7 @@ is_public_name name = goes_public (spot_of name) && is_none (rsplit_once slash n
 
 -- a folder's place is not that of a file
 abbrev pub is_taken : Public → (name : List ℕ) → Bool
-is_taken public name = public.is_closed || (has_name name public.folders || has_name name public.barred)
+is_taken public name = public.is_closed || (has_name public.folders name || has_name public.barred name)
 
 -- right in the public folder
 abbrev pub top_place : Public → (name : List ℕ) → Option Spot
@@ -66,7 +66,7 @@ is_public_last (Some name) = is_public_name name
 abbrev pub deep_by : Public → (name : List ℕ) → Option (List ℕ × List ℕ) → Option Spot
 deep_by public name None = None
 deep_by public name (Some parts) =
-    if has_name parts.0 public.folders && (is_public_last (name_of parts.1) && not (has_name name public.barred)) then Some (spot rooms.Public name)
+    if has_name public.folders parts.0 && (is_public_last (name_of parts.1) && not (has_name public.barred name)) then Some (spot rooms.Public name)
     else None
 
 abbrev pub deep_place : Public → (name : Option (List ℕ)) → Option Spot
@@ -100,7 +100,7 @@ front_of folder = if length folder == 0 then [] else folder ++ codes "/"
 
 abbrev pub front_in : Public → (folder : List ℕ) → Option (List ℕ)
 front_in public folder =
-    if length folder == 0 || has_name folder public.folders then Some (front_of folder) else None
+    if length folder == 0 || has_name public.folders folder then Some (front_of folder) else None
 
 abbrev pub landing_by : (source target : List ℕ) → (front : Option (List ℕ)) → List ℕ
 landing_by source target None = target

@@ -4,35 +4,22 @@ ghost use Rattle.uug_conversation.specs.Jobs.{at_start, pending};
 ghost use Rattle.uug_conversation.specs.declared.queue.TheConstants.{JOBS_MAX};
 ghost use Rattle.uug_talk.specs.Lines.{lines as lines_of_text};
 ghost use Rattle.uug_mailbox.specs.Offers.{offer_of};
-ghost use Rattle.uug_mailbox.specs.OpenLines.{file_lines, has_name, is_blank, is_over, jobs_of, offered, open_by, open_lines};
+ghost use Rattle.uug_mailbox.specs.OpenLines.{file_lines, is_blank, is_over, jobs_of, offered, open_by, open_lines};
 
 use crate::offer::{Offer, read_offer};
 use crate::open_line::OpenLine;
 use std::alloc::{AllocError, Allocator};
+use uug_conversation::has_name;
 use uug_folder::first_jobs;
 use uug_session::{JOBS_MAX, Job, Queue};
 use uug_talk::{Name, split_line, split_word};
-
-/// Returns whether these are the bytes of one of these names.
-pub(crate) fn has_bytes(names: &[Name], bytes: &[u8]) -> bool
-    ensures { result ≡ has_name bytes.now names.now }
-{
-    names.iter().any(|other| other.as_bytes() == bytes)
-}
-
-/// Whether this is one of these names.
-pub(crate) fn has_name(names: &[Name], name: &Name) -> bool
-    ensures { result ≡ has_name name.now names.now }
-{
-    has_bytes(names, name.as_bytes())
-}
 
 /// Whether a line with this copy is over, where these names of data are there.
 fn is_over(there: &[Name], copy: &Option<Name>) -> bool
     ensures { result ≡ is_over there.now copy.now }
 {
     match copy {
-        Some(copy) => !has_name(there, copy),
+        Some(copy) => !has_name(there, copy.as_bytes()),
         None => false,
     }
 }

@@ -2,9 +2,9 @@
 ghost use Rattle.std.specs.Prelude.{◌≡◌, IfOk};
 ghost use Rattle.uug_mailbox.specs.HeldLines.{held_line, held_lines, is_held};
 
-use crate::command_file::has_name;
 use crate::open_line::OpenLine;
 use std::alloc::{AllocError, Allocator};
+use uug_conversation::has_name;
 use uug_talk::Name;
 
 /// Whether a line with this copy has data that can't be read, where that of these names can't.
@@ -12,7 +12,7 @@ fn is_held(unread: &[Name], copy: &Option<Name>) -> bool
     ensures { result ≡ is_held unread.now copy.now }
 {
     match copy {
-        Some(copy) => has_name(unread, copy),
+        Some(copy) => has_name(unread, copy.as_bytes()),
         None => false,
     }
 }

@@ -2,7 +2,7 @@
 ghost use Rattle.std.specs.Prelude.{◌≡◌, ◌≢◌, ◌<◌, ◌≤◌, ◌⊎◌, ◌↔◌, ◌^◌, ◌-◌, [], ◌∷◌, ◌++◌, IfOk, OnErr, OnOk, length, map, true, vec_len, vec_capacity};
 ghost use Rattle.uug_conversation.specs.FileView.{shown_file};
 ghost use Rattle.uug_conversation.specs.Holdings.{kept_file};
-ghost use Rattle.uug_conversation.specs.MemoryHoldings.{first_named, has_name, kept_of};
+ghost use Rattle.uug_conversation.specs.MemoryHoldings.{first_named, kept_of};
 ghost use Rattle.uug_folder.specs.LocalNames.{local_source};
 ghost use Rattle.uug_mailbox.specs.Code.MailModes.{mail_modes};
 ghost use Rattle.uug_mailbox.specs.Keeping.{keep_marks, keep_ops, place_for};
@@ -16,6 +16,7 @@ use crate::places::PublicFolder;
 use crate::spool_folder::SpoolFolder;
 use std::alloc::{AllocError, Allocator};
 use std::snapshot::Snapshot;
+use uug_conversation::has_name;
 use uug_folder::local_source;
 use uug_session::{FileView, KeepFault, Spool, Stored, Verdict};
 use uug_spool::Disk;
@@ -152,15 +153,9 @@ fn is_delayed_in<A: Allocator>(public: &PublicFolder<A>, name: &Option<Name>) ->
     ensures { result ≡ delayed_in (shown_public public.now) name.now }
 {
     match name {
-        Some(name) => public.is_unknown || has_name(public.delayed.as_slice(), name),
+        Some(name) => public.is_unknown || has_name(public.delayed.as_slice(), name.as_bytes()),
         None => false,
     }
-}
-
-fn has_name(names: &[Name], name: &Name) -> bool
-    ensures { result ≡ has_name names.now name.now }
-{
-    names.iter().any(|n| n.as_bytes() == name.as_bytes())
 }
 
 /// The file under just this name; else that of this name in the public folder.

@@ -5,9 +5,9 @@ ghost use Rattle.uug_mailbox.specs.Places.{deep_by, deep_place, front_of, is_pub
 ghost use Rattle.uug_spool.specs.SpoolNames.{local_name, spot_of};
 ghost use Rattle.uug_talk.specs.Name.{name_of};
 
-use crate::command_file::{has_bytes, has_name};
 use arrayvec::ArrayVec;
 use std::alloc::Allocator;
+use uug_conversation::has_name;
 use uug_spool::{Barred, Room, Spot, local_name, spot_of};
 use uug_talk::{NAME_MAX, Name};
 
@@ -89,8 +89,8 @@ impl<A: Allocator> PublicFolder<A> {
         ensures { result ≡ is_taken (shown_public self.now) name.now }
     {
         self.is_closed
-            || has_name(self.folders.as_slice(), name)
-            || has_name(self.barred.as_slice(), name)
+            || has_name(self.folders.as_slice(), name.as_bytes())
+            || has_name(self.barred.as_slice(), name.as_bytes())
     }
 
     fn top_place(&self, name: &Name) -> Option<Spot>
@@ -122,8 +122,8 @@ impl<A: Allocator> PublicFolder<A> {
         let Some((folder, last)) = split_last(name.as_str()) else {
             return None;
         };
-        let is_there = has_bytes(self.folders.as_slice(), folder.as_bytes());
-        if is_there && is_public_last(last.as_bytes()) && !has_name(self.barred.as_slice(), name) {
+        let is_there = has_name(self.folders.as_slice(), folder.as_bytes());
+        if is_there && is_public_last(last.as_bytes()) && !has_name(self.barred.as_slice(), name.as_bytes()) {
             Some(Spot {
                 room: Room::Public,
                 name: *name,
@@ -144,7 +144,7 @@ impl<A: Allocator> PublicFolder<A> {
             return *target;
         }
         let folder = without_slash(local_name(target.as_bytes()));
-        if !folder.is_empty() && !has_bytes(self.folders.as_slice(), folder) {
+        if !folder.is_empty() && !has_name(self.folders.as_slice(), folder) {
             return *target;
         }
         match below_home(folder, last_part(source)) {

@@ -14,6 +14,7 @@ use arrayvec::ArrayVec;
 use std::alloc::{AllocError, Allocator};
 use std::cmp::Ordering;
 use std::rt::Files;
+use uug_conversation::has_name;
 use uug_failure::{Cause, RunFault};
 use uug_mailbox::{
     CommandText, Execution, OpenLine, add_file, held_lines, read_execution, read_offer, text_name,
@@ -528,7 +529,7 @@ fn add_sent<A: Allocator + Copy, R: Files>(
     };
     let found = if !is_copy {
         Ok(read_source(alloc, rt, paths, fields.source, FILE_MAX)?)
-    } else if is_among(there, &name) {
+    } else if has_name(there, name.as_bytes()) {
         read_spot(alloc, rt, paths, &data_spot(&name), FILE_MAX)
     } else {
         Ok(None)
@@ -553,13 +554,6 @@ fn add_sent<A: Allocator + Copy, R: Files>(
             Ok(false)
         }
     }
-}
-
-/// Returns whether this is one of these names.
-fn is_among(names: &[Name], name: &Name) -> bool {
-    names
-        .iter()
-        .any(|other| other.as_bytes() == name.as_bytes())
 }
 
 /// Adds the execution file of a line that has a command run.

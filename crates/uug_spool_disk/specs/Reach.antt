@@ -1,19 +1,10 @@
--- Which of the system's errors say that no file which this program may read is at a path (this project's profile).
+-- Which of the system's errors say that a file can't be put at a path, whatever is tried (this project's profile).
 use Rattle.std.specs.Prelude.{not, Bool, true, false}
 use Rattle.std.specs.declared.io.ErrorKind.{ErrorKind}
 use Rattle.std.specs.declared.io.ErrorKind.TheVariants as kinds
 use Rattle.uug_spool.specs.declared.spool_names.Room.{Room}
 use Rattle.uug_spool.specs.declared.spool_names.Room.TheVariants as rooms
 
-abbrev pub is_out_of_reach : ErrorKind → Bool
-is_out_of_reach kinds.NotFound = true
-is_out_of_reach kinds.NotADirectory = true
-is_out_of_reach kinds.PermissionDenied = true
-is_out_of_reach kinds.FilesystemLoop = true
-is_out_of_reach kinds.InvalidFilename = true
-is_out_of_reach _ = false
-
--- Which of them say that a file can't be put at a path, whatever is tried.
 abbrev pub is_no_place : ErrorKind → Bool
 is_no_place kinds.IsADirectory = true
 is_no_place kinds.NotADirectory = true

@@ -3,17 +3,18 @@ ghost use Rattle.std.specs.Fs.{IsSymlink, file_type};
 ghost use Rattle.std.specs.IoError.{error_kind};
 ghost use Rattle.std.specs.Prelude.{◌<◌, ◌≡◌, ◌≢◌, ◌≤◌, ◌↔◌, false, true, Err, IfErr, IfOk, IfSome, IsErr, IsTrue, None, Ok, Some, length};
 ghost use Rattle.uug_failure.specs.Faults.{IsFolderFault};
+ghost use Rattle.uug_failure.specs.Passing.{is_out_of_reach};
 ghost use Rattle.uug_spool_disk.specs.Read.{MayAllRead};
-ghost use Rattle.uug_spool_disk.specs.Reach.{is_no_place, is_out_of_reach};
+ghost use Rattle.uug_spool_disk.specs.Reach.{is_no_place};
 
 use crate::spool_paths::SpoolPaths;
 use std::alloc::{AllocError, Allocator};
 use std::fs::{DirEntry, File, Metadata, OpenFile, ReadDir};
-use std::io::{ErrorKind, Read};
+use std::io::ErrorKind;
 use std::os::unix::fs::MetadataExt;
 use std::rt::Files;
 use std::{fs, io};
-use uug_failure::{Cause, Resource, RunFault};
+use uug_failure::{Cause, Resource, RunFault, is_out_of_reach, read_within};
 use uug_spool::{Room, Spot};
 use uug_talk::Name;
 
@@ -221,20 +222,6 @@ fn within_reach<T>(read: io::Result<Option<T>>) -> io::Result<Option<T>>
     }
 }
 
-/// Whether an error of this kind says that no file which this program may read is at a path.
-fn is_out_of_reach(kind: ErrorKind) -> bool
-    ensures { result ≡ is_out_of_reach kind }
-{
-    matches!(
-        kind,
-        ErrorKind::NotFound
-            | ErrorKind::NotADirectory
-            | ErrorKind::PermissionDenied
-            | ErrorKind::FilesystemLoop
-            | ErrorKind::InvalidFilename
-    )
-}
-
 /// Returns whether an error of this kind says that a file can't be put at a path, whatever is tried.
 pub fn is_no_place(kind: ErrorKind) -> bool
     ensures { result ≡ is_no_place kind }
@@ -399,22 +386,4 @@ fn read_regular<A: Allocator, R: Files>(
         Some(bytes) => Ok(Ok(bytes)),
         None => Ok(Err(Unfit::TooMuch)),
     }
-}
-
-/// Returns all that comes from a reader, unless it is more than so many bytes.
-fn read_within<A: Allocator, R: Read + Drop>(
-    alloc: A,
-    reader: R,
-    most: usize,
-) -> io::Result<Option<Vec<u8, A>>>
-    requires { most < u64.MAX }
-    ensures within { IfOk result (λ found. IfSome found (λ bytes. length bytes.items ≤ most)) }
-{
-    let mut bytes = Vec::new(alloc);
-    let mut front = reader.take(most as u64 + 1);
-    front.read_to_end(&mut bytes)?;
-    if bytes.len() > most {
-        return Ok(None);
-    }
-    Ok(Some(bytes))
 }
