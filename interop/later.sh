@@ -8,37 +8,16 @@
 set -u
 root=$(cd "$(dirname "$0")/.." && pwd)
 . "$root/interop/common.sh"
-program=$(readlink -f "${1:-$root/crates/uucpair/out/uucpair}")
-work=$(mktemp -d)
-chmod 755 "$work"
-started=()
+begin_work "$@"
 good=0
 rows=0
-trap 'kill "${started[@]}" 2>/dev/null; rm -rf "$work"' EXIT
 
 set_up() {
-    rm -rf "$work/taylor" "$work/ours" "$work/line"
-    taylor_settings taylor "$work/taylor" "$work/line"
-    mkdir -p "$work"/ours/{send,got}
-    cat >"$work/taylor/sys" <<END
-system ours
-time any
-port gate
-chat ""
-protocol g
-remote-send ~
-remote-receive ~
-local-send ~
-local-receive ~
-END
+    new_ends "${both_ways[@]}"
     echo "the mail" >"$work/taylor/pub/mail"
     echo "theirs" >"$work/taylor/pub/theirs"
     echo "late" >"$work/ours/send/late"
-    chmod 644 "$work"/taylor/pub/*
-    # uucico puts a file only where everybody may.
-    chmod 777 "$work/taylor/pub"
-    chown -R uucp:uucp "$work/taylor"
-    : >"$work/ours/jobs"
+    own_files
 }
 
 # row NAME EXPECTED GOT
@@ -54,33 +33,11 @@ row() {
     fi
 }
 
-waiting() {
-    as_uucp uustat -I "$work/taylor/config" -a | grep -c .
-}
-
 # answered WORD..: a session in which Taylor calls us; WORD.. goes before our program
 answered() {
-    local answerer
-    "$@" "$program" answer "unix:$work/line" "$work/ours" --me ours --peer taylor -v >"$work/out" 2>"$work/err" &
-    answerer=$!
-    started+=("$answerer")
-    wait_for "$work/line"
-    chmod 666 "$work/line"
-    (cd / && as_uucp /usr/sbin/uucico -I "$work/taylor/config" -f -s ours)
-    wait "$answerer"
-}
-
-# called: a session in which we call Taylor
-called() {
-    (cd / && exec socat "UNIX-LISTEN:$work/line,mode=666" \
-        "EXEC:runuser -u uucp -- /usr/sbin/uucico -I $work/taylor/config") 2>"$work/socat.err" &
-    started+=($!)
-    wait_for "$work/line"
-    "$program" call "unix:$work/line" "$work/ours" --me ours --peer taylor -v >"$work/out" 2>"$work/err"
-    local status=$?
-    # uucico takes its log's lock once more when it has heard the end of the line.
-    sleep 1
-    return "$status"
+    front=("$@")
+    wait_for_taylor "$work/line" -v
+    taylor_calls_us
 }
 
 set_up
@@ -97,7 +54,9 @@ row "the next session brings it" "late, 0 jobs" "$(cat "$work/taylor/pub/late" 2
 set_up
 as_uucp uucp -I "$work/taylor/config" -r "$work/taylor/pub/mail" 'ours!~/mail'
 echo 'request ~/theirs theirs me' >"$work/ours/jobs"
-called
+front=()
+taylor_waits "$work/line"
+call_taylor -v
 row "we ask, and Taylor has a job" "status 0, caller done pending 0 struck 1 failed 0" "status $?, $(head -1 "$work/out")"
 row "what has come" "theirs, the mail" "$(cat "$work/ours/got/theirs" 2>&1), $(cat "$work/ours/got/mail" 2>&1)"
 echo "$good of $rows as they should be"

@@ -9,11 +9,7 @@
 set -u
 root=$(cd "$(dirname "$0")/.." && pwd)
 . "$root/interop/common.sh"
-program=${1:-$root/crates/uucpair/out/uucpair}
-work=$(mktemp -d)
-chmod 755 "$work"
-started=()
-trap 'kill "${started[@]}" 2>/dev/null; rm -rf "$work"' EXIT
+begin_work "$@"
 
 sizes=${SIZES:-64 1024 4096}
 mails=5
@@ -22,15 +18,7 @@ mails=5
 taylor() {
     local here=$work/$1
     taylor_settings "$1" "$here" "$work/near"
-    cat >"$here/sys" <<END
-system $2
-time any
-port gate
-chat ""
-protocol g
-protocol-parameter g packet-size $3
-protocol-parameter g window 3
-END
+    taylor_system "$2" gate "protocol-parameter g packet-size $3" "protocol-parameter g window 3" >"$here/sys"
 }
 
 # queue ME OTHER: the mails wait at a Taylor end, as uux would leave them for an end that knows no other command than S

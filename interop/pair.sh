@@ -9,11 +9,8 @@
 set -u
 root=$(cd "$(dirname "$0")/.." && pwd)
 . "$root/interop/common.sh"
-program=${1:-$root/crates/uucpair/out/uucpair}
+begin_work "$@"
 port=${PORT:-15540}
-work=$(mktemp -d)
-started=()
-trap 'kill "${started[@]}" 2>/dev/null; rm -rf "$work"' EXIT
 
 sizes=${SIZES:-0 1 63 64 65 4096 1048576}
 terms=${TERMS_LIST:-64:7 1024:3 4096:7}

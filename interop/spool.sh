@@ -8,6 +8,7 @@
 #     programs   files both ways, a file that is too long, `uustat` and `uulog`
 #     gone       `uustat -k` while its job waits, and then in a session
 #     asked      uucico asks for files of the program's public folder, and for others
+#     later      uucico asks for a file of the program's public folder whose opening the system refuses for a session
 #     unread     data that the program can't read, and a C. file that is too long, at a place whose time is another
 #     full       the program's spool is on a disk that is full
 #     folders    each folder of the program's node in turn can't be written, or not even be seen
@@ -165,6 +166,27 @@ asked() {
     is "what everybody may read came" same_file open
     is "nothing else came" [ ! -e "$work/alpha/pub/shut" -a ! -e "$work/alpha/pub/link" -a ! -e "$work/alpha/pub/hostname" ]
     judge "asked, $1"
+    rate=$slow
+}
+
+# later PART: the system refuses beta the opening of a public file for which alpha asks: the job waits, the mail behind it goes, and
+# the next session brings the file
+later() {
+    rate=$fast
+    new_nodes
+    seq 4000 >"$work/beta/pub/late"
+    chmod 644 "$work/beta/pub/late"
+    [ "$1" = we-call ] || as_uucp mkdir -p "$work/beta/spool/alpha/C."
+    # shellcheck disable=SC2088
+    program_of alpha uucp -r -g B 'beta!~/late' "$work/alpha/pub/late"
+    mail alpha 1 500
+    front=(strace -f -o /dev/null -P "$work/beta/pub/late" -e inject=openat:error=EMFILE)
+    session "$1"
+    front=()
+    is "the job waits, and the mail went" [ "$(queued alpha)$(wc -l <"$work/beta/mails")" = 11 ]
+    session "$1"
+    is "the next session brings it" same_file late
+    judge "later, $1"
     rate=$slow
 }
 
@@ -333,6 +355,7 @@ try() {
             programs) programs $role ;;
             gone) gone $role ;;
             asked) asked $role ;;
+            later) later $role ;;
             unread) unread $role ;;
             full) full $role ;;
             folders) folders $role ;;
@@ -343,7 +366,7 @@ try() {
     esac
 }
 
-for part in ${PARTS:-hub programs gone asked unread full folders anew power we-call we-answer both}; do
+for part in ${PARTS:-hub programs gone asked later unread full folders anew power we-call we-answer both}; do
     try "$part"
 done
 [ "$bad" = 0 ]

@@ -14,11 +14,7 @@
 set -u
 root=$(cd "$(dirname "$0")/.." && pwd)
 . "$root/interop/common.sh"
-program=${1:-$root/crates/uucpair/out/uucpair}
-work=$(mktemp -d)
-chmod 755 "$work"
-started=()
-trap 'kill "${started[@]}" 2>/dev/null; rm -rf "$work"' EXIT
+begin_work "$@"
 
 all_sizes=${SIZES:-0 1 63 64 65 4096 1048576}
 # Not 4096:7: uucico stores wrong bytes where more than 16,384 may be on their way to it (docs/OPERATING.md).
@@ -26,23 +22,8 @@ terms=${TERMS_LIST-64:3 64:7 1024:3 1024:7 2048:7 4096:3}
 
 # set_up SIZE WINDOW: Taylor's folders and settings, and a folder of ours
 set_up() {
-    rm -rf "$work/taylor" "$work/ours"
-    taylor_settings taylor "$work/taylor" "$work/line"
-    mkdir -p "$work"/ours/{send,got}
-    cat >"$work/taylor/sys" <<END
-system ours
-time any
-port gate
-chat ""
-protocol g
-protocol-parameter g packet-size $1
-protocol-parameter g window $2
-remote-send ~
-remote-receive ~
-local-send ~
-local-receive ~
-END
     local size
+    new_ends "protocol-parameter g packet-size $1" "protocol-parameter g window $2" "${both_ways[@]}"
     began=$SECONDS
     for size in $sizes; do
         head -c "$size" /dev/urandom >"$work/taylor/pub/t-s$size"
@@ -50,11 +31,7 @@ END
         head -c "$size" /dev/urandom >"$work/ours/send/o-s$size"
         head -c "$size" /dev/urandom >"$work/ours/send/o-r$size"
     done
-    chmod 644 "$work"/taylor/pub/*
-    # uucico puts a file only where everybody may.
-    chmod 777 "$work/taylor/pub"
-    chown -R uucp:uucp "$work/taylor"
-    : >"$work/ours/jobs"
+    own_files
     for size in $sizes; do
         echo "send o-s$size ~/o-s$size u" >>"$work/ours/jobs"
         echo "request ~/t-r$size t-r$size u" >>"$work/ours/jobs"
@@ -88,30 +65,17 @@ judge() {
 # we_call SIZE WINDOW
 we_call() {
     set_up "$1" "$2"
-    rm -f "$work/line"
-    (cd / && exec socat "UNIX-LISTEN:$work/line,mode=666" \
-        "EXEC:runuser -u uucp -- /usr/sbin/uucico -I $work/taylor/config" 2>>"$work/socat.err") &
-    started+=($!)
-    sleep 1
-    "$program" call "unix:$work/line" "$work/ours" --me ours --peer taylor --size "$1" --window "$2" >"$work/out" 2>"$work/err"
-    local status=$?
-    sleep 1
-    judge "we call, size $1, window $2" "$status"
+    taylor_waits "$work/line"
+    call_taylor --size "$1" --window "$2"
+    judge "we call, size $1, window $2" $?
 }
 
 # taylor_calls SIZE WINDOW
 taylor_calls() {
-    local status
     set_up "$1" "$2"
-    "$program" answer "unix:$work/line" "$work/ours" --me ours --peer taylor --size "$1" --window "$2" >"$work/out" 2>"$work/err" &
-    local answerer=$!
-    started+=("$answerer")
-    wait_for "$work/line"
-    chmod 666 "$work/line"
-    (cd / && as_uucp /usr/sbin/uucico -I "$work/taylor/config" -f -s ours)
-    wait "$answerer"
-    status=$?
-    judge "Taylor calls, size $1, window $2" "$status"
+    wait_for_taylor "$work/line" --size "$1" --window "$2"
+    taylor_calls_us
+    judge "Taylor calls, size $1, window $2" $?
 }
 
 # check_file FROM TO NAME: whole, or not there and its job pending at one of the two
@@ -153,33 +117,23 @@ judge_noisy() {
 we_call_noisy() {
     local status
     set_up "$1" "$2"
-    rm -f "$work/line" "$work/far" "$work"/taylor/pub/o-*
-    (cd / && exec socat "UNIX-LISTEN:$work/far,mode=666" \
-        "EXEC:runuser -u uucp -- /usr/sbin/uucico -I $work/taylor/config" 2>>"$work/socat.err") &
-    started+=($!)
-    wait_for "$work/far"
+    rm -f "$work/far" "$work"/taylor/pub/o-*
+    taylor_waits "$work/far"
     start_relay "$work/line" "$work/far"
-    timeout 2000 "$program" call "unix:$work/line" "$work/ours" --me ours --peer taylor --size "$1" --window "$2" "${@:3}" \
-        >"$work/out" 2>"$work/err"
+    call_taylor --size "$1" --window "$2" "${@:3}"
     status=$?
     wait "$relay"
-    sleep 1
     judge_noisy "we call over a bad line, size $1, window $2" "$status" "${@:3}"
 }
 
 # taylor_calls_noisy SIZE WINDOW [--no-quiet]
 taylor_calls_noisy() {
-    local status answerer
+    local status
     set_up "$1" "$2"
-    rm -f "$work"/taylor/pub/o-*
-    timeout 2000 "$program" answer "unix:$work/far" "$work/ours" --me ours --peer taylor --size "$1" --window "$2" "${@:3}" \
-        >"$work/out" 2>"$work/err" &
-    answerer=$!
-    started+=("$answerer")
-    wait_for "$work/far"
+    rm -f "$work/far" "$work"/taylor/pub/o-*
+    wait_for_taylor "$work/far" --size "$1" --window "$2" "${@:3}"
     start_relay "$work/line" "$work/far"
-    (cd / && timeout 2000 runuser -u uucp -- /usr/sbin/uucico -I "$work/taylor/config" -f -s ours)
-    wait "$answerer"
+    taylor_calls_us
     status=$?
     wait "$relay"
     judge_noisy "Taylor calls over a bad line, size $1, window $2" "$status" "${@:3}"

@@ -8,38 +8,17 @@
 set -u
 root=$(cd "$(dirname "$0")/.." && pwd)
 . "$root/interop/common.sh"
-program=${1:-$root/crates/uucpair/out/uucpair}
-work=$(mktemp -d)
-chmod 755 "$work"
-started=()
-trap 'kill "${started[@]}" 2>/dev/null; rm -rf "$work"' EXIT
+begin_work "$@"
 
 cases=${CASES:-wildcard execution long_path long_request high_byte long_file}
 
 # set_up: Taylor's folders and settings, and a folder of ours
 set_up() {
-    rm -rf "$work/taylor" "$work/ours" "$work/line"
-    taylor_settings taylor "$work/taylor" "$work/line"
-    mkdir -p "$work"/ours/{send,got}
-    cat >"$work/taylor/sys" <<END
-system ours
-time any
-port gate
-chat ""
-protocol g
-remote-send ~
-remote-receive ~
-local-send ~
-local-receive ~
-END
+    new_ends "${both_ways[@]}"
     echo "the mail" >"$work/taylor/pub/mail"
     echo "a file" | tee "$work/taylor/pub/file" >"$work/taylor/pub/caf"$'\xe9'
     head -c 1048577 /dev/zero >"$work/taylor/pub/long"
-    chmod 644 "$work"/taylor/pub/*
-    # uucico puts a file only where everybody may.
-    chmod 777 "$work/taylor/pub"
-    chown -R uucp:uucp "$work/taylor"
-    : >"$work/ours/jobs"
+    own_files
 }
 
 # letters COUNT: so many
@@ -61,11 +40,6 @@ queue() {
     as_uucp uucp -I "$work/taylor/config" -r -g N "$work/taylor/pub/mail" 'ours!~/mail'
 }
 
-# waiting: how many jobs Taylor has left
-waiting() {
-    as_uucp uustat -I "$work/taylor/config" -a | grep -c .
-}
-
 # judge NAME STATUS [--strict]
 judge() {
     local left mail=lost wanted="0 jobs, the mail came"
@@ -84,33 +58,20 @@ judge() {
 
 # we_call CASE [--strict]
 we_call() {
-    local status
     set_up
     queue "$1"
-    (cd / && exec socat "UNIX-LISTEN:$work/line,mode=666" \
-        "EXEC:runuser -u uucp -- /usr/sbin/uucico -I $work/taylor/config") 2>"$work/socat.err" &
-    started+=($!)
-    wait_for "$work/line"
-    "$program" call "unix:$work/line" "$work/ours" --me ours --peer taylor "${@:2}" >"$work/out" 2>"$work/err"
-    status=$?
-    sleep 1
-    judge "we call, $1" "$status" "${@:2}"
+    taylor_waits "$work/line"
+    call_taylor "${@:2}"
+    judge "we call, $1" $? "${@:2}"
 }
 
 # taylor_calls CASE [--strict]
 taylor_calls() {
-    local status answerer
     set_up
     queue "$1"
-    "$program" answer "unix:$work/line" "$work/ours" --me ours --peer taylor "${@:2}" >"$work/out" 2>"$work/err" &
-    answerer=$!
-    started+=("$answerer")
-    wait_for "$work/line"
-    chmod 666 "$work/line"
-    (cd / && as_uucp /usr/sbin/uucico -I "$work/taylor/config" -f -s ours)
-    wait "$answerer"
-    status=$?
-    judge "Taylor calls, $1" "$status" "${@:2}"
+    wait_for_taylor "$work/line" "${@:2}"
+    taylor_calls_us
+    judge "Taylor calls, $1" $? "${@:2}"
 }
 
 good=0

@@ -5,6 +5,7 @@ export LC_ALL=C
 
 # The folder of the repository.
 root=$(dirname "$(dirname "$(readlink -f "${BASH_SOURCE[0]}")")")
+. "$root/interop/common.sh"
 
 # find_program [PATH]: sets `program` to the one at this path, or to the one that is built of the sources here.
 find_program() {
@@ -103,17 +104,7 @@ debugfile $1/debug
 sysfile $1/sys
 portfile $1/port
 CONFIG
-    cat >"$1/sys" <<SYS
-system $3
-time any
-port $4
-chat ""
-protocol g
-remote-send ~
-remote-receive ~
-local-send ~
-local-receive ~
-SYS
+    taylor_system "$3" "$4" "${both_ways[@]}" >"$1/sys"
 }
 
 # pause SECONDS: starts no process.

@@ -1,5 +1,5 @@
 #!/usr/bin/env python3
-"""What `call` and `answer` tell of a file, and what they make of what they are told, tried for real over a Unix socket.
+"""Tries what `call` and `answer` tell of a file, and what they do with what they are told, over a Unix socket.
 
     tests/digests.py [PROGRAM]
 
@@ -26,7 +26,7 @@ TEXT = b"hello\n"
 
 
 def telling(contents, size=None):
-    """What is told of a file of these bytes, or that it has so many."""
+    """Returns the words that tell of a file of these bytes, or of this size."""
     return b'"" 0x%x sha256:%s' % (len(contents) if size is None else size, hashlib.sha256(contents).hexdigest().encode())
 
 
@@ -128,7 +128,7 @@ def sends(peer, told, file):
 
 
 def called(program, work, options, talk):
-    """What `answer` says to a caller that talks so, what it writes, and what it has."""
+    """Returns how `answer` ends with a caller that talks so, what it writes, and what it has."""
     held = Held(program, work, "-v", "--log", os.path.join(work, "log"), *options)
     peer = Peer(held.connect())
     greet(peer.stream)
@@ -143,7 +143,7 @@ def called(program, work, options, talk):
 
 
 def caller(program, work, job, options, talk):
-    """What `call` says to an end that answers so, what it writes, what it has, its log and its jobs."""
+    """Returns how `call` ends with an end that answers so, what it writes, what it has, its log and its jobs."""
     folder, path = os.path.join(work, "a"), os.path.join(work, "line")
     for name in ("send", "got"):
         os.makedirs(os.path.join(folder, name))
@@ -194,7 +194,7 @@ def taken(peer, answer):
 
 
 def given(peer, told, file):
-    """What is answered to a file that was asked for, of which this was told."""
+    """Returns the answer to a file that was asked for, of which this was told."""
     assert peer.hear() == "R x y u -"
     peer.say(b"RY 0644 " + told)
     peer.give(file)

@@ -35,7 +35,7 @@ class Line:
         self.heard = b""
 
     def says(self, seconds):
-        """Whether the other end says something within this time."""
+        """Returns whether the other end says something within this time."""
         return bool(select.select([self.descriptor], [], [], seconds)[0])
 
     def hear(self, text):

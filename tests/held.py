@@ -1,5 +1,5 @@
 #!/usr/bin/env python3
-"""What `answer` does with a caller that holds it, or storms at it, tried for real over a Unix socket.
+"""Tries what `answer` does with a caller that holds it, or storms at it, over a Unix socket.
 
     tests/held.py [PROGRAM [SCENE..]]
 
@@ -74,7 +74,7 @@ class Held:
         raise SystemExit("nobody answers")
 
     def end(self, seconds):
-        """What it said, if it ends in so many seconds."""
+        """Returns what it said, if it ends in so many seconds."""
         try:
             text, _ = self.process.communicate(timeout=seconds)
             return text.decode()
@@ -113,7 +113,7 @@ def begin(held, size_code=1):
 
 
 def drain(stream, seconds):
-    """How many bytes come until none do for so long."""
+    """Counts the bytes that come until none do for so long."""
     count = 0
     stream.settimeout(seconds)
     try:

@@ -27,7 +27,7 @@ MODULES = ("scripts", "refusals", "kills", "spools", "lines", "disks", "queues",
 
 
 def wanted(names):
-    """The scenes of these names or modules; all of them where there is no name. What is lacking is said."""
+    """Returns the scenes of these names or modules; all of them where there is no name. Says which are left out."""
     found = []
     for function, needs in suite.SCENES:
         if names and function.__name__ not in names and function.__module__ not in names:
@@ -46,7 +46,7 @@ def stop(*_):
 
 
 def run_all(functions, copy, jobs):
-    """Runs these scenes, so many side by side. The rows of those that ended well, or ran alone, and the other scenes."""
+    """Runs these scenes, so many side by side. Returns the rows of those that ended well, or ran alone, and the other scenes."""
     rows, again = [], []
     with concurrent.futures.ThreadPoolExecutor(jobs) as pool:
         running = {pool.submit(suite.run_scene, function, copy): function for function in functions}

@@ -1,5 +1,5 @@
 #!/usr/bin/env python3
-"""What becomes of the jobs where the system refuses calls of `call` and of `answer`, over folders and over spools.
+"""Tries what becomes of the jobs where the system refuses calls of `call` and `answer`, over folders and over spools.
 
     tests/refused_calls.py [PROGRAM [KIND [CALL..]]]
 
@@ -67,10 +67,10 @@ class Scene:
     """Two ends, and what waits at them."""
 
     def prepare(self, program):
-        """What goes before the session in which calls are refused."""
+        """Does what goes before the session in which calls are refused."""
 
     def collect(self):
-        """What becomes of what a session has brought."""
+        """Takes what a session has brought."""
 
 
 class Folders(Scene):
@@ -141,7 +141,7 @@ class Spools(Scene):
                 "--locks", f"{here}/lock", "--log", f"{here}/Log", "--stats", f"{here}/Stats"]
 
     def collect(self):
-        """What has commands run: a mail that has its data is delivered."""
+        """Delivers each mail that has its data, as a program that runs commands does."""
         for node in self.NAMES:
             front = f"{self.work}/{node}/spool/{self.other(node)}"
             for name in os.listdir(f"{front}/X.") if os.path.isdir(f"{front}/X.") else ():
@@ -212,7 +212,7 @@ def start(program, front, verb, scene, name):
 
 
 def end(process, seconds):
-    """Whether it ended by itself."""
+    """Returns whether it ended by itself."""
     try:
         process.wait(seconds)
         return True
@@ -240,7 +240,7 @@ def session(program, scene, victim=None, front=()):
 
 
 def counted(program, kind, victim):
-    """How often an end makes each call in a session without refusals."""
+    """Counts how often an end makes each call in a session without refusals."""
     with tempfile.TemporaryDirectory() as work:
         scene = KINDS[kind](work)
         scene.prepare(program)

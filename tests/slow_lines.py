@@ -1,5 +1,5 @@
 #!/usr/bin/env python3
-"""What stands at the other side of a line that is slow, full, or used by somebody else.
+"""Stands at the other side of a line that is slow, full, or used by somebody else.
 
     slow_lines.py knock ADDRESS COUNT           connects and closes so often
     slow_lines.py drip ADDRESS SECONDS          sends a byte each two seconds, for so long at most; prints that it has

@@ -36,7 +36,7 @@ DLE = 16
 
 
 def streams_of(kind):
-    """What NEAR reads and writes, and the other sides of these."""
+    """Makes what NEAR reads and writes, and the other sides of these."""
     if kind == "socket":
         near, ours = (end.detach() for end in socket.socketpair())
         return near, os.dup(near), ours, os.dup(ours)
@@ -72,7 +72,7 @@ def start_near(kind, command, near_in, near_out):
 
 
 def stray_bytes(said):
-    """How many of the bytes are in no text of the protocol and in no packet."""
+    """Counts the bytes that are in no text of the protocol and in no packet."""
     stray, place = 0, 0
     while place < len(said):
         size = size_at(said[place:]) or 0
@@ -84,7 +84,7 @@ def stray_bytes(said):
 
 
 def end_input(side):
-    """Who reads at the other side of this socket has all of it."""
+    """Waits until the reader at the other side of this socket has all of it."""
     with contextlib.suppress(OSError), socket.socket(fileno=os.dup(side)) as shared:
         shared.shutdown(socket.SHUT_WR)
 

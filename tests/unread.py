@@ -1,5 +1,5 @@
 #!/usr/bin/env python3
-"""What `answer --strict` says of a command for which its session ends, sent to it over a Unix socket.
+"""Tries what `answer --strict` says of a command for which its session ends, over a Unix socket.
 
     tests/unread.py [PROGRAM]
 

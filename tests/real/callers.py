@@ -1,8 +1,8 @@
-"""Who calls an end that waits: one after the other, several at once, strangers, a port scan, nobody; and runs over one folder."""
+"""Calls an end that waits: one after the other, several at once, strangers, a port scan, nobody; and runs over one folder."""
 import os
 import socket
 
-from lines import Cable
+from lines import Cable, door_at
 from suite import Ends, filler, free_port, listens_at, names_in, report, said, scene, text_of, wait_until, write
 
 UNKNOWN = said('the other end refused: "RYou are unknown to me" (it does not know the name of this end)')
@@ -51,7 +51,7 @@ def three_calls_at_a_port(one):
 
 @scene()
 def a_port_scan_before_the_caller(one):
-    """Whoever connects and says nothing, or something else, counts for none, and keeps nobody off."""
+    """A caller that says nothing, or something else, counts for none, and keeps nobody off."""
     ends = Ends(one)
     port = free_port()
     line = f"tcp:127.0.0.1:{port}"
@@ -157,7 +157,7 @@ def four_who_call_at_once(one):
 
 @scene()
 def what_is_heard(one):
-    """What the other end says, where it is another one, refuses, or is none of these."""
+    """The program says what it has heard, where the other end is another one, refuses, or is no end."""
     ends = Ends(one)
     ends.give("alpha", x="x\n")
     for what, texts, phase, words in (
@@ -168,9 +168,7 @@ def what_is_heard(one):
         ("a getty", (b"\r\nlogin: ",), "hungup", 'heard 9 bytes and no text: "\\x0d\\x0alogin: "'),
     ):
         ends.jobs("alpha", "send x x me")
-        with socket.socket(socket.AF_UNIX) as door:
-            door.bind(one.path(f"at{phase}"))
-            door.listen()
+        with door_at(one, f"at{phase}") as door:
             caller = one.start(ends.words("call", f"unix:at{phase}", "--timeout", "10"))
             stream, _ = door.accept()
             for text in texts:

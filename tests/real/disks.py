@@ -3,14 +3,15 @@ import os
 import shutil
 import subprocess
 
-from lines import finish, load, wrong
+from kills import traced
+from lines import Cable, finish, load, wrong
 from suite import Ends, fill_disk, filler, names_in, report, said, scene, text_of, write
 
 NOBODY = ("setpriv", "--reuid=65534", "--regid=65534", "--clear-groups")
 
 
 def broken(one, what, at, break_it, mend_it, told, status=3):
-    """A session while something is broken at an end, what is told of it, and what comes of all when it is mended."""
+    """Runs a session while something is broken at an end, checks what is told, and what comes when it is mended."""
     ends = load(one)
     break_it(ends, at)
     called = ends.answer(one.line, "--timeout", "10")
@@ -124,10 +125,27 @@ def a_file_that_cant_be_looked_at(one):
             ("send x x me\n", False))
 
 
+@scene("strace")
+def a_file_that_cant_be_opened_for_a_moment(one):
+    """Answers that it may be given later: the job of who asked waits, and the next session brings the file."""
+    ends = Ends(one)
+    ends.give("beta", late="late\n", y="y\n")
+    ends.jobs("alpha", "request late late me", "request y y me")
+    refused = ("-P", "beta/send/late", "-e", "inject=openat:error=EMFILE:when=1")
+    called = ends.answer(one.line, front=traced(one, *refused))
+    cable = Cable(one)
+    caller = ends.call(cable.line)
+    one.row("call", caller.all(), (0, report("caller", pending=1, struck=1), ""))
+    one.row("answer", called.end().all(), (0, report("called"), said("beta/send/late is not given: it can't be read")))
+    one.row("the answer, and the job", (b"RN6\0" in cable.heard, text_of(ends.at("alpha", "jobs"))), (True, "request late late me\n"))
+    caller, called = ends.talk()
+    one.row("the next session", (caller.all(), called.all(), text_of(ends.at("alpha", "got/late"))),
+            ((0, report("caller", struck=1), ""), (0, report("called"), ""), "late\n"))
+
+
 @scene()
 def a_folder_that_comes_late(one):
     """A folder that bars a name, and comes once the session runs, ends it: the job stays."""
-    from lines import Cable
     from suite import wait_until
 
     ends = Ends(one)

@@ -3,17 +3,32 @@ to the device."""
 import re
 
 from lines import finish, load, wrong
-from suite import listens_at, report, scene, text_of, wait_until, write
+from suite import at_both_ends, listens_at, report, scene, text_of, wait_until, write
 
 CHANGES = "rename,renameat,renameat2,link,linkat,unlink,unlinkat,fsync,ftruncate"
+# No session makes so many calls.
+NEVER = 60_000
 
 
 def traced(one, *more):
     return ("strace", "-f", "-qq", "-o", one.path("trace"), *more)
 
 
+def count_of(one):
+    """Returns how many calls the last trace has."""
+    return sum("(" in line for line in text_of(one.path("trace")).splitlines())
+
+
+def swept(one, what, count, least, trial, first, step):
+    """Runs a trial at each `step`th of so many calls, from the first on; what is wrong then is one row."""
+    one.holds(f"enough calls for {what}", count > least, count)
+    moments = range(first, count + 1, step)
+    faults = {when: found for when in moments if (found := trial(when))}
+    one.row(f"{len(moments)} {what}", faults, {})
+
+
 def calls_of(one, which):
-    """How many such calls each end makes in a session that is well."""
+    """Counts such calls of each end in a session that is well."""
     counts = {}
     for end in ("beta", "alpha"):
         ends = load(one)
@@ -21,12 +36,12 @@ def calls_of(one, which):
         called = ends.answer(one.line, "--timeout", "10", **({"front": front} if end == "beta" else {}))
         ends.call(one.line, "--timeout", "10", **({"front": front} if end == "alpha" else {}))
         called.end()
-        counts[end] = sum("(" in line for line in text_of(one.path("trace")).splitlines())
+        counts[end] = count_of(one)
     return counts
 
 
 def killed(one, end, which, when):
-    """A session in which this end is killed at such a call. What is wrong then, and when all is done."""
+    """Kills this end at such a call of a session. Returns what is wrong then, and when all is done."""
     ends = load(one)
     front = traced(one, "-e", f"trace={which}", "-e", f"inject={which}:signal=SIGKILL:when={when}")
     called = ends.answer(one.line, "--timeout", "10", "--wait", "3", **({"front": front} if end == "beta" else {}))
@@ -37,35 +52,17 @@ def killed(one, end, which, when):
 
 
 def sweep(one, end, which, step):
-    count = calls_of(one, which)[end]
-    one.holds(f"{end} makes such calls", count > 5, count)
-    faults = {}
-    moments = range(1 + step // 2, count + 1, step)
-    for when in moments:
-        found = killed(one, end, which, when)
-        if found:
-            faults[when] = found
-    one.row(f"{len(moments)} kills of {end}", faults, {})
+    swept(one, f"kills of {end}", calls_of(one, which)[end], 5, lambda when: killed(one, end, which, when), 1 + step // 2, step)
 
 
-@scene("strace")
-def kills_of_who_calls(one):
-    sweep(one, "alpha", "all", 10)
+@at_both_ends("strace")
+def kills_of(one, end):
+    sweep(one, end, "all", 10)
 
 
-@scene("strace")
-def kills_of_who_is_called(one):
-    sweep(one, "beta", "all", 10)
-
-
-@scene("strace")
-def kills_at_changes_of_who_calls(one):
-    sweep(one, "alpha", CHANGES, 1)
-
-
-@scene("strace")
-def kills_at_changes_of_who_is_called(one):
-    sweep(one, "beta", CHANGES, 1)
+@at_both_ends("strace")
+def kills_at_changes_of(one, end):
+    sweep(one, end, CHANGES, 1)
 
 
 def mailed(nodes, number):
@@ -77,7 +74,7 @@ def mailed(nodes, number):
 
 
 def spool_trial(one, nodes, number, victim, front):
-    """A session in which a node is killed, and those that follow, with what has come run between them. What is wrong in the end."""
+    """Runs a session with a node under this command, and those that follow. Returns what is wrong in the end."""
     from spools import AS_NOBODY, deliver
 
     mailed(nodes, number)
@@ -107,34 +104,27 @@ def spool_trial(one, nodes, number, victim, front):
     return faults
 
 
-def spool_sweep(one, victim, step):
+def spool_sweep(one, what, victim, front, least, first, step):
+    """The same over a spool, whose victim runs under the command that `front` has for the number of a call."""
     from spools import Nodes
 
     nodes = Nodes(one)
-    spool_trial(one, nodes, 0, victim, traced(one, "-e", f"trace={CHANGES}"))
-    count = sum("(" in line for line in text_of(one.path("trace")).splitlines())
-    one.holds(f"{victim} makes such calls", count > 10, count)
-    faults = {}
-    for when in range(1, count + 1, step):
-        found = spool_trial(one, nodes, when, victim, traced(one, "-e", f"trace={CHANGES}", "-e",
-                f"inject={CHANGES}:signal=SIGKILL:when={when}"))
-        if found:
-            faults[when] = found
-    one.row(f"kills of {victim} over a spool", faults, {})
+    spool_trial(one, nodes, 0, victim, front(one, NEVER))
+    swept(one, f"{what} {victim} over a spool", count_of(one), least,
+            lambda when: spool_trial(one, nodes, when, victim, front(one, when)), first, step)
 
 
-@scene("strace")
-def kills_over_a_spool_of_who_calls(one):
-    spool_sweep(one, "alpha", 2)
+def kill(one, when):
+    return traced(one, "-e", f"trace={CHANGES}", "-e", f"inject={CHANGES}:signal=SIGKILL:when={when}")
 
 
-@scene("strace")
-def kills_over_a_spool_of_who_is_called(one):
-    spool_sweep(one, "beta", 2)
+@at_both_ends("strace")
+def kills_over_a_spool_of(one, end):
+    spool_sweep(one, "kills of", end, kill, 10, 1, 2)
 
 
 def order_of(trace, path):
-    """In which order a file at this path gets its bytes, its name and its folder on the device, and something is said of it."""
+    """Returns in which order the bytes, the name and the folder of this file get on the device, and something is said."""
     part, steps = None, []
     lines = text_of(trace).splitlines()
     place = next((number for number, line in enumerate(lines) if re.search(rf'rename\w*\(.*"{re.escape(path)}"(?:, 0)?\) = 0',

@@ -22,6 +22,7 @@ class Cable:
         self.rate, self.most, self.every = rate, most, every
         self.word, self.left = before or (None, 0)
         self.passed = self.packets = 0
+        self.heard = b""
         self.random = random.Random(seed)
         path = f"{one.line[5:]}.cable"
         self.line = f"unix:{path}"
@@ -62,6 +63,7 @@ class Cable:
                 if self.most is not None:
                     piece = piece[:self.most - self.passed]
                 self.passed += len(piece)
+                self.heard += piece
                 if self.every:
                     held[side] += piece
                     piece, held[side] = self.spoilt(held[side])
@@ -72,7 +74,7 @@ class Cable:
                     time.sleep(len(piece) / self.rate)
 
     def spoilt(self, held):
-        """What goes on of these bytes, and what is held back, since it may begin a packet."""
+        """Returns what goes on of these bytes, and what is held back, since it may begin a packet."""
         out = b""
         while held:
             if held[0] != DLE:
@@ -96,6 +98,37 @@ class Cable:
         return packet[:place] + bytes([packet[place] ^ (1 << self.random.randrange(8))]) + packet[place + 1:]
 
 
+def door_at(one, name):
+    """Returns a socket that listens there."""
+    door = socket.socket(socket.AF_UNIX)
+    door.bind(one.path(name))
+    door.listen()
+    return door
+
+
+def let_in(one):
+    """Returns a line on which the called end has let in alpha, and speaks g."""
+    line = socket.socket(socket.AF_UNIX)
+    line.connect(one.path(one.line[5:]))
+    hear(line, b"Shere=beta\0")
+    line.sendall(b"\x10Salpha\0")
+    hear(line, b"Pg\0")
+    line.sendall(b"\x10Ug\0")
+    return line
+
+
+def hear(line, text):
+    """Reads until this text has come."""
+    heard = b""
+    line.settimeout(10)
+    while text not in heard:
+        piece = line.recv(4096)
+        if not piece:
+            raise OSError(f"heard {heard}")
+        heard += piece
+    return heard
+
+
 def load(one):
     """Three files each way, of which one is asked for."""
     ends = Ends(one)
@@ -107,13 +140,13 @@ def load(one):
 
 
 def taker(job):
-    """Who takes the file of a job, and its name."""
+    """Returns the end that takes the file of a job, and the name of that."""
     word, name = job.split()[:2]
     return ("beta" if name.startswith("alpha") else "alpha"), name
 
 
 def wrong(ends):
-    """What is lost or wrong: a job that is gone without its file, and a file that is not whole."""
+    """Returns what is lost or wrong: a job that is gone without its file, and a file that is not whole."""
     faults = []
     for end in ("alpha", "beta"):
         pending = text_of(ends.at(end, "jobs")).splitlines()
@@ -139,7 +172,7 @@ def all_done(ends):
 
 
 def finish(ends, most=3):
-    """Sessions until nothing waits. What is not so then."""
+    """Runs sessions until nothing waits. Returns what is wrong then."""
     for _ in range(most):
         if all_done(ends):
             break
@@ -205,9 +238,7 @@ def a_line_that_loses_nothing(one):
 def a_line_that_is_silent(one):
     """An end gives up at the eighth timeout, and says that it has heard nothing; one whose caller says noise is hung up in time."""
     ends = load(one)
-    with socket.socket(socket.AF_UNIX) as door:
-        door.bind(one.path("mute"))
-        door.listen()
+    with door_at(one, "mute"):
         begun = time.monotonic()
         caller = ends.call("unix:mute", "--timeout", "1")
         took = time.monotonic() - begun
@@ -221,12 +252,7 @@ def a_line_that_babbles(one):
     """Bytes that bring no session on hold nobody for more than 20 timers."""
     ends = load(one)
     called = ends.answer(one.line, "--timeout", "1", "-v")
-    with socket.socket(socket.AF_UNIX) as line:
-        line.connect(one.path(one.line[5:]))
-        hear(line, b"Shere=beta\0")
-        line.sendall(b"\x10Salpha\0")
-        hear(line, b"Pg\0")
-        line.sendall(b"\x10Ug\0")
+    with let_in(one) as line:
         begun = time.monotonic()
         while called.process.poll() is None and time.monotonic() - begun < 40:
             try:
@@ -240,24 +266,11 @@ def a_line_that_babbles(one):
     one.holds("after 20 seconds or so", 18 <= took < 35, took)
 
 
-def hear(line, text):
-    heard = b""
-    line.settimeout(10)
-    while text not in heard:
-        piece = line.recv(4096)
-        if not piece:
-            raise OSError(f"heard {heard}")
-        heard += piece
-    return heard
-
-
 @scene()
 def a_line_that_is_reset(one):
-    """Why a line failed is said, where its session is not done."""
+    """The program says why a line failed, where its session is not done."""
     ends = load(one)
-    with socket.socket(socket.AF_UNIX) as door:
-        door.bind(one.path("reset"))
-        door.listen()
+    with door_at(one, "reset") as door:
         caller = one.start(ends.words("call", "unix:reset", "--timeout", "5"))
         line, _ = door.accept()
     line.sendall(b"\x10Shere=beta\0")
@@ -274,20 +287,13 @@ def ends_that_write_no_more(one):
         ends = load(one)
         if role == "answer":
             called = ends.answer(one.line, "--timeout", "5")
-            line = socket.socket(socket.AF_UNIX)
-            line.connect(one.path(one.line[5:]))
-            hear(line, b"Shere=beta\0")
-            line.sendall(b"\x10Salpha\0")
-            hear(line, b"Pg\0")
-            line.sendall(b"\x10Ug\0" + INITA)
+            line = let_in(one)
+            line.sendall(INITA)
             hear(line, b"\x10\x09")
         else:
-            door = socket.socket(socket.AF_UNIX)
-            door.bind(one.path("dying"))
-            door.listen()
-            called = one.start(ends.words("call", "unix:dying", "--timeout", "5"))
-            line, _ = door.accept()
-            door.close()
+            with door_at(one, "dying") as door:
+                called = one.start(ends.words("call", "unix:dying", "--timeout", "5"))
+                line, _ = door.accept()
             line.sendall(b"\x10Shere=beta\0")
             hear(line, b"Salpha")
         begun = time.monotonic()

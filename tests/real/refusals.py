@@ -1,9 +1,9 @@
 """Calls that the system refuses, once: nothing is lost, nothing comes twice that may not, and no job is given up for it."""
 import os
 
-from kills import spool_trial, traced
+from kills import NEVER, count_of, spool_sweep, swept, traced
 from lines import load, taker
-from suite import filler, names_in, scene, text_in, text_of
+from suite import at_both_ends, filler, names_in, text_in, text_of
 
 CALLS = "openat,read,write,statx,newfstatat,getdents64,rename,renameat,renameat2,link,linkat,unlink,unlinkat,fsync,ftruncate,mkdir,flock"
 
@@ -13,7 +13,7 @@ def refusal(one, when):
 
 
 def wrong_then(ends):
-    """What is lost or wrong. A job that asks for a file may be given up, which is told: the other end could not read it."""
+    """Returns what is lost or wrong. A job that asks for a file may be given up, and told: the other end could not read it."""
     faults = []
     for end, other in (("alpha", "beta"), ("beta", "alpha")):
         pending, told = text_of(ends.at(end, "jobs")).splitlines(), text_of(ends.at(end, "failed")).splitlines()
@@ -31,6 +31,9 @@ def wrong_then(ends):
 
 
 def trial(one, victim, when):
+    for end in ("alpha", "beta"):
+        for name in names_in(one.path(f"{end}/got")):
+            os.remove(one.path(f"{end}/got/{name}"))
     ends = load(one)
     how = {victim: {"front": refusal(one, when)}}
     called = ends.answer(one.line, "--timeout", "10", **how.get("beta", {}))
@@ -49,54 +52,13 @@ def trial(one, victim, when):
     return faults + wrong_then(ends)
 
 
-def count_of(one):
-    return sum("(" in line for line in text_of(one.path("trace")).splitlines())
+@at_both_ends("strace")
+def refused_to(one, end):
+    trial(one, end, NEVER)
+    swept(one, f"refusals at {end}", count_of(one), 50, lambda when: trial(one, end, when), 3, 5)
 
 
-def sweep(one, victim, step):
-    trial(one, victim, 60_000)
-    count, faults = count_of(one), {}
-    one.holds(f"{victim} makes such calls", count > 50, count)
-    for when in range(1 + step // 2, count + 1, step):
-        for end in ("alpha", "beta"):
-            for name in names_in(one.path(f"{end}/got")):
-                os.remove(one.path(f"{end}/got/{name}"))
-        found = trial(one, victim, when)
-        if found:
-            faults[when] = found
-    one.row(f"refusals at {victim}", faults, {})
-
-
-@scene("strace")
-def refused_to_who_calls(one):
-    sweep(one, "alpha", 5)
-
-
-@scene("strace")
-def refused_to_who_is_called(one):
-    sweep(one, "beta", 5)
-
-
-def spool_sweep(one, victim, step):
-    from spools import Nodes
-
-    nodes = Nodes(one)
-    spool_trial(one, nodes, 0, victim, refusal(one, 60_000))
-    count, faults = count_of(one), {}
-    one.holds(f"{victim} makes such calls", count > 50, count)
+@at_both_ends("strace")
+def refused_over_a_spool_to(one, end):
     # the first are those of the command that makes it nobody's
-    for when in range(1 + step // 2, count + 1, step):
-        found = spool_trial(one, nodes, when, victim, refusal(one, when))
-        if found:
-            faults[when] = found
-    one.row(f"refusals at {victim} over a spool", faults, {})
-
-
-@scene("strace")
-def refused_over_a_spool_to_who_calls(one):
-    spool_sweep(one, "alpha", 7)
-
-
-@scene("strace")
-def refused_over_a_spool_to_who_is_called(one):
-    spool_sweep(one, "beta", 7)
+    spool_sweep(one, "refusals at", end, refusal, 50, 4, 7)

@@ -3,20 +3,21 @@ import os
 import re
 import subprocess
 
-from suite import scene
+from suite import part
 
 ROOT = os.path.dirname(os.path.dirname(os.path.dirname(os.path.abspath(__file__))))
 TAYLOR = ("root", "uucico", "uux", "socat")
 
 
-def script(one, path, *words, seconds=400, **settings):
+def script(one, path, **settings):
     """Runs a script with the program of this run. Its folders are in that of the scene, and go with it."""
     printed = one.path("printed")
     with open(printed, "wb") as to:
         how = {"stdin": subprocess.DEVNULL, "stdout": to, "stderr": subprocess.STDOUT, "cwd": ROOT}
-        running = one.begin([os.path.join(ROOT, path), *words], printed, os.devnull, env={**os.environ, "TMPDIR": one.work, **settings}, **how)
+        environment = {**os.environ, "TMPDIR": one.work, **settings}
+        running = one.begin([os.path.join(ROOT, path), one.program], printed, os.devnull, env=environment, **how)
     running.patience = 5
-    ended = running.end(seconds)
+    ended = running.end(400)
     faults = [line for line in ended.out.splitlines() if re.search(r"not so: |WRONG|: (found|ended with|status|expected)", line)]
     for line in ended.out.splitlines()[:-1] if ended.status == 0 else []:
         if not line.startswith(" "):
@@ -24,41 +25,16 @@ def script(one, path, *words, seconds=400, **settings):
     one.holds(f"{path} {settings or ''} ends with status 0", ended.status == 0, (ended.status, "; ".join(faults) or ended.out[-1500:]))
 
 
-@scene(*TAYLOR)
-def with_uucico_files_both_ways(one):
-    script(one, "interop/spool.sh", one.program, PARTS="programs")
-
-
-@scene(*TAYLOR)
-def with_uucico_a_hub(one):
-    script(one, "interop/spool.sh", one.program, PARTS="hub asked")
-
-
-@scene(*TAYLOR)
-def with_uucico_put_off(one):
-    script(one, "interop/spool.sh", one.program, PARTS="unread full")
-
-
-@scene(*TAYLOR)
-def with_uucico_killed(one):
-    script(one, "interop/spool.sh", one.program, PARTS="we-call we-answer", MAILS="5", KILLS="3", RATE="12000")
-
-
-@scene(*TAYLOR)
-def with_uucico_places(one):
-    script(one, "interop/spool_faults.sh", one.program, PARTS="targets hubfault preserve")
-
-
-@scene(*TAYLOR)
-def with_uucico_words(one):
-    script(one, "interop/spool_faults.sh", one.program, PARTS="words")
-
-
-@scene()
-def digests(one):
-    script(one, "tests/digests.py", one.program)
-
-
-@scene()
-def unread(one):
-    script(one, "tests/unread.py", one.program)
+for name, needs, path, settings in (
+    ("with_uucico_files_both_ways", TAYLOR, "interop/spool.sh", {"PARTS": "programs"}),
+    ("with_uucico_a_hub", TAYLOR, "interop/spool.sh", {"PARTS": "hub asked"}),
+    ("with_uucico_later_over_a_folder", (*TAYLOR, "strace"), "interop/later.sh", {}),
+    ("with_uucico_later_over_a_spool", (*TAYLOR, "strace"), "interop/spool.sh", {"PARTS": "later"}),
+    ("with_uucico_put_off", TAYLOR, "interop/spool.sh", {"PARTS": "unread full"}),
+    ("with_uucico_killed", TAYLOR, "interop/spool.sh", {"PARTS": "we-call we-answer", "MAILS": "5", "KILLS": "3", "RATE": "12000"}),
+    ("with_uucico_places", TAYLOR, "interop/spool_faults.sh", {"PARTS": "targets hubfault preserve"}),
+    ("with_uucico_words", TAYLOR, "interop/spool_faults.sh", {"PARTS": "words"}),
+    ("digests", (), "tests/digests.py", {}),
+    ("unread", (), "tests/unread.py", {}),
+):
+    part(name, needs, script, path=path, **settings)

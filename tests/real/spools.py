@@ -53,11 +53,11 @@ class Nodes:
         return [verb, line, f"{here}spool", "--spool", "--me", node, *peers, "--public", f"{here}pub", "--locks", f"{here}lock",
                 "--log", f"{here}Log", "--stats", f"{here}Stats", "--timeout", "10", *more]
 
-    def answer(self, node, *more, peer=None, line=None, own=True):
+    def answer(self, node, *more, peer=None, line=None, own=True, front=()):
         if own:
             self.own()
         line = line or self.one.line
-        running = self.one.start(self.words("answer", node, line, peer, *more), front=AS_NOBODY)
+        running = self.one.start(self.words("answer", node, line, peer, *more), front=(*front, *AS_NOBODY))
         wait_until(lambda: running.process.poll() is not None or listens_at(line[5:]))
         return running
 
@@ -72,7 +72,7 @@ class Nodes:
         return self.call(caller, *call, own=False), running.end()
 
     def there(self, node):
-        """What is in a spool, but for the status of the other system."""
+        """Returns what is in a spool, but for the status of the other system."""
         return {name: contents.decode() for name, contents in files_below(self.at(node,
                 "spool")).items() if not name.startswith(".Status")}
 
@@ -113,7 +113,7 @@ def fill(nodes):
 
 
 def come(nodes, node):
-    """What has come to a node of `fill`."""
+    """Returns what has come to a node of `fill`."""
     other = nodes.other(node)
     spool = {f"{other}/D./D.{other}N0003": f"mail of {other}\n", f"{other}/X./X.{other}N0003": X_TEXT.format(node=other)}
     pub = {"plain": f"plain {other}\n", "copied": filler(f"copied {other}", 5000), "asked": filler(f"open {other}", 3000),
@@ -122,7 +122,7 @@ def come(nodes, node):
 
 
 def mail_log(line, node, other, caller):
-    """What the log of `fill` has at a node."""
+    """Returns what the log of `fill` has at a node."""
     size = len(X_TEXT.format(node=node))
     begins = f"uucico {other} - (TIME) Calling system {other} (port {line})" if caller else \
         f"uucico {other} - (TIME) Incoming call (login {other} port {line})"
@@ -202,16 +202,21 @@ def lines_of_one_file(one):
             ["uucico beta - (TIME) ERROR: C.N1: a line that can't be sent stays"])
 
 
+def plain_files(nodes, count, size):
+    """Lays down so many files of alpha, and returns the lines that send them without a copy."""
+    src = nodes.at("alpha", "src")
+    for number in range(count):
+        write(f"{src}/p{number}", filler(f"p{number}", size))
+    return [f"S {src}/p{number} ~/p{number} u -c D.0 0644 " for number in range(count)]
+
+
 @scene()
 def a_file_of_which_some_lines_are_over(one):
     """The session breaks; what is over of a C. file is not done again, and not given up: all else is."""
     from lines import Cable
 
     nodes = Nodes(one)
-    src = nodes.at("alpha", "src")
-    for number in range(6):
-        write(f"{src}/p{number}", filler(f"p{number}", 2000))
-    lines = [f"S {src}/p{number} ~/p{number} u -c D.0 0644 " for number in range(6)]
+    src, lines = nodes.at("alpha", "src"), plain_files(nodes, 6, 2000)
     nodes.queue("alpha", "C.N1", *lines, f"S {src}/c ~/c u -C D.0007 0644 ", _0007="copied\n")
     nodes.queue("alpha", "C.A1", f"S {src}/d ~/d u -C D.0008 0644 ", f"X {src}/* beta!~/ u -d", _0008="copied first\n")
     called = nodes.answer("beta", peer="alpha")
@@ -231,7 +236,7 @@ def a_file_of_which_some_lines_are_over(one):
 
 @scene()
 def parts_that_were_left(one):
-    """What a stop has left of a file that was not whole bars nothing; a mail that has the next name is not written over."""
+    """A part of a file that a stop has left bars nothing; a mail that has the next name is not written over."""
     nodes = Nodes(one)
     nodes.known("beta", "alpha")
     nodes.mail("alpha", "0003", "mail\n")
@@ -272,7 +277,7 @@ def a_copy_that_two_lines_have(one):
 
 
 def deliver(nodes, mails):
-    """What has commands run: a mail that is there with its execution file is delivered."""
+    """Delivers each mail that is there with its execution file, as a program that runs commands does."""
     for node in nodes.names:
         front = nodes.at(node, f"spool/{nodes.other(node)}")
         for name in names_in(f"{front}/X."):
@@ -285,7 +290,7 @@ def deliver(nodes, mails):
 
 @scene()
 def mail_over_lines_that_break(one):
-    """Whatever of a session is cut off, each mail comes once; what has come is run between the sessions."""
+    """Each mail comes once, whatever of a session is cut off; what has come is run between the sessions."""
     from lines import Cable
 
     nodes = Nodes(one)
@@ -314,20 +319,13 @@ def mail_over_lines_that_break(one):
 @scene()
 def digests_over_a_spool(one):
     """A file that is not the one that was told of is not kept."""
-    import socket
-
     from digests import Peer, sends, telling
-    from lines import hear
+    from lines import let_in
 
     nodes = Nodes(one)
     nodes.known("beta", "alpha")
     called = nodes.answer("beta", peer="alpha")
-    with socket.socket(socket.AF_UNIX) as line:
-        line.connect(one.path(one.line[5:]))
-        hear(line, b"Shere=beta\0")
-        line.sendall(b"\x10Salpha\0")
-        hear(line, b"Pg\0")
-        line.sendall(b"\x10Ug\0")
+    with let_in(one) as line:
         peer = Peer(line)
         peer.start()
         one.row("what is answered", (sends(peer, telling(b"hullo\n"), b"hello\n"), sends(peer, telling(b"hello\n"), b"hello\n")),
@@ -367,7 +365,7 @@ def spools_on_a_full_disk(one):
 
 @scene()
 def jobs_that_are_given_up(one):
-    """What is refused is preserved, told, mailed of, and nothing of it is overwritten."""
+    """A job that is refused is preserved, told and mailed of, and nothing of it is overwritten."""
     nodes = Nodes(one)
     src = nodes.at("alpha", "src")
     write(nodes.at("alpha", "spool/.Preserve/beta.D.0005"), "of an earlier job\n")
@@ -451,6 +449,30 @@ def files_that_are_asked_for(one):
     failed = [f"request {name} ~/got{number} u" for number, name in enumerate(asked)]
     one.row("call", caller.all(), (0, report("caller", struck=2, failed=failed), ""))
     one.row("what has come", nodes.pub("alpha"), {"open1": filler("open", 2000), "open2": filler("open", 2000)})
+
+
+@scene("strace")
+def a_public_file_that_cant_be_opened_for_a_moment(one):
+    """Answers that it may be given later: the job of who asked waits, and the next session brings the file."""
+    from kills import traced
+    from lines import Cable
+
+    nodes = Nodes(one)
+    nodes.known("beta", "alpha")
+    late = nodes.at("beta", "pub/late")
+    write(late, "late\n")
+    os.chmod(late, 0o644)
+    nodes.queue("alpha", "C.N1", "R ~/late ~/late u -d")
+    nodes.mail("alpha", "0002", "two\n")
+    called = nodes.answer("beta", peer="alpha", front=traced(one, "-P", late, "-e", "inject=openat:error=EMFILE:when=1"))
+    cable = Cable(one)
+    caller, called = nodes.call("alpha", line=cable.line, own=False), called.end()
+    one.row("call", caller.all(), (0, report("caller", pending=1, struck=2), ""))
+    one.row("answer", called.all(), (0, report("called"), ""))
+    one.row("the answer, and the job", (b"RN6\0" in cable.heard, sorted(nodes.there("alpha"))), (True, ["beta/C./C.N1"]))
+    caller, called = nodes.talk()
+    one.row("the next session", (caller.all(), called.all(), nodes.pub("alpha")),
+            ((0, report("caller", struck=1), ""), (0, report("called"), ""), {"late": "late\n"}))
 
 
 @scene()
@@ -685,7 +707,7 @@ def one_systems_fault(one):
 
 @scene()
 def statuses_of_calls(one):
-    """What .Status says of a call that failed: nobody listens, another name, the line breaks; and that it counts."""
+    """The file of .Status says why a call failed, and counts: nobody listens, another name, the line breaks."""
     nodes = Nodes(one)
     nodes.mail("alpha", "0003", "mail\n")
     caller = nodes.call("alpha")
@@ -727,10 +749,7 @@ def jobs_that_a_person_kills(one):
     from lines import Cable
 
     nodes = Nodes(one)
-    src = nodes.at("alpha", "src")
-    for number in range(8):
-        write(f"{src}/p{number}", filler(f"p{number}", 3000))
-    nodes.queue("alpha", "C.N1", *(f"S {src}/p{number} ~/p{number} u -c D.0 0644 " for number in range(8)))
+    nodes.queue("alpha", "C.N1", *plain_files(nodes, 8, 3000))
     called = nodes.answer("beta", peer="alpha")
     cable = Cable(one, rate=6000)
     nodes.own()
@@ -747,16 +766,13 @@ def jobs_that_a_person_kills(one):
 
 @scene("strace")
 def seen_on_the_device(one):
-    """What has come is on the device, with its name, before anything is said of it; and a job goes after that."""
+    """A file that comes is on the device, with its name, before anything is said of it; and a job goes after that."""
     from kills import order_of
 
     nodes = Nodes(one)
     nodes.mail("alpha", "0003", filler("mail", 3000))
     nodes.queue("alpha", "C.A1", f"S {nodes.at('alpha', 'src')}/f ~/f u -C D.0001 0644 ", _0001=filler("f", 3000))
-    nodes.own()
-    words = nodes.words("answer", "beta", one.line, "alpha")
-    called = one.start(words, front=("strace", "-f", "-y", "-qq", "-s", "300", "-o", one.path("trace"), *AS_NOBODY))
-    wait_until(lambda: listens_at(one.line[5:]))
+    called = nodes.answer("beta", peer="alpha", front=("strace", "-f", "-y", "-qq", "-s", "300", "-o", one.path("trace")))
     caller, called = nodes.call("alpha", own=False), called.end()
     one.row("both are well", (caller.status, called.status), (0, 0))
     for name in ("pub/f", "spool/alpha/D./D.alphaN0003", "spool/alpha/X./X.alphaN0003"):

@@ -1,5 +1,6 @@
-"""What the scenes of `tests/real.py` share: a folder of its own for each, the processes that it starts, and its rows."""
+"""Serves the scenes of `tests/real.py`: a folder for each, the processes that it starts, and its rows."""
 import contextlib
+import functools
 import itertools
 import os
 import re
@@ -36,6 +37,24 @@ def scene(*needs):
     return mark
 
 
+def part(name, needs, function, **words):
+    """Adds a scene of this name: the function, with these words."""
+    one = functools.partial(function, **words)
+    one.__name__, one.__module__ = name, function.__module__
+    SCENES.append((one, needs))
+
+
+def at_both_ends(*needs):
+    """Marks a function that is two scenes: of the end that calls, and of the one that is called."""
+
+    def mark(function):
+        for end, who in (("alpha", "who_calls"), ("beta", "who_is_called")):
+            part(f"{function.__name__}_{who}", needs, function, end=end)
+        return function
+
+    return mark
+
+
 def is_here(need):
     if need == "root":
         return os.geteuid() == 0
@@ -43,13 +62,13 @@ def is_here(need):
 
 
 def text_in(path):
-    """The text of a file, or none where there is no such file."""
+    """Returns the text of a file, or none where there is no such file."""
     contents = read(path)
     return None if contents is None else contents.decode(errors="backslashreplace")
 
 
 def read(path):
-    """The bytes of a file, or none where there is no such file."""
+    """Returns the bytes of a file, or none where there is no such file."""
     try:
         with open(path, "rb") as file:
             return file.read()
@@ -71,7 +90,7 @@ def names_in(folder):
 
 
 def files_below(folder):
-    """Each file below a folder, by its path there, with its bytes."""
+    """Returns each file below a folder, by its path there, with its bytes."""
     found = {}
     for at, _, names in os.walk(folder):
         for name in names:
@@ -81,7 +100,7 @@ def files_below(folder):
 
 
 def wait_until(condition, seconds=20):
-    """Whether something is so within this time."""
+    """Returns whether something is so within this time."""
     until = time.monotonic() + seconds
     while not condition():
         if time.monotonic() > until:
@@ -91,7 +110,7 @@ def wait_until(condition, seconds=20):
 
 
 def listens_at(path):
-    """Whether somebody listens at a Unix socket, by what the system says: nobody connects to it for that."""
+    """Returns whether somebody listens at a Unix socket, by what the system says: nobody connects to it for that."""
     with open("/proc/net/unix") as file:
         return any(" 00010000 " in line and line.rstrip().endswith(f" {path}") for line in file)
 
@@ -117,7 +136,7 @@ def free_port():
 
 
 def filler(name, size):
-    """A text of so many bytes, of which each piece is another one, and that of no other name."""
+    """Returns a text of so many bytes, of which each piece is another one, and that of no other name."""
     return "".join(f"{name}, line {number}\n" for number in range(size // 8 + 1))[:size]
 
 
@@ -127,7 +146,7 @@ def shown(value):
 
 
 def differing(found, expected):
-    """Of two dictionaries the parts that are not the same."""
+    """Returns the parts of two dictionaries that are not the same."""
     if not isinstance(found, dict) or not isinstance(expected, dict):
         return found, expected
     keys = [key for key in {**found, **expected} if found.get(key) != expected.get(key)]
@@ -186,7 +205,7 @@ def text_of(path):
 
 
 def new_folder():
-    """A folder that goes when all is ended."""
+    """Makes a folder that goes when all is ended."""
     with _starting:
         if _is_closing.is_set():
             raise RuntimeError("all are ended")
@@ -209,7 +228,7 @@ class Scene:
             _open.add(self)
 
     def row(self, what, found, expected):
-        """A row, which is well where the two are the same."""
+        """Adds a row, which is well where the two are the same."""
         fault = None
         if found != expected:
             found, expected = differing(found, expected)
@@ -218,7 +237,7 @@ class Scene:
         return fault is None
 
     def holds(self, what, is_so, there):
-        """A row, which is well where something is so."""
+        """Adds a row, which is well where something is so."""
         self.rows.append((f"{self.name}: {what}", None if is_so else f"it is not so: {shown(there)}"))
         return is_so
 
@@ -246,7 +265,7 @@ class Scene:
         return self.start(words, **how).end(seconds)
 
     def mount(self, path, size):
-        """A small disk in memory."""
+        """Mounts a small disk in memory."""
         os.makedirs(path, exist_ok=True)
         subprocess.run(["mount", "-t", "tmpfs", "-o", f"size={size}", "uucpair", path], check=True)
         self.mounted.append(path)
@@ -275,7 +294,7 @@ def close_all():
 
 
 def run_scene(function, program):
-    """The rows of a scene. One that stops has a row that says why."""
+    """Runs a scene, and returns its rows. One that stops has a row that says why."""
     begun = time.monotonic()
     one = Scene(function.__name__, program)
     try:
@@ -333,21 +352,21 @@ class Ends:
         return self.one.run(self.words("call", line, *more), **how)
 
     def talk(self, line=None, call=(), answer=()):
-        """One session. The ends as they have ended."""
+        """Runs one session, and returns both ends as they have ended."""
         line = line or self.one.line
         called = self.answer(line, *answer)
         caller = self.call(line, *call)
         return caller, called.end()
 
     def state(self, end):
-        """What is in the folder of an end, but for what it gives."""
+        """Returns what is in the folder of an end, but for what it gives."""
         there = {name: contents for name,
                 contents in files_below(self.at(end)).items() if not name.startswith("send/") and name != "log"}
         return {name: contents.decode(errors="backslashreplace") for name, contents in there.items()}
 
 
 def masked(log):
-    """A log without its times, its processes, and the seconds of its sessions."""
+    """Returns a log without its times, its processes, and the seconds of its sessions."""
     lines = []
     for line in text_of(log).splitlines():
         line = re.sub(r"\(20\d\d-[01]\d-[0-3]\d [0-2]\d:[0-5]\d:[0-6]\d\.\d\d \d+\)", "(TIME)", line)
@@ -356,7 +375,7 @@ def masked(log):
 
 
 def report(side, phase="done", pending=0, struck=0, failed=()):
-    """The report of an end, with these jobs that have failed."""
+    """Returns the report of an end, with these jobs that have failed."""
     lines = [f"{side} {phase} pending {pending} struck {struck} failed {len(failed)}"]
     return "".join(f"{line}\n" for line in [*lines, *(f"{side} failed {job}" for job in failed)])
 
@@ -367,7 +386,7 @@ def said(*lines):
 
 @contextlib.contextmanager
 def shared(program):
-    """A copy of the program that anybody may run."""
+    """Makes a copy of the program that anybody may run."""
     folder = new_folder()
     os.chmod(folder, 0o755)
     copy = shutil.copy(program, os.path.join(folder, "uucpair"))
