@@ -78,7 +78,7 @@ module _ (told : FileDigest) where
   gathered_fits true h s bytes e = whole_fits h s.awaits bytes s.lists e
 
   past_limit_fits : (lenient : Bool) (kind : Kind) (w : Awaits) (l : Lists) → AllFit told (on_past_limit lenient kind w l).keeps
-  past_limit_fits true OfFile w l = none_fits
+  past_limit_fits true (OfFile limit) w l = none_fits
   past_limit_fits _ kind w l = none_fits
 
   part_fits : (too_long whole : Bool) (h : Holdings) (s : State) (bytes : List ℕ) → told_awaited s.awaits ≡ Some told →

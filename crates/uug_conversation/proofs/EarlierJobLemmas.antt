@@ -205,7 +205,7 @@ file_behind x y h _ bytes l = refl
 whole_behind : (x y : List Job) (kind : Kind) (h : Holdings) (awaited : Awaits) (bytes : List ℕ) (l : Lists) →
     on_whole kind h awaited bytes (behind x y l) ≡ reply_behind x y (on_whole kind h awaited bytes l)
 whole_behind x y OfCommand h awaited bytes l = text_behind x y h awaited bytes l
-whole_behind x y OfFile h awaited bytes l = file_behind x y h awaited bytes l
+whole_behind x y (OfFile limit) h awaited bytes l = file_behind x y h awaited bytes l
 
 gathered_behind : (x y : List Job) (whole : Bool) (kind : Kind) (h : Holdings) (s : State) (bytes : List ℕ) →
     on_gathered whole kind h (state_behind x y s) bytes ≡ reply_behind x y (on_gathered whole kind h s bytes)
@@ -214,7 +214,7 @@ gathered_behind x y true kind h s bytes = whole_behind x y kind h s.awaits bytes
 
 past_limit_behind : (x y : List Job) (lenient : Bool) (kind : Kind) (awaited : Awaits) (l : Lists) →
     on_past_limit lenient kind awaited (behind x y l) ≡ reply_behind x y (on_past_limit lenient kind awaited l)
-past_limit_behind x y true OfFile awaited l = refl
+past_limit_behind x y true (OfFile limit) awaited l = refl
 past_limit_behind x y _ kind awaited l = refl
 
 part_behind : (x y : List Job) (too_long : Bool) (g : Gathering) (h : Holdings) (s : State) →

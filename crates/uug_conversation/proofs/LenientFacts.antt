@@ -6,6 +6,7 @@ use Rattle.uug_digest.specs.declared.file_digest.FileDigest.{FileDigest}
 use Rattle.uug_talk.specs.declared.answer.Answer.TheVariants as answer
 use Rattle.uug_talk.specs.declared.order.Order.{Order}
 use Rattle.uug_talk.specs.declared.order.Order.TheVariants as order
+use Rattle.uug_talk.specs.declared.gather.TheConstants.{FILE_MAX}
 use Rattle.uug_talk.specs.Gathering.{OfCommand, OfFile}
 use Rattle.uug_conversation.specs.declared.awaits.Awaits.TheVariants as awaits
 use Rattle.uug_conversation.specs.Holdings.{Holdings}
@@ -113,11 +114,11 @@ delayed = record { later = refl; never = refl; there = refl }
 -- ---- a file past its limit
 
 record AreDropped : Type 0 where
-  sent : on_past_limit true OfFile (awaits.SentFile y 384 None) two ≡ replies two awaits.DroppedSentFile []
-  sent_on : on_past_limit true OfFile awaits.DroppedSentFile two ≡ replies two awaits.DroppedSentFile []
-  asked : on_past_limit true OfFile (awaits.AskedFile 384 None) two ≡ replies two awaits.DroppedAskedFile []
+  sent : on_past_limit true (OfFile FILE_MAX) (awaits.SentFile y 384 None) two ≡ replies two awaits.DroppedSentFile []
+  sent_on : on_past_limit true (OfFile FILE_MAX) awaits.DroppedSentFile two ≡ replies two awaits.DroppedSentFile []
+  asked : on_past_limit true (OfFile FILE_MAX) (awaits.AskedFile 384 None) two ≡ replies two awaits.DroppedAskedFile []
   text : on_past_limit true OfCommand awaits.Order two ≡ replies two awaits.Bad []
-  strict : on_past_limit false OfFile (awaits.SentFile y 384 None) two ≡ replies two awaits.Bad []
+  strict : on_past_limit false (OfFile FILE_MAX) (awaits.SentFile y 384 None) two ≡ replies two awaits.Bad []
   sent_end : on_file lenient_x awaits.DroppedSentFile six_bytes two ≡ replies two awaits.Order (the_answer answer.DoneNever ∷ [])
   asked_end : on_file lenient_x awaits.DroppedAskedFile six_bytes asking ≡
       replies (record { passed = []; ahead = send ∷ []; struck = []; failed = request ∷ send_nothing ∷ [] })

@@ -192,7 +192,7 @@ after_file h awaits.Bad bytes l = stays l
 
 after_whole : (kind : Kind) (h : Holdings) (a : Awaits) (bytes : List ℕ) (l : Lists) → OnlyMoves l (on_whole kind h a bytes l).state.lists
 after_whole OfCommand h a bytes l = after_text h a bytes l
-after_whole OfFile h a bytes l = after_file h a bytes l
+after_whole (OfFile limit) h a bytes l = after_file h a bytes l
 
 after_gathered : (whole : Bool) (kind : Kind) (h : Holdings) (s : State) (bytes : List ℕ) → OnlyMoves s.lists (on_gathered whole kind h s bytes).state.lists
 after_gathered false kind h s bytes = stays s.lists

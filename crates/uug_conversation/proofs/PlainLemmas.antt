@@ -155,7 +155,7 @@ module _ (h : Holdings) (untold : h.digests ≡ false) where
   whole_so : AreOff h → (kind : Kind) (awaited : Awaits) (bytes : List ℕ) (l : Lists) → awaits_plainly awaited ≡ true →
       on_whole kind h awaited bytes l ≡ plain_whole kind h awaited bytes l
   whole_so off OfCommand awaited bytes l plain = text_so off awaited bytes l
-  whole_so off OfFile awaited bytes l plain = file_so awaited bytes l plain
+  whole_so off (OfFile limit) awaited bytes l plain = file_so awaited bytes l plain
 
   gathered_so : AreOff h → (whole : Bool) (kind : Kind) (s : State) (bytes : List ℕ) → awaits_plainly s.awaits ≡ true →
       on_gathered whole kind h s bytes ≡ plain_gathered whole kind h s bytes
@@ -294,7 +294,7 @@ a_file h _ bytes l = refl
 
 a_whole : (kind : Kind) (h : Holdings) (awaited : Awaits) (bytes : List ℕ) (l : Lists) → StaysPlain (plain_whole kind h awaited bytes l)
 a_whole OfCommand h awaited bytes l = a_text h awaited bytes l
-a_whole OfFile h awaited bytes l = a_file h awaited bytes l
+a_whole (OfFile limit) h awaited bytes l = a_file h awaited bytes l
 
 gathered : (whole : Bool) (kind : Kind) (h : Holdings) (s : State) (bytes : List ℕ) → awaits_plainly s.awaits ≡ true →
     StaysPlain (plain_gathered whole kind h s bytes)

@@ -199,7 +199,7 @@ a_file h _ bytes l = refl
 
 a_whole : (kind : Kind) (h : Holdings) (awaited : Awaits) (bytes : List ℕ) (l : Lists) → DropsNone (on_whole kind h awaited bytes l)
 a_whole OfCommand h awaited bytes l = a_text h awaited bytes l
-a_whole OfFile h awaited bytes l = a_file h awaited bytes l
+a_whole (OfFile limit) h awaited bytes l = a_file h awaited bytes l
 
 -- what still comes is awaited on
 gathered_so : (whole : Bool) (kind : Kind) (h : Holdings) (s : State) (bytes : List ℕ) → is_dropped s.awaits ≡ false →

@@ -142,14 +142,14 @@ module _ (h : Holdings) where
 
   a_whole : (kind : Kind) (awaited : Awaits) (bytes : List ℕ) (l : Lists) → IsTrue (on_whole kind h awaited bytes l)
   a_whole OfCommand awaited bytes l = a_text awaited bytes l
-  a_whole OfFile awaited bytes l = a_file awaited bytes l
+  a_whole (OfFile limit) awaited bytes l = a_file awaited bytes l
 
   gathered_so : (whole : Bool) (kind : Kind) (s : State) (bytes : List ℕ) → IsTrue (on_gathered whole kind h s bytes)
   gathered_so false kind s bytes = tt
   gathered_so true kind s bytes = a_whole kind s.awaits bytes s.lists
 
   past_limit : (lenient : Bool) (kind : Kind) (awaited : Awaits) (l : Lists) → IsTrue (on_past_limit lenient kind awaited l)
-  past_limit true OfFile awaited l = tt
+  past_limit true (OfFile limit) awaited l = tt
   past_limit _ kind awaited l = tt
 
   part_so : (too_long : Bool) (g : Gathering) (s : State) → IsTrue (on_part too_long g h s)

@@ -5,6 +5,7 @@ use Rattle.std.proofs.lemmas.List.{append_assoc, length-append}
 use Rattle.uug_talk.specs.Chunks.{Measure}
 use Rattle.uug_talk.specs.Answer.{answer_text}
 use Rattle.uug_talk.specs.Lenient.{refusal_text}
+use Rattle.uug_talk.specs.declared.gather.TheConstants.{FILE_MAX}
 use Rattle.uug_talk.specs.Gathering.{Kind, OfCommand, OfFile, part_of, ends, limit_of, gathered, GathersBack}
 use Rattle.uug_conversation.specs.Told.{giving_said, order_said}
 use Rattle.uug_conversation.specs.declared.awaits.Awaits.{Awaits}
@@ -78,15 +79,15 @@ part_step h s m e n =
 
 gathered_kind : (kind : Kind) (ms : List (List ℕ)) → (gathered kind ms).kind ≡ kind
 gathered_kind OfCommand ms = refl
-gathered_kind OfFile ms = refl
+gathered_kind (OfFile limit) ms = refl
 
 nothing_held : (kind : Kind) → (gathered kind []).bytes ≡ []
 nothing_held OfCommand = refl
-nothing_held OfFile = refl
+nothing_held (OfFile limit) = refl
 
 nothing_whole : (kind : Kind) → (gathered kind []).whole ≡ false
 nothing_whole OfCommand = refl
-nothing_whole OfFile = refl
+nothing_whole (OfFile limit) = refl
 
 -- where it has taken these of the turn's messages
 abbrev amid : Lists → Awaits → List (List ℕ) → State
@@ -184,7 +185,7 @@ abbrev pub said_kind : Said → Kind
 said_kind (the_order order told) = OfCommand
 said_kind (the_answer answer) = OfCommand
 said_kind (the_giving mode told) = OfCommand
-said_kind (the_file bytes) = OfFile
+said_kind (the_file bytes) = OfFile FILE_MAX
 said_kind (the_refusal letter) = OfCommand
 
 abbrev pub said_bytes : Said → List ℕ
@@ -199,7 +200,7 @@ said_back : (measure : Measure) → 0 < measure.size → (said : Said) → IsRea
 said_back measure p (the_order order told) r = command_back measure (order_said order told) p r.0
 said_back measure p (the_answer answer) r = command_back measure (answer_text answer) p r.0
 said_back measure p (the_giving mode told) r = command_back measure (giving_said mode told) p r.0
-said_back measure p (the_file bytes) r = file_back measure.size bytes p
+said_back measure p (the_file bytes) r = file_back measure.size FILE_MAX bytes p
 said_back measure p (the_refusal letter) r = absurd r
 
 said_fits : (said : Said) → IsReadBack said → length (said_bytes said) ≤ limit_of (said_kind said)

@@ -10,6 +10,7 @@ use Rattle.uug_talk.specs.declared.error.BadText.{BadText}
 use Rattle.uug_talk.specs.declared.order.Order.{Order}
 use Rattle.uug_talk.specs.declared.order.Order.TheVariants as order
 use Rattle.uug_talk.specs.Answer.{answer_of}
+use Rattle.uug_talk.specs.declared.gather.TheConstants.{FILE_MAX}
 use Rattle.uug_talk.specs.Gathering.{Kind, OfCommand, OfFile, Gathering, with_message, limit_of}
 use Rattle.uug_talk.specs.Lenient.{is_held, or_wished, refused_letter_of}
 use Rattle.uug_talk.specs.Order.{order_of}
@@ -233,15 +234,15 @@ on_file h _ bytes l = out_of_turn l
 
 -- whether a text or a file is awaited
 abbrev pub kind_awaited : Awaits → Kind
-kind_awaited (awaits.SentFile target mode told) = OfFile
-kind_awaited (awaits.AskedFile mode told) = OfFile
-kind_awaited awaits.DroppedSentFile = OfFile
-kind_awaited awaits.DroppedAskedFile = OfFile
+kind_awaited (awaits.SentFile target mode told) = OfFile FILE_MAX
+kind_awaited (awaits.AskedFile mode told) = OfFile FILE_MAX
+kind_awaited awaits.DroppedSentFile = OfFile FILE_MAX
+kind_awaited awaits.DroppedAskedFile = OfFile FILE_MAX
 kind_awaited _ = OfCommand
 
 abbrev pub on_whole : Kind → Holdings → Awaits → List ℕ → Lists → Reply
 on_whole OfCommand h awaited text l = on_text h awaited text l
-on_whole OfFile h awaited bytes l = on_file h awaited bytes l
+on_whole (OfFile limit) h awaited bytes l = on_file h awaited bytes l
 
 -- by whether the text or file is whole
 abbrev pub on_gathered : (whole : Bool) → Kind → Holdings → State → List ℕ → Reply
@@ -262,7 +263,7 @@ is_dropped _ = false
 
 -- past its limit: a lenient end lets a file come to its end, and refuses it then
 abbrev pub on_past_limit : (lenient : Bool) → Kind → Awaits → Lists → Reply
-on_past_limit true OfFile awaited l = replies l (dropped awaited) []
+on_past_limit true (OfFile limit) awaited l = replies l (dropped awaited) []
 on_past_limit _ kind awaited l = out_of_turn l
 
 -- by whether a text or file is past its limit with this message

@@ -135,7 +135,7 @@ on_file h _ bytes l = out_of_turn l
 
 abbrev pub on_whole : Kind → Holdings → Awaits → List ℕ → Lists → Reply
 on_whole OfCommand h awaited text l = on_text h awaited text l
-on_whole OfFile h awaited bytes l = on_file h awaited bytes l
+on_whole (OfFile limit) h awaited bytes l = on_file h awaited bytes l
 
 -- by whether the text or file is whole
 abbrev pub on_gathered : (whole : Bool) → Kind → Holdings → State → List ℕ → Reply

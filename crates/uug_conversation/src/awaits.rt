@@ -1,4 +1,5 @@
 ghost use Rattle.std.specs.Prelude.{IsTrue, ◌≡◌, ◌↔◌};
+ghost use Rattle.uug_talk.specs.declared.gather.TheConstants.{FILE_MAX};
 ghost use Rattle.uug_talk.specs.Gathering.{OfFile};
 ghost use Rattle.uug_conversation.specs.Machine.{comes_early, kind_awaited};
 
@@ -51,7 +52,7 @@ pub enum Awaits {
 impl Awaits {
     /// Whether a file is awaited, and no text.
     pub(crate) fn is_file(&self) -> bool
-        ensures { IsTrue result ↔ (kind_awaited self.now ≡ OfFile) }
+        ensures { IsTrue result ↔ (kind_awaited self.now ≡ OfFile FILE_MAX) }
     {
         matches!(
             self,

@@ -1,5 +1,6 @@
 ghost use Rattle.std.specs.Prelude.{◌≡◌, ◌≢◌, ◌≤◌, ◌<◌, ◌⊎◌, ◌++◌, [], length, true, false, All, OnOk, OnErr, IfOk, IfErr, IfSome, IfNone, Some, None};
 ghost use Rattle.std.specs.Bool.{OnTrue, OnFalse};
+ghost use Rattle.uug_talk.specs.declared.gather.TheConstants.{FILE_MAX};
 ghost use Rattle.uug_talk.specs.Gathering.{OfFile};
 ghost use Rattle.uug_conversation.specs.Jobs.{Lists, at_start, pending};
 ghost use Rattle.uug_conversation.specs.Machine.{between, kind_awaited, on_past_limit, opening, replies, reply_to, step};
@@ -163,7 +164,7 @@ impl<A: Allocator + Copy> Dialogue<A> {
     /// longer to make than the part to take.
     fn take_part<S: Spool>(&mut self, spool: &S, message: &[u8]) -> Result<(), FileFault>
         requires opened { self.old.opened ≡ true }
-        requires file { kind_awaited self.old.machine.awaits ≡ OfFile }
+        requires file { kind_awaited self.old.machine.awaits ≡ OfFile FILE_MAX }
         requires some { message.now ≢ [] }
         ensures taken { OnOk result (dialogue_of (S.holdings spool.now) (S.kept spool.now) self.new
             ≡ taking (S.holdings spool.now) message.now
@@ -396,7 +397,7 @@ fn reaction_to_part<A: Allocator, S: Spool>(
     message: &[u8],
 ) -> Result<Option<Reaction>, FileFault>
     requires part { IsPart awaits.now gather.old }
-    requires no_end { kind_awaited awaits.now ≡ OfFile → message.now ≢ [] }
+    requires no_end { kind_awaited awaits.now ≡ OfFile FILE_MAX → message.now ≢ [] }
     ensures reply { IfOk result (λ told. step (S.holdings spool.now)
         (state_of queue.old awaits.now gather.old) message.now
         ≡ told_as (S.holdings spool.now) (state_of queue.new awaits.now gather.new) told []) }

@@ -50,17 +50,17 @@ both_are_words (w ∷ ws) vs h k = (h.0, both_are_words ws vs h.1 k)
 
 -- ---- the words of a digest
 
-solid_digits : (bytes : List ℕ) → IsBytes bytes → All (λ b. is_space b ≡ false) (encode_lower bytes)
+pub solid_digits : (bytes : List ℕ) → IsBytes bytes → All (λ b. is_space b ≡ false) (encode_lower bytes)
 solid_digits bytes h =
     All-weaker (λ c. is_hex_digit c ≡ true) (λ c. is_space c ≡ false) solid (encode_lower bytes) (encoded_digits bytes h) where
       solid : (c : ℕ) → is_hex_digit c ≡ true → is_space c ≡ false
       solid c d = let no = digit_no_space c d in grind (arith, nat_tests, no)
 
-short_word : (b : ℕ) (bs : List ℕ) → AllByRecursion (λ b. is_space b ≡ false) (b ∷ bs) → IsWord (b ∷ bs)
+pub short_word : (b : ℕ) (bs : List ℕ) → AllByRecursion (λ b. is_space b ≡ false) (b ∷ bs) → IsWord (b ∷ bs)
 short_word b bs h = record { some = omega arith; solid = All-from_recursion (λ b. is_space b ≡ false) (b ∷ bs) h }
 
 -- a word behind a front
-front_word : (b : ℕ) (bs digits : List ℕ) → AllByRecursion (λ b. is_space b ≡ false) (b ∷ bs)
+pub front_word : (b : ℕ) (bs digits : List ℕ) → AllByRecursion (λ b. is_space b ≡ false) (b ∷ bs)
     → All (λ b. is_space b ≡ false) digits → IsWord ((b ∷ bs) ++ digits)
 front_word b bs digits h k = record {
   some = omega arith;
@@ -79,14 +79,14 @@ digest_words_are_words told h = (
   ),
 )
 
-no_zero_digits : (bytes : List ℕ) → IsBytes bytes → HasNoZero (encode_lower bytes)
+pub no_zero_digits : (bytes : List ℕ) → IsBytes bytes → HasNoZero (encode_lower bytes)
 no_zero_digits bytes h =
     All-weaker (λ c. is_hex_digit c ≡ true) (λ c. c ≢ 0) digit_not_zero (encode_lower bytes) (encoded_digits bytes h)
 
-front_no_zero : (front digits : List ℕ) → AllByRecursion (λ b. b ≢ 0) front → HasNoZero digits → HasNoZero (front ++ digits)
+pub front_no_zero : (front digits : List ℕ) → AllByRecursion (λ b. b ≢ 0) front → HasNoZero digits → HasNoZero (front ++ digits)
 front_no_zero front digits h k = All-append (λ b. b ≢ 0) front digits (All-from_recursion (λ b. b ≢ 0) front h) k
 
-some : (b : ℕ) → 0 < b → b ≢ 0
+pub some : (b : ℕ) → 0 < b → b ≢ 0
 some b h e = absurd (omega (arith, h, e))
 
 digest_no_zero : (told : FileDigest) → IsSized told → HasNoZero (digest_text told)

@@ -69,7 +69,7 @@ fn with_digest(text: &[u8], told: &FileDigest) -> ArrayVec<u8, TELLING_MAX>
     telling
 }
 
-fn size_digits(size: u32) -> [u8; 8]
+pub(crate) fn size_digits(size: u32) -> [u8; 8]
     ensures digits { result ≡ encode_lower (to_be_bytes w32 size) }
     ensures fits { size ≤ u32.MAX }
 {
@@ -93,7 +93,7 @@ fn hash_digits(hash: &[u8; 32]) -> [u8; 64]
 }
 
 /// Writes these bytes at the end.
-fn push_all(telling: &mut ArrayVec<u8, TELLING_MAX>, bytes: &[u8])
+pub(crate) fn push_all(telling: &mut ArrayVec<u8, TELLING_MAX>, bytes: &[u8])
     requires { length telling.old.items + length bytes.now ≤ TELLING_MAX }
     ensures items { telling.new.items ≡ telling.old.items ++ bytes.now }
     ensures len { length telling.new.items ≡ length telling.old.items + length bytes.now }

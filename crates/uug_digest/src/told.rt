@@ -58,7 +58,7 @@ fn read_digest(text: &[u8]) -> Option<FileDigest>
     })
 }
 
-fn read_size(word: &[u8]) -> Option<u32>
+pub(crate) fn read_size(word: &[u8]) -> Option<u32>
     ensures { result ≡ size_told word.now }
 {
     read_hex(word.strip_prefix(b"0x")?)

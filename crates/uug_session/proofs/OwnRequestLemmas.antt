@@ -270,14 +270,14 @@ after_file h _ bytes l = quiet h l.struck
 
 after_whole : (kind : Kind) (h : Holdings) (a : Awaits) (bytes : List ℕ) (l : Lists) → KeepsIn h l.struck (on_whole kind h a bytes l)
 after_whole OfCommand h a bytes l = after_text h a bytes l
-after_whole OfFile h a bytes l = after_file h a bytes l
+after_whole (OfFile limit) h a bytes l = after_file h a bytes l
 
 after_gathered : (whole : Bool) (kind : Kind) (h : Holdings) (s : State) (bytes : List ℕ) → KeepsIn h s.lists.struck (on_gathered whole kind h s bytes)
 after_gathered false kind h s bytes = quiet h s.lists.struck
 after_gathered true kind h s bytes = after_whole kind h s.awaits bytes s.lists
 
 after_past_limit : (h : Holdings) (lenient : Bool) (kind : Kind) (a : Awaits) (l : Lists) → KeepsIn h l.struck (on_past_limit lenient kind a l)
-after_past_limit h true OfFile a l = quiet h l.struck
+after_past_limit h true (OfFile limit) a l = quiet h l.struck
 after_past_limit h _ kind a l = quiet h l.struck
 
 after_part : (too_long : Bool) (g : Gathering) (h : Holdings) (s : State) → KeepsIn h s.lists.struck (on_part too_long g h s)

@@ -3,7 +3,7 @@ use Rattle.std.proofs.Common.{◌≡◌, ◌||◌, ◌↔◌, ℕ, suc, ◌+◌,
 use Rattle.std.proofs.lemmas.List.{append-nil}
 use Rattle.std.proofs.lemmas.List.Folds.{list_any-append, length-prefix_len}
 use Rattle.std.specs.List.{list_any, concat, before_first, position_or_len}
-use Rattle.uug_talk.specs.Gathering.{Kind, OfCommand, OfFile, Gathering, is_zero, is_empty, text_part, gathered, with_message}
+use Rattle.uug_talk.specs.Gathering.{Kind, OfCommand, OfFile, Gathering, is_zero, is_empty, text_part, part_of, ends, gathered, behind, with_message}
 
 one_more : (n : ℕ) → 1 + n ≡ suc n
 one_more n = omega arith
@@ -60,11 +60,19 @@ gathered_push OfCommand messages message n =
     sym (ap (list_any is_zero) (concat-push messages message) ∙ list_any-append is_zero text message ∙ ap (λ b. b || list_any is_zero message) n) in
     ap (λ z. record { kind = OfCommand; bytes = z; whole = list_any is_zero message }) bytes
     ∙ ap (λ b. record { kind = OfCommand; bytes = text_part (concat (messages ++ message ∷ [])); whole = b }) whole
-gathered_push OfFile messages message n =
+gathered_push (OfFile limit) messages message n =
     let whole : is_empty message ≡ list_any is_empty (messages ++ message ∷ []) =
     sym (list_any-append is_empty messages (message ∷ []) ∙ ap (λ b. b || (is_empty message || false)) n ∙ or_false (is_empty message)) in
-    ap (λ z. record { kind = OfFile; bytes = z; whole = is_empty message }) (sym (concat-push messages message))
-    ∙ ap (λ b. record { kind = OfFile; bytes = concat (messages ++ message ∷ []); whole = b }) whole
+    ap (λ z. record { kind = OfFile limit; bytes = z; whole = is_empty message }) (sym (concat-push messages message))
+    ∙ ap (λ b. record { kind = OfFile limit; bytes = concat (messages ++ message ∷ []); whole = b }) whole
+
+-- the same behind what is held already
+pub behind_push : (front : List ℕ) (kind : Kind) (messages : List (List ℕ)) (message : List ℕ) → (gathered kind messages).whole ≡ false
+    → behind front (gathered kind (messages ++ message ∷ [])) ≡ with_message (behind front (gathered kind messages)) message
+behind_push front kind messages message n =
+    let g : Gathering = gathered kind messages in
+    ap (behind front) (sym (gathered_push kind messages message n))
+    ∙ ap (λ z. record { kind = g.kind; bytes = z; whole = ends g.kind message }) (sym (append_assoc front g.bytes (part_of g.kind message)))
 
 -- one message more
 pub gathered_more : (g : Gathering) (messages : List (List ℕ)) (message : List ℕ) → g.whole ≡ false → g ≡ gathered g.kind messages → with_message g message ≡ gathered g.kind (messages ++ message ∷ [])

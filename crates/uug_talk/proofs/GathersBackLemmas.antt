@@ -6,34 +6,31 @@ use Rattle.std.proofs.lemmas.List.Elements.{All-weaker}
 use Rattle.std.proofs.lemmas.List.Folds.{list_any-append, list_any_none}
 use Rattle.std.specs.List.{list_any, concat}
 use Rattle.uug_talk.specs.Chunks.{IsCommandText, Measure, command_messages, last_zeros, file_messages}
-use Rattle.uug_talk.specs.Gathering.{Kind, OfCommand, OfFile, Gathering, is_zero, is_empty, text_part, part_of, ends, gathered, with_message, GathersBack}
+use Rattle.uug_talk.specs.Gathering.{Kind, OfCommand, OfFile, is_zero, is_empty, text_part, part_of, ends, gathered, behind, with_message, GathersBack}
 use Rattle.uug_talk.proofs.ChunkLemmas.{below_or_not, zeros_some, command_last, command_more, file_more}
 use Rattle.uug_talk.proofs.GatherLemmas.{before_first-append, before_first-all, gathered_push}
 
 -- One message in front of others.
-
-abbrev behind : List ℕ → Gathering → Gathering
-behind piece g = record { kind = g.kind; bytes = piece ++ g.bytes; whole = g.whole }
 
 gathered-cons : (kind : Kind) (piece : List ℕ) (messages : List (List ℕ)) → ends kind piece ≡ false → gathered kind (piece ∷ messages) ≡ behind piece (gathered kind messages)
 gathered-cons OfCommand piece messages n =
     ap (λ z. record { kind = OfCommand; bytes = z; whole = list_any is_zero (piece ++ concat messages) }) (before_first-append is_zero piece (concat messages) n)
     ∙ ap (λ b. record { kind = OfCommand; bytes = piece ++ text_part (concat messages); whole = b })
     (list_any-append is_zero piece (concat messages) ∙ ap (λ b. b || list_any is_zero (concat messages)) n)
-gathered-cons OfFile piece messages n =
-    ap (λ b. record { kind = OfFile; bytes = piece ++ concat messages; whole = b || list_any is_empty messages }) n
+gathered-cons (OfFile limit) piece messages n =
+    ap (λ b. record { kind = OfFile limit; bytes = piece ++ concat messages; whole = b || list_any is_empty messages }) n
 
 part_whole : (kind : Kind) (piece : List ℕ) → ends kind piece ≡ false → part_of kind piece ≡ piece
 part_whole OfCommand piece n = before_first-all is_zero piece n
-part_whole OfFile piece n = refl
+part_whole (OfFile limit) piece n = refl
 
 nothing_open : (kind : Kind) → (gathered kind []).whole ≡ false
 nothing_open OfCommand = refl
-nothing_open OfFile = refl
+nothing_open (OfFile limit) = refl
 
 nothing_held : (kind : Kind) → (gathered kind []).bytes ≡ []
 nothing_held OfCommand = refl
-nothing_held OfFile = refl
+nothing_held (OfFile limit) = refl
 
 append_is_nil : (xs ys : List (List ℕ)) → [] ≡ xs ++ ys → ys ≡ []
 append_is_nil [] ys e = sym e
@@ -54,7 +51,7 @@ gathers_last kind message held t p = record {
       ∙ ap (λ b. record { kind = kind; bytes = held; whole = b }) t where
         same_kind : (k : Kind) → (gathered k []).kind ≡ k
         same_kind OfCommand = refl
-        same_kind OfFile = refl
+        same_kind (OfFile limit) = refl
 
   none_before : (front rest : List (List ℕ)) → message ∷ [] ≡ front ++ rest → rest ≢ [] → (gathered kind front).whole ≡ false
   none_before [] rest e n = nothing_open kind
@@ -97,18 +94,25 @@ not_empty zero bytes s h = absurd (omega arith)
 not_empty (suc n) [] s h = absurd (omega arith)
 not_empty (suc n) (b ∷ bs) s h = refl
 
-file_up_to : (n size : ℕ) (bytes : List ℕ) → 0 < size → length bytes ≤ n → GathersBack OfFile (file_messages size bytes) bytes
-file_up_to n size [] s h = gathers_last OfFile [] [] refl refl
-file_up_to zero size (b ∷ bs) s h = absurd (omega arith)
-file_up_to (suc n) size (b ∷ bs) s h =
+file_up_to : (n size limit : ℕ) (bytes : List ℕ) → 0 < size → length bytes ≤ n → GathersBack (OfFile limit) (file_messages size bytes) bytes
+file_up_to n size limit [] s h = gathers_last (OfFile limit) [] [] refl refl
+file_up_to zero size limit (b ∷ bs) s h = absurd (omega arith)
+file_up_to (suc n) size limit (b ∷ bs) s h =
     let xs = b ∷ bs in
-    let more : GathersBack OfFile (file_messages size (drop size (b ∷ bs))) (drop size (b ∷ bs)) = file_up_to n size (drop size (b ∷ bs)) s (omega (arith, length-drop size (b ∷ bs))) in
-    subst (λ ms. GathersBack OfFile ms (b ∷ bs)) (sym (file_more size (b ∷ bs) s (omega arith)))
-    (subst (λ z. GathersBack OfFile (take size (b ∷ bs) ∷ file_messages size (drop size (b ∷ bs))) z) (take-append-drop size (b ∷ bs))
-    (gathers_more OfFile (take size (b ∷ bs)) (drop size (b ∷ bs)) (file_messages size (drop size (b ∷ bs))) (not_empty size (b ∷ bs) s (omega arith)) more))
+    let more : GathersBack (OfFile limit) (file_messages size (drop size (b ∷ bs))) (drop size (b ∷ bs)) = file_up_to n size limit (drop size (b ∷ bs)) s (omega (arith, length-drop size (b ∷ bs))) in
+    subst (λ ms. GathersBack (OfFile limit) ms (b ∷ bs)) (sym (file_more size (b ∷ bs) s (omega arith)))
+    (subst (λ z. GathersBack (OfFile limit) (take size (b ∷ bs) ∷ file_messages size (drop size (b ∷ bs))) z) (take-append-drop size (b ∷ bs))
+    (gathers_more (OfFile limit) (take size (b ∷ bs)) (drop size (b ∷ bs)) (file_messages size (drop size (b ∷ bs))) (not_empty size (b ∷ bs) s (omega arith)) more))
 
-pub file_back : (size : ℕ) (bytes : List ℕ) → 0 < size → GathersBack OfFile (file_messages size bytes) bytes
-file_back size bytes s = file_up_to (length bytes) size bytes s (omega arith)
+pub file_back : (size limit : ℕ) (bytes : List ℕ) → 0 < size → GathersBack (OfFile limit) (file_messages size bytes) bytes
+file_back size limit bytes s = file_up_to (length bytes) size limit bytes s (omega arith)
+
+-- where its front is held, the messages of the rest bring the file
+pub file_behind : (size limit offset : ℕ) (bytes : List ℕ) → 0 < size
+    → behind (take offset bytes) (gathered (OfFile limit) (file_messages size (drop offset bytes))) ≡ record { kind = OfFile limit; bytes = bytes; whole = true }
+file_behind size limit offset bytes s =
+    ap (behind (take offset bytes)) (file_back size limit (drop offset bytes) s).whole
+    ∙ ap (λ z. record { kind = OfFile limit; bytes = z; whole = true }) (take-append-drop offset bytes)
 
 -- Commands.
 

@@ -218,8 +218,8 @@ all_texts = record { two = refl; begun = refl; too_long = refl; none = refl }
 
 -- what is gathered
 pub record AreGathered : Type 0 where
-  pub short_message : (gathered OfFile ((1 ∷ 2 ∷ []) ∷ (3 ∷ []) ∷ [])).whole ≡ false
-  pub empty_message : gathered OfFile ((1 ∷ 2 ∷ []) ∷ [] ∷ []) ≡ record { kind = OfFile; bytes = 1 ∷ 2 ∷ []; whole = true }
+  pub short_message : (gathered (OfFile 9) ((1 ∷ 2 ∷ []) ∷ (3 ∷ []) ∷ [])).whole ≡ false
+  pub empty_message : gathered (OfFile 9) ((1 ∷ 2 ∷ []) ∷ [] ∷ []) ≡ record { kind = OfFile 9; bytes = 1 ∷ 2 ∷ []; whole = true }
   pub behind_a_zero : gathered OfCommand ((72 ∷ []) ∷ (89 ∷ 0 ∷ 7 ∷ []) ∷ []) ≡ record { kind = OfCommand; bytes = codes "HY"; whole = true }
 
 pub gathered_messages : AreGathered

@@ -6,4 +6,4 @@ use Rattle.uug_talk.specs.Gathering.{Gathering, OfCommand, OfFile}
 
 abbrev pub gathering_of : {A : Type 0} → Held A → Bool → Gathering
 gathering_of (Command text) whole = record { kind = OfCommand; bytes = text.items; whole = whole }
-gathering_of (File bytes) whole = record { kind = OfFile; bytes = bytes.items; whole = whole }
+gathering_of (File bytes limit) whole = record { kind = OfFile limit; bytes = bytes.items; whole = whole }

@@ -7,7 +7,6 @@ use Rattle.uug_talk.specs.declared.answer.Answer.{Answer}
 use Rattle.uug_talk.specs.declared.answer.Answer.TheVariants.{GiveYes}
 use Rattle.uug_talk.specs.declared.error.BadText.{BadText}
 use Rattle.uug_talk.specs.declared.error.BadText.TheVariants as fault
-use Rattle.uug_talk.specs.Answer.{answer_of}
 use Rattle.uug_talk.specs.Mode.{mode_read}
 use Rattle.uug_talk.specs.Refusal.{◌>>=◌}
 use Rattle.uug_talk.specs.Words.{words}

@@ -1,4 +1,4 @@
-ghost use Rattle.std.specs.Prelude.{◌≡◌, ◌≢◌, ◌+◌, ◌<◌, ◌≤◌, ◌↔◌, ◌⊎◌, ℕ, List, [], ◌∷◌, ◌++◌, length, true, false, IsTrue, IfOk, IfErr, OnOk, OnErr, IsErrOf, MatchResult};
+ghost use Rattle.std.specs.Prelude.{◌≡◌, ◌≢◌, ◌+◌, ◌<◌, ◌≤◌, ◌↔◌, ◌⊎◌, ℕ, List, [], ◌∷◌, ◌++◌, length, true, false, IsTrue, IfOk, IfErr, OnOk, OnErr, IsErrOf, MatchOption, MatchResult};
 ghost use Rattle.std.specs.List.{list_any, position_or_len};
 ghost use Rattle.uug_talk.specs.Gathering.{Gathering, OfCommand, OfFile, gathered, with_message, limit_of, part_of, ends, text_part, is_zero, is_empty};
 
@@ -8,8 +8,11 @@ use arrayvec::ArrayVec;
 use std::alloc::Allocator;
 use std::marker::Model;
 
-/// The longest file, in bytes.
+/// The longest file, in bytes, where no other limit is said.
 pub const FILE_MAX: usize = 1_048_576;
+
+/// The greatest limit of a file, in bytes.
+pub const FILE_LIMIT_MAX: usize = 268_435_456;
 
 /// How far a command or a file has come.
 #[derive(Clone, Copy, Debug, PartialEq, Eq)]
@@ -23,7 +26,8 @@ pub enum Progress {
 #[derive(Drop)]
 enum Held<A: Allocator> {
     Command(ArrayVec<u8, COMMAND_MAX>),
-    File(Vec<u8, A>),
+    // The bytes, and how many they may be at most.
+    File(Vec<u8, A>, usize),
 }
 
 /// Gathers a command or a file from its messages. A command is whole with its first zero byte, a file
@@ -47,10 +51,10 @@ impl<A: Allocator> Model for Gather<A> {
 impl<A: Allocator + Copy> Gather<A> {
     /// Nothing of a file yet. Its bytes will be kept in memory of `alloc`.
     pub fn file(alloc: A) -> Self
-        ensures { result ≡ gathered OfFile [] }
+        ensures { result ≡ gathered (OfFile FILE_MAX) [] }
     {
         Gather {
-            held: Held::File(Vec::new(alloc)),
+            held: Held::File(Vec::new(alloc), FILE_MAX),
             whole: false,
         }
     }
@@ -67,6 +71,31 @@ impl<A: Allocator> Gather<A> {
         }
     }
 
+    /// Begins with the bytes of a file that are held already, of which there may be `limit` in all: 1 to
+    /// `FILE_LIMIT_MAX`.
+    pub fn file_from(front: Vec<u8, A>, limit: usize) -> Self
+        requires some { 0 < limit }
+        requires fits { limit ≤ FILE_LIMIT_MAX }
+        ensures { result
+            ≡ record { kind = OfFile limit; bytes = front.items; whole = false } }
+    {
+        Gather {
+            held: Held::File(front, limit),
+            whole: false,
+        }
+    }
+
+    /// Takes out the bytes of a file, or returns `None` where a command was gathered.
+    pub fn into_file(self) -> Option<Vec<u8, A>>
+        ensures { MatchOption result (self.kind ≡ OfCommand)
+            (λ bytes. (self.kind ≢ OfCommand) × (bytes.items ≡ self.bytes)) }
+    {
+        match self.held {
+            Held::Command(_) => None,
+            Held::File(bytes, _) => Some(bytes),
+        }
+    }
+
     /// Whether the command or file is whole, so that no further message may be pushed.
     pub fn is_whole(&self) -> bool
         ensures { result ≡ self.now.whole }
@@ -80,7 +109,7 @@ impl<A: Allocator> Gather<A> {
     {
         match &self.held {
             Held::Command(text) => text.as_slice(),
-            Held::File(bytes) => bytes.as_slice(),
+            Held::File(bytes, _) => bytes.as_slice(),
         }
     }
 
@@ -101,7 +130,7 @@ impl<A: Allocator> Gather<A> {
 
         // Memory is asked for a file's message alone, and for no empty one.
         ensures memory { IsErrOf result BadText.Memory
-            → (self.old.kind ≡ OfFile) × (message.now ≢ []) }
+            → (self.old.kind ≢ OfCommand) × (message.now ≢ []) }
         ensures err { OnErr result (self.new ≡ self.old) }
 
         // What is held is what the messages that were taken say together.
@@ -123,12 +152,12 @@ impl<A: Allocator> Gather<A> {
         ensures refusals { IfErr result (λ fault. (fault ≡ BadText.TooLong)
             ⊎ (fault ≡ BadText.Memory)) }
         ensures memory { IsErrOf result BadText.Memory
-            → (self.old.kind ≡ OfFile) × (message.now ≢ []) }
+            → (self.old.kind ≢ OfCommand) × (message.now ≢ []) }
         ensures err { OnErr result (self.new ≡ self.old) }
     {
         let progress = match &mut self.held {
             Held::Command(text) => push_text(text, message)?,
-            Held::File(bytes) => push_bytes(bytes, message)?,
+            Held::File(bytes, limit) => push_bytes(bytes, *limit, message)?,
         };
         self.whole = progress == Progress::Whole;
         Ok(progress)
@@ -155,18 +184,22 @@ fn push_text(text: &mut ArrayVec<u8, COMMAND_MAX>, message: &[u8]) -> Result<Pro
     }
 }
 
-fn push_bytes<A: Allocator>(bytes: &mut Vec<u8, A>, message: &[u8]) -> Result<Progress, BadText>
+fn push_bytes<A: Allocator>(
+    bytes: &mut Vec<u8, A>,
+    limit: usize,
+    message: &[u8],
+) -> Result<Progress, BadText>
     ensures ok { OnOk result (bytes.new.items ≡ bytes.old.items ++ message.now) }
     ensures whole { IfOk result (λ progress.
         (progress ≡ Progress.Whole) ↔ (length message.now ≡ 0)) }
     ensures too_long { IsErrOf result BadText.TooLong
-        ↔ (FILE_MAX < length bytes.old.items + length message.now) }
+        ↔ (limit < length bytes.old.items + length message.now) }
     ensures refusals { IfErr result (λ fault. (fault ≡ BadText.TooLong)
         ⊎ (fault ≡ BadText.Memory)) }
     ensures memory { IsErrOf result BadText.Memory → 0 < length message.now }
     ensures err { OnErr result (bytes.new.items ≡ bytes.old.items) }
 {
-    if bytes.len().saturating_add(message.len()) > FILE_MAX {
+    if bytes.len() + message.len() > limit {
         return Err(BadText::TooLong);
     }
     if message.is_empty() {

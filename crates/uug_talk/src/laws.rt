@@ -3,7 +3,7 @@ ghost use Rattle.std.specs.Prelude.{◌≡◌, ◌+◌, ◌<◌, ◌≤◌, ℕ,
 ghost use Rattle.uug_talk.specs.declared.answer.Answer.{Answer};
 ghost use Rattle.uug_talk.specs.declared.answer.TheConstants.{DEFAULT_MODE};
 ghost use Rattle.uug_talk.specs.declared.chunks.TheConstants.{MESSAGE_MAX};
-ghost use Rattle.uug_talk.specs.declared.gather.TheConstants.{FILE_MAX};
+ghost use Rattle.uug_talk.specs.declared.gather.TheConstants.{FILE_MAX, FILE_LIMIT_MAX};
 ghost use Rattle.uug_talk.specs.declared.hail.TheConstants.{HAIL_MAX, TEXT_START};
 ghost use Rattle.uug_talk.specs.declared.lines.TheConstants.{LINE_MAX};
 ghost use Rattle.uug_talk.specs.declared.mode.TheConstants.{MODE_MAX, MODE_DIGITS_MAX};
@@ -12,14 +12,14 @@ ghost use Rattle.uug_talk.specs.declared.words.TheConstants.{COMMAND_MAX};
 ghost use Rattle.uug_talk.specs.declared.order.Order.{Order};
 ghost use Rattle.uug_talk.specs.Answer.{IsWritten, answer_of, answer_text};
 ghost use Rattle.uug_talk.specs.Chunks.{AreShortOf, IsCommandText, Measure, command_messages, cut, file_messages, last_zeros, up_to_multiple};
-ghost use Rattle.uug_talk.specs.Gathering.{Kind, OfCommand, OfFile, GathersBack, gathered, with_message};
+ghost use Rattle.uug_talk.specs.Gathering.{Kind, OfCommand, OfFile, GathersBack, behind, gathered, with_message};
 ghost use Rattle.uug_talk.specs.Order.{HasMode, HasNames, order_of, order_text};
 ghost use Rattle.uug_talk.specs.HailCalls.{HailCall, Lead, FindsTooLong, all_used, all_shown};
 ghost use Rattle.uug_talk.specs.StreamTexts.{StreamTexts, HasTexts, Rest, TooLong, texts_of, continued, with_text, no_text};
 ghost use Rattle.uug_talk.specs.Texts.{IsFirstText, IsTooLong, Heard, Passing, Whole, Holds, is_whole, left_to_hear, used_before, hear};
 
-/// Each limit is this number: of the bytes of a name, a command, a handshake text, a message, a file and a line; of
-/// a mode, of the octal digits in which one is read, and the mode of a file that is given without one. So is the byte
+/// Each limit is this number: of the bytes of a name, a command, a handshake text, a message, a file and a line; of the
+/// limit of a file; of a mode, of the octal digits in which one is read, and the mode of a file that is given without one. So is the byte
 /// with which a handshake text begins.
 pub fn limits()
     ensures name { NAME_MAX ≡ 200 }
@@ -27,6 +27,7 @@ pub fn limits()
     ensures hail { HAIL_MAX ≡ 256 }
     ensures message { MESSAGE_MAX ≡ 4096 }
     ensures file { FILE_MAX ≡ 1048576 }
+    ensures file_limit { FILE_LIMIT_MAX ≡ 268435456 }
     ensures mode { MODE_MAX ≡ 4095 }
     ensures mode_digits { MODE_DIGITS_MAX ≡ 7 }
     ensures default_mode { DEFAULT_MODE ≡ 438 }
@@ -111,8 +112,20 @@ pub fn command_is_gathered()
 
 /// A file's messages are whole with the last one, hold the file then, and pass no limit before.
 pub fn file_is_gathered()
-    ensures { (size : ℕ) (bytes : List ℕ) → 0 < size
-        → GathersBack OfFile (file_messages size bytes) bytes }
+    ensures { (size limit : ℕ) (bytes : List ℕ) → 0 < size
+        → GathersBack (OfFile limit) (file_messages size bytes) bytes }
+{}
+
+/// What is gathered behind held bytes goes on message by message. Where these are a front of a file, the messages of
+/// the rest bring the file.
+pub fn file_goes_on_behind_its_front()
+    ensures next { (front : List ℕ) (kind : Kind) (messages : List (List ℕ)) (message : List ℕ)
+        → (gathered kind messages).whole ≡ false
+        → behind front (gathered kind (messages ++ message ∷ []))
+        ≡ with_message (behind front (gathered kind messages)) message }
+    ensures whole { (size limit offset : ℕ) (bytes : List ℕ) → 0 < size
+        → behind (take offset bytes) (gathered (OfFile limit) (file_messages size (drop offset bytes)))
+        ≡ record { kind = OfFile limit; bytes = bytes; whole = true } }
 {}
 
 /// A stream has one first text, which ends at one place, or one place at which it is too long.

@@ -21,7 +21,7 @@ pub use answer::{Answer, DEFAULT_MODE, read_answer, write_answer};
 pub use call::{NUMBER_DIGITS_MAX, NUMBER_MAX, caller_number, write_call};
 pub use chunks::{Chunks, MESSAGE_MAX, Message, is_command_text};
 pub use error::BadText;
-pub use gather::{FILE_MAX, Gather, Progress};
+pub use gather::{FILE_LIMIT_MAX, FILE_MAX, Gather, Progress};
 pub use hail::{
     HAIL_MAX, HAIL_WRITTEN_MAX, Hail, TEXT_START, TextTooLong, is_hail_text, write_hail,
 };

@@ -3,7 +3,10 @@
 use crate::assertions::{assert_same, assert_so};
 use std::alloc::AllocGlobal;
 use std::process::Abort;
-use uug_digest::{FileDigest, give_telling, order_telling, told_by_answer, told_by_order};
+use uug_digest::{
+    FileDigest, give_telling, order_telling, position_told, told_by_answer, told_by_order,
+    write_consent,
+};
 use uug_talk::{Name, Order};
 
 /// Commands that tell a size and the digest of the file `abc`, or of none, and whether that is so.
@@ -83,6 +86,38 @@ fn write_and_read(rt: &impl Abort) {
 #[test]
 fn what_is_told_is_read(rt: HostRuntime) {
     write_and_read(&rt);
+}
+
+/// Positions, and the answers that ask for a file from there on.
+const CONSENTS: &[(u32, &[u8])] = &[
+    (0, b"SY"),
+    (1, b"SY 0x00000001"),
+    (256, b"SY 0x00000100"),
+    (4_294_967_295, b"SY 0xffffffff"),
+];
+
+/// Answers that ask for a file from its first byte on: none of them tells a position.
+const UNPLACED: &[&[u8]] = &[
+    b"SY 256",
+    b"SY 0x",
+    b"SY 0x100000000",
+    b"SY +0x100",
+    b"SY - 0x100",
+    b"SN2 0x100",
+    b"RY 0x100",
+    b"",
+];
+
+#[test]
+fn an_answer_tells_from_where_on_a_file_is_sent(rt: HostRuntime) {
+    for (position, text) in CONSENTS {
+        assert_same(&rt, write_consent(*position).as_slice(), *text);
+        assert_same(&rt, position_told(text), *position);
+    }
+    assert_same(&rt, position_told(b" SYx  0x5dC more"), 1_500);
+    for text in UNPLACED {
+        assert_same(&rt, (*text, position_told(text)), (*text, 0));
+    }
 }
 
 /// The largest file, all of whose bytes are `a`.

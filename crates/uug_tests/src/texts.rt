@@ -168,6 +168,50 @@ fn a_file_has_at_most_1048576_bytes(rt: HostRuntime) {
     assert_so(&rt, file.bytes().iter().all(|byte| *byte == b'f'));
 }
 
+/// Begins with a front of a file of `len` bytes, of which there may be `limit`, gathers the rest and says how many bytes
+/// there are, or why not.
+fn goes_on(
+    rt: &impl Abort,
+    alloc: Global,
+    len: usize,
+    front: usize,
+    limit: usize,
+) -> Result<usize, BadText> {
+    let bytes = vec![in alloc; b'f'; len].expect(rt, "memory");
+    let held = vec![in alloc; b'f'; front].expect(rt, "memory");
+    let mut file = Gather::file_from(held, limit);
+    for message in Chunks::file(&bytes[front..], 4096) {
+        if let Some(Err(fault)) = push(&mut file, message.as_slice()) {
+            return Err(fault);
+        }
+    }
+    assert_so(rt, file.is_whole());
+    let Some(whole) = file.into_file() else {
+        panic!(rt; "a command");
+    };
+    assert_so(rt, whole.as_slice() == bytes.as_slice());
+    Ok(whole.len())
+}
+
+#[test]
+fn a_file_goes_on_behind_held_bytes_up_to_its_limit(rt: HostRuntime) {
+    for limit in [1, 100, 1_048_576] {
+        for front in [0, 1] {
+            for len in [limit - 1, limit] {
+                let front = front.min(len);
+                assert_same(&rt, goes_on(&rt, rt.alloc(), len, front, limit), Ok(len));
+            }
+            let beyond = goes_on(&rt, rt.alloc(), limit + 1, front, limit);
+            assert_same(&rt, beyond, Err(BadText::TooLong));
+        }
+    }
+}
+
+#[test]
+fn a_command_is_no_file(rt: HostRuntime) {
+    assert_so(&rt, Gather::<Global>::command().into_file().is_none());
+}
+
 /// A text as long as a command may be, in messages of 32 bytes, and the message behind them.
 fn longest_and(message: &[u8]) -> Option<Result<Progress, BadText>> {
     let mut command = Gather::<Global>::command();
