@@ -6,51 +6,51 @@ ghost use Rattle.uug_conversation.specs.Machine.{comes_early, kind_awaited};
 use uug_digest::FileDigest;
 use uug_talk::Name;
 
-/// What an end awaits of the other in a conversation.
+/// The item that an end awaits from the other in a conversation.
 #[derive(Clone, Copy, Debug, PartialEq, Eq)]
 pub enum Awaits {
     /// The master's next command.
     Order,
-    /// The file that the master sends: it was told SY.
+    /// The file that the master sends. This end has answered SY.
     SentFile {
         /// The file's name here.
         target: Name,
         /// The file's mode.
         mode: u16,
-        /// What was told of it.
+        /// The digest that was announced for it.
         told: Option<FileDigest>,
     },
-    /// What became of the file that was given to the master.
+    /// The result for the file that was given to the master.
     GivenFileDone,
-    /// The master's HY: it was told HY.
+    /// The master's HY. This end has answered HY.
     LastHangUp,
     /// The answer to S.
     SendAnswer,
-    /// What became of the file that was sent to the slave.
+    /// The result for the file that was sent to the slave.
     SentFileDone,
     /// The answer to R.
     RequestAnswer,
-    /// The file that was asked for: the slave has said RY.
+    /// The requested file. The slave has answered RY.
     AskedFile {
         /// The file's mode.
         mode: u16,
-        /// What was told of it.
+        /// The digest that was announced for it.
         told: Option<FileDigest>,
     },
-    /// The rest of a file that is past the limit, sent by the master. Nothing of it is kept.
+    /// The rest of a file over the limit, sent by the master. None of it is kept.
     DroppedSentFile,
-    /// The rest of a file that is past the limit, which was asked for. Nothing of it is kept.
+    /// The rest of a requested file over the limit. None of it is kept.
     DroppedAskedFile,
     /// The answer to H.
     HangUpAnswer,
     /// Nothing: the conversation is over.
     NothingMore,
-    /// Nothing: what came fitted no turn.
+    /// Nothing: a message fitted no turn.
     Bad,
 }
 
 impl Awaits {
-    /// Whether a file is awaited, and no text.
+    /// Returns whether a file, not a text, is awaited.
     pub(crate) fn is_file(&self) -> bool
         ensures { IsTrue result ↔ (kind_awaited self.now ≡ OfFile FILE_MAX) }
     {
@@ -63,7 +63,8 @@ impl Awaits {
         )
     }
 
-    /// Whether a message comes before the file was sent whole of which it should say what became.
+    /// Returns whether a message comes too early: it should give a file's result, and that file has not been sent
+    /// whole. `none_waits` says whether everything was sent.
     pub(crate) fn comes_early(&self, none_waits: bool) -> bool
         ensures { result ≡ comes_early self.now none_waits }
     {

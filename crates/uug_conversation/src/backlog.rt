@@ -5,12 +5,12 @@ use crate::job::Job;
 use std::alloc::{AllocError, Allocator};
 use std::marker::Model;
 
-/// Jobs in order, of which any may be taken out. Only those in front of it are moved then, since a queue takes out jobs
-/// near its front, with up to `JOBS_MAX` behind them.
+/// Jobs in order. Any of them may be taken out. Removal moves only the jobs in front, because a queue removes jobs
+/// near its front, with up to `JOBS_MAX` after them.
 #[derive(Drop)]
 pub(crate) struct Backlog<A: Allocator> {
     jobs: Vec<Job, A>,
-    /// So many in front are gone. They lie there until `close_up`.
+    /// The number of removed jobs at the front. They remain there until `close_up`.
     gone: usize,
 }
 
@@ -27,7 +27,7 @@ impl<A: Allocator> Model for Backlog<A> {
 }
 
 impl<A: Allocator> Backlog<A> {
-    /// No job. It takes no memory.
+    /// Makes an empty list. It takes no memory.
     pub(crate) fn new(alloc: A) -> Self
         ensures { result.jobs ≡ [] }
     {
@@ -37,21 +37,21 @@ impl<A: Allocator> Backlog<A> {
         }
     }
 
-    /// How many jobs there are.
+    /// Returns the number of jobs.
     pub(crate) fn len(&self) -> usize
         ensures { result ≡ length self.now.jobs }
     {
         self.jobs.len() - self.gone
     }
 
-    /// All of them, in order.
+    /// Returns all jobs, in order.
     pub(crate) fn as_slice(&self) -> &[Job]
         ensures { result.now ≡ self.now.jobs }
     {
         &self.jobs[self.gone..]
     }
 
-    /// The job that so many stand in front of, if there is one.
+    /// Returns the job at index `i`, if there is one.
     pub(crate) fn get(&self, i: usize) -> Option<&Job>
         ensures { MatchOption result (drop i self.now.jobs ≡ [])
             (λ job. slice_get (drop i self.now.jobs) 0 ≡ Some job.now) }
@@ -59,7 +59,7 @@ impl<A: Allocator> Backlog<A> {
         self.as_slice().get(i)
     }
 
-    /// Takes the job out that so many stand in front of.
+    /// Removes and returns the job at index `i`.
     pub(crate) fn remove(&mut self, i: usize) -> Job
         requires { i < length self.old.jobs }
         ensures front { take i self.new.jobs ≡ take i self.old.jobs }
@@ -74,7 +74,7 @@ impl<A: Allocator> Backlog<A> {
         job
     }
 
-    /// Room for one more.
+    /// Makes room for one more job.
     pub(crate) fn reserve(&mut self) -> Result<(), AllocError>
         ensures jobs { self.new.jobs ≡ self.old.jobs }
         ensures room { OnOk result (0 < self.new.room) }
@@ -82,7 +82,7 @@ impl<A: Allocator> Backlog<A> {
         self.jobs.reserve(1)
     }
 
-    /// Adds a job behind all others, where there is room for one.
+    /// Adds a job at the end, in room that was reserved.
     pub(crate) fn push_reserved(&mut self, job: Job)
         requires { 0 < self.old.room }
         ensures { self.new.jobs ≡ self.old.jobs ++ job ∷ [] }
@@ -90,7 +90,7 @@ impl<A: Allocator> Backlog<A> {
         self.jobs.push_reserved(job);
     }
 
-    /// Gives the places of those that are gone free again.
+    /// Frees the places of the removed jobs.
     pub(crate) fn close_up(&mut self)
         ensures { self.new.jobs ≡ self.old.jobs }
     {

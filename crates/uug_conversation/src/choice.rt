@@ -13,7 +13,7 @@ use std::alloc::Allocator;
 use uug_digest::FileDigest;
 use uug_talk::{FILE_MAX, Name, Order};
 
-/// The file of this name that may be sent, if there is one.
+/// Returns the file of this name that may be sent, if there is one.
 pub(crate) fn to_give<'a, S: Spool>(spool: &'a S, name: &Name) -> Option<FileView<'a>>
     ensures file { shown_file result ≡ to_give (S.holdings spool.now) name.now }
     ensures limit { IfSome result (λ file. length file.bytes.now ≤ FILE_MAX) }
@@ -26,7 +26,7 @@ pub(crate) fn to_give<'a, S: Spool>(spool: &'a S, name: &Name) -> Option<FileVie
     }
 }
 
-/// The name by which the file of a Send job is fetched.
+/// Returns the name by which the file of a Send job is fetched.
 pub(crate) fn fetched_by<'a>(source: &'a Name, temp: &'a Option<Name>) -> &'a Name
     ensures { result.now ≡ fetched_by source.now temp.now }
 {
@@ -36,7 +36,7 @@ pub(crate) fn fetched_by<'a>(source: &'a Name, temp: &'a Option<Name>) -> &'a Na
     }
 }
 
-/// What is told of the file of this name, where this end tells digests.
+/// Returns the digest to announce for the file of this name. Returns none if this end announces no digests.
 pub(crate) fn told_of<S: Spool>(spool: &S, name: &Name) -> Option<FileDigest>
     ensures { result ≡ told_of (S.holdings spool.now).digests
         (to_give (S.holdings spool.now) name.now) }
@@ -48,7 +48,7 @@ pub(crate) fn told_of<S: Spool>(spool: &S, name: &Name) -> Option<FileDigest>
     Some(FileDigest::of(file.bytes))
 }
 
-/// What is told with a command: of the file that it sends.
+/// Returns the digest to announce with a command: that of the file it sends.
 pub(crate) fn told_with<S: Spool>(spool: &S, order: &Order) -> Option<FileDigest>
     ensures { result ≡ told_with (S.holdings spool.now) order.now }
 {
@@ -58,7 +58,7 @@ pub(crate) fn told_with<S: Spool>(spool: &S, order: &Order) -> Option<FileDigest
     }
 }
 
-/// The command for a job, if it can be offered.
+/// Returns the command for a job, if it can be offered.
 fn offer<S: Spool>(job: &Job, spool: &S) -> Option<Order>
     ensures { result ≡ offer (S.holdings spool.now) job.now }
 {
@@ -90,8 +90,7 @@ fn offer<S: Spool>(job: &Job, spool: &S) -> Option<Order>
     }
 }
 
-/// Chooses the next job: those in front that can't be offered fail, and the command for the one behind them is the
-/// answer, if there is one.
+/// Chooses the next job and returns its command, if there is one. Jobs before it that can't be offered fail.
 pub(crate) fn choose<A: Allocator, S: Spool>(queue: &mut Queue<A>, spool: &S) -> Option<Order>
     ensures next { result ≡ (choice (S.holdings spool.now) queue.old.ahead).next }
     ensures lists { queue.new

@@ -1,4 +1,4 @@
-//! Laws of what a conversation is, in the terms of those who hold it. The functions do nothing.
+//! Laws that say what a conversation is, in its users' terms. The functions do nothing.
 ghost use Rattle.std.specs.Prelude.{◌≡◌, ℕ, List, [], ◌∷◌, ◌++◌, All};
 ghost use Rattle.uug_packet.specs.Bytes.{AreBytes};
 ghost use Rattle.uug_conversation.specs.Alternation.{Alternate, BeginsWithCommand};
@@ -19,8 +19,8 @@ ghost use Rattle.uug_conversation.specs.View.{conversation_view, lists_after, ow
 ghost use Rattle.uug_conversation.specs.declared.job.Job.{Job};
 ghost use Rattle.uug_talk.specs.declared.order.Order.TheVariants.{HangUp};
 
-/// No job is offered twice: each end asks for each of its jobs that can be offered, in their order, and then hangs up; a
-/// called end with no such job is never asked to.
+/// States that no job is offered twice. Each end asks for each of its jobs that can be offered, in their order, and
+/// then hangs up. A called end with no such job is never asked to hang up.
 pub fn each_job_is_offered_once()
     ensures caller { (a b : Party)
         → commands_of Caller (conversation a b) ≡ offered a.holdings a.jobs ++ HangUp ∷ [] }
@@ -31,27 +31,28 @@ pub fn each_job_is_offered_once()
         → (choice h jobs).next ≡ first_of (offered h jobs) }
 {}
 
-/// The roles are exchanged, by HN, exactly where the called end has a job to offer; in the end both agree to hang up.
+/// States that the roles are exchanged, by HN, exactly if the called end has a job to offer. In the end both agree to
+/// hang up.
 pub fn roles_are_exchanged_for_a_job()
     ensures { (a b : Party)
         → hang_up_answers (conversation a b) ≡ hanging_up (offered b.holdings b.jobs) }
 {}
 
-/// The caller speaks first. Then the two take turns, but that a file follows its RY, and a command the same end's CY,
-/// CN5 or HN.
+/// States that the caller speaks first, and that the two then take turns. There are two exceptions: a file follows its
+/// RY, and a command follows the same end's CY, CN5 or HN.
 pub fn speakers_alternate()
     ensures first { (a b : Party) → BeginsWithCommand Caller (conversation a b) }
     ensures then { (a b : Party) → Alternate (conversation a b) }
 {}
 
-/// States that what is kept is the file that was said in the turn, which a job asked for: under the name where the job lands at its keeper,
-/// and with the mode and bytes that the giver's holdings have.
+/// States that each kept file was said in its turn, and that a job asked for it. It is kept under the name where the
+/// job lands at its keeper, with the mode and bytes in the giver's holdings.
 pub fn entries_are_asked_for()
     ensures { (a b : Party) → EachTurn (KeepsWell a b) (conversation a b) }
 {}
 
-/// Each job of an end is in exactly one list, as often as it was given, and each list has its jobs in the order in which
-/// they were given.
+/// States that each job of an end is in exactly one list, as often as it was given. Each list has its jobs in the
+/// order in which they were given.
 pub fn jobs_are_in_one_list()
     // whatever the other end says, and in whatever order the end sends and takes; those that it has brought are of them
     ensures always { (me : Side) (p : Party) (struck failed : List Job) (kept : List Kept) (acts : List Act)
@@ -66,7 +67,7 @@ pub fn jobs_are_in_one_list()
         → All HasNames pending × All HasNames struck × All HasNames failed }
 {}
 
-/// What the two ends say is bytes, where the names of their jobs are names and their files hold bytes.
+/// States that the two ends say only bytes, if the names of their jobs are names and their files hold bytes.
 pub fn messages_are_bytes()
     ensures { (me : Side) (a b : Party) → All HasNames a.jobs → All HasNames b.jobs
         → HoldsBytes a.holdings

@@ -23,19 +23,19 @@ use std::alloc::{AllocError, Allocator};
 use std::marker::Model;
 use uug_talk::{BadText, Gather, MESSAGE_MAX, Message, Progress};
 
-/// One end's part of the conversation: its jobs, what it awaits, what has come of it, and what it has still to say. The
-/// files are a spool's, which stands beside it.
+/// One end's part of the conversation: its jobs, the awaited item, its part received until now, and what is still to
+/// be said. The files belong to a separate spool.
 #[derive(Drop)]
 pub struct Dialogue<A: Allocator> {
     queue: Queue<A>,
     awaits: Awaits,
-    /// The text or file that comes.
+    /// The incoming text or file.
     gather: Gather<A>,
-    /// Whether the link has come up in this session.
+    /// True once the link is up in this session.
     opened: bool,
-    /// The size of messages, once the link is up.
+    /// The size of messages in bytes, once the link is up.
     size: usize,
-    /// Whether the last message of a command ends with its zero byte, once the link is up.
+    /// True if the last message of a command ends with its zero byte, once the link is up.
     short: bool,
     outgoing: Outgoing<A>,
     alloc: A,
@@ -62,7 +62,7 @@ impl<A: Allocator> Model for Dialogue<A> {
 }
 
 impl<A: Allocator + Copy> Dialogue<A> {
-    /// Before the link is up, with every pending job ahead. It takes no memory.
+    /// Makes the dialogue before the link is up, with every pending job ahead. It takes no memory.
     pub fn new(alloc: A, mut queue: Queue<A>) -> Self
         ensures machine { result.machine
             ≡ between (at_start (pending queue) queue.struck queue.failed) Awaits.Order }
@@ -84,7 +84,7 @@ impl<A: Allocator + Copy> Dialogue<A> {
         }
     }
 
-    /// A session starts: what was left of the last one is dropped, and every pending job is ahead.
+    /// Starts a session: drops what was left of the last one, and puts every pending job ahead.
     pub fn restart(&mut self)
         ensures machine { self.new.machine ≡ between (at_start (pending self.old.machine.lists)
             self.old.machine.lists.struck self.old.machine.lists.failed) Awaits.Order }
@@ -102,7 +102,7 @@ impl<A: Allocator + Copy> Dialogue<A> {
         self.outgoing.clear();
     }
 
-    /// Makes room for all that one message can bring to be said. All else stays.
+    /// Makes room for everything that one message can cause to be said. All else stays as it was.
     pub fn reserve(&mut self) -> Result<(), AllocError>
         ensures opened { self.new.opened ≡ self.old.opened }
         ensures machine { self.new.machine ≡ self.old.machine }
@@ -114,8 +114,8 @@ impl<A: Allocator + Copy> Dialogue<A> {
         self.outgoing.reserve()
     }
 
-    /// The link has come up, and messages have at most this size. Where `short` is set, the last one of a command or an
-    /// answer ends with its zero byte.
+    /// Opens the conversation after the link has come up. A message has at most `size` bytes. If `short` is set, the
+    /// last message of a command or an answer ends with its zero byte.
     // Once a session: apart, so that a packet makes no room for what this brings to be said.
     #[inline(never)]
     pub fn open<S: Spool>(&mut self, side: Side, spool: &S, size: usize, short: bool)
@@ -136,8 +136,8 @@ impl<A: Allocator + Copy> Dialogue<A> {
         self.outgoing.say(reaction.says);
     }
 
-    /// Takes the other end's next message. `Memory` and `Device` leave all as it was, and are the spool's where a file is
-    /// to be kept; `Device` comes there alone.
+    /// Takes the other end's next message. `Memory` and `Device` leave everything as it was. They are the spool's if a
+    /// file is to be kept. `Device` occurs only then.
     pub fn take<S: Spool>(&mut self, spool: &mut S, message: &[u8]) -> Result<(), FileFault>
         requires room { SAYINGS_MAX ≤ self.old.outgoing.room }
         requires opened { self.old.opened ≡ true }
@@ -160,8 +160,8 @@ impl<A: Allocator + Copy> Dialogue<A> {
         self.take_and_say(spool, message)
     }
 
-    /// Takes a part of a file. Nothing is said to it, so no reaction is made: that has room for two commands, and takes
-    /// longer to make than the part to take.
+    /// Takes a part of a file. Nothing is said in reply, so this makes no reaction. A reaction has room for two
+    /// commands, and takes longer to make than the part takes.
     fn take_part<S: Spool>(&mut self, spool: &S, message: &[u8]) -> Result<(), FileFault>
         requires opened { self.old.opened ≡ true }
         requires file { kind_awaited self.old.machine.awaits ≡ OfFile FILE_MAX }
@@ -182,7 +182,7 @@ impl<A: Allocator + Copy> Dialogue<A> {
         }
     }
 
-    /// The file that comes is past its limit.
+    /// Handles a file that has passed its limit.
     #[inline(never)]
     fn pass_limit<S: Spool>(&mut self, spool: &S)
         ensures machine { on_past_limit (S.holdings spool.now).lenient
@@ -196,7 +196,8 @@ impl<A: Allocator + Copy> Dialogue<A> {
         self.gather = gather_for(&self.awaits, self.alloc);
     }
 
-    /// Takes a message to which something may be said. What it may bring is kept out of the way of the parts of a file.
+    /// Takes a message that may have a reply. This is a separate call, to keep the reply's memory away from the parts
+    /// of a file.
     #[inline(never)]
     fn take_and_say<S: Spool>(&mut self, spool: &mut S, message: &[u8]) -> Result<(), FileFault>
         requires room { SAYINGS_MAX ≤ self.old.outgoing.room }
@@ -230,7 +231,7 @@ impl<A: Allocator + Copy> Dialogue<A> {
         Ok(())
     }
 
-    /// Puts the next message to go out into `message`, and says whether there was one. It is taken as sent.
+    /// Writes the next outgoing message into `message`, and returns whether there was one. The message counts as sent.
     pub fn take_message<S: Spool>(&mut self, spool: &S, message: &mut Message) -> bool
         requires { self.old.opened ≡ true }
         ensures first { OnTrue result (first_of (dialogue_of (S.holdings spool.now)
@@ -245,21 +246,21 @@ impl<A: Allocator + Copy> Dialogue<A> {
             .take_message(spool, self.size, self.short, message)
     }
 
-    /// Whether what was taken fitted no turn.
+    /// Returns whether a message that was taken fitted no turn.
     pub fn is_bad(&self) -> bool
         ensures { result ≡ is_bad self.now.machine.awaits }
     {
         matches!(self.awaits, Awaits::Bad)
     }
 
-    /// Whether all is said and nothing more is to come.
+    /// Returns whether everything is said and nothing more is to come.
     pub fn is_through(&self) -> bool
         ensures { result ≡ dialogue_is_through self.now }
     {
         matches!(self.awaits, Awaits::NothingMore) && self.outgoing.is_silent()
     }
 
-    /// Whether HY was said or taken.
+    /// Returns whether HY was said or taken.
     pub fn has_parted(&self) -> bool
         ensures { result ≡ dialogue_has_parted self.now }
     {
@@ -270,7 +271,7 @@ impl<A: Allocator + Copy> Dialogue<A> {
         }
     }
 
-    /// The jobs.
+    /// Returns the jobs.
     pub fn queue(&self) -> &Queue<A>
         ensures jobs { result.now ≡ self.now.machine.lists }
         ensures names { All HasNames (pending self.now.machine.lists) }
@@ -280,7 +281,7 @@ impl<A: Allocator + Copy> Dialogue<A> {
     }
 }
 
-/// What an end on this side does when the link has come up.
+/// Returns the reaction of an end on this side when the link has come up.
 fn opening<A: Allocator, S: Spool>(queue: &mut Queue<A>, spool: &S, side: Side) -> Reaction
     ensures reply { opening side (S.holdings spool.now) queue.old
         ≡ reply_of (S.holdings spool.now) queue.new result [] }
@@ -293,7 +294,7 @@ fn opening<A: Allocator, S: Spool>(queue: &mut Queue<A>, spool: &S, side: Side) 
     }
 }
 
-/// Nothing has come yet of what is awaited.
+/// Makes an empty gatherer for the awaited item.
 fn gather_for<A: Allocator + Copy>(awaits: &Awaits, alloc: A) -> Gather<A>
     ensures kind { result.kind ≡ kind_awaited awaits.now }
     ensures bytes { result.bytes ≡ [] }
@@ -306,8 +307,8 @@ fn gather_for<A: Allocator + Copy>(awaits: &Awaits, alloc: A) -> Gather<A>
     }
 }
 
-/// What an end does with a message, by whether all that it said before was sent: one that comes before the file was sent
-/// whole of which it should say what became fits no turn.
+/// Returns the reaction to a message. A message fits no turn if it should give a file's result before that file was
+/// sent whole. `none_waits` says whether everything said before was sent.
 fn reaction_unless_early<A: Allocator, S: Spool>(
     queue: &mut Queue<A>,
     spool: &mut S,
@@ -347,8 +348,8 @@ fn reaction_unless_early<A: Allocator, S: Spool>(
     reaction_to(queue, spool, awaits, gather, message)
 }
 
-/// What an end does with a message of what it awaits: nothing where more of it is to come. `Memory` and `Device` leave
-/// all as it was.
+/// Returns the reaction to a message that belongs to the awaited item, or none if more of the item is to come.
+/// `Memory` and `Device` leave everything as it was.
 fn reaction_to<A: Allocator, S: Spool>(
     queue: &mut Queue<A>,
     spool: &mut S,
@@ -388,7 +389,8 @@ fn reaction_to<A: Allocator, S: Spool>(
     reaction_to_part(queue, spool, awaits, gather, message)
 }
 
-/// The same for a message that ends no file. The spool is not asked to keep one, so only `Memory` comes.
+/// Returns the reaction to a message that ends no file. The spool is not asked to keep a file, so the only error is
+/// `Memory`.
 fn reaction_to_part<A: Allocator, S: Spool>(
     queue: &mut Queue<A>,
     spool: &S,
@@ -417,7 +419,7 @@ fn reaction_to_part<A: Allocator, S: Spool>(
     }
 }
 
-/// What is awaited behind a text or a file that has come past its limit: a lenient end lets a file come to its end.
+/// Returns what is awaited after a text or a file has passed its limit. A lenient end lets a file run to its end.
 fn awaits_past_limit<S: Spool>(spool: &S, awaits: &Awaits) -> Awaits
     ensures reply { (l : Lists) → on_past_limit (S.holdings spool.now).lenient
         (kind_awaited awaits.now) awaits.now l ≡ replies l result [] }

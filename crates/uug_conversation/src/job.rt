@@ -3,34 +3,33 @@ ghost use Rattle.uug_talk.specs.Order.{AreNames, IsCopy};
 
 use uug_talk::Name;
 
-/// What an end wants to do in a session.
+/// A job that an end wants to do in a session.
 #[derive(Clone, Copy, Debug, PartialEq, Eq)]
 pub enum Job {
-    /// To send a file to the other end.
+    /// Sends a file to the other end.
     Send {
         /// The file's name here.
         source: Name,
         /// The file's name at the other end.
         target: Name,
-        /// Whom the file belongs to.
+        /// The user to whom the file belongs.
         user: Name,
-        /// The name of the copy that was made of the file, if one was.
+        /// The name of the copy that was made of the file, if any.
         temp: Option<Name>,
     },
-    /// To ask the other end for a file.
+    /// Requests a file from the other end.
     Request {
         /// The file's name at the other end.
         source: Name,
         /// The file's name here.
         target: Name,
-        /// Whom the file belongs to.
+        /// The user to whom the file belongs.
         user: Name,
     },
 }
 
 impl Job {
-    /// Its names are names. This only looks: a proof knows by no more than a reading call what a
-    /// name's type says.
+    /// Reads its names, to show that they are names. A proof learns what a name's type says only from a reading call.
     pub(crate) fn look_at_names(&self)
         ensures { HasNames self.now }
     {

@@ -1,4 +1,4 @@
-//! Laws over the conversation of two ends and the one-sided machine. The functions do nothing.
+//! Laws of the conversation of two ends and of the one-sided machine. The functions do nothing.
 ghost use Rattle.std.specs.Prelude.{◌≡◌, ◌≢◌, ◌↔◌, ℕ, ◌<◌, ◌≤◌, Bool, true, false, List, [], length, Option, Some, None, Ok, Err};
 ghost use Rattle.uug_conversation.specs.Comparing.{AllFit, TellsTruly, told_awaited};
 ghost use Rattle.uug_conversation.specs.Conversation.{conversation};
@@ -27,13 +27,13 @@ ghost use Rattle.uug_talk.specs.Order.{order_of};
 use crate::queue::JOBS_MAX;
 use uug_talk::FILE_MAX;
 
-/// The number behind the limit of jobs.
+/// States the limit of jobs as a number.
 pub fn limits()
     ensures jobs { JOBS_MAX ≡ 1024 }
 {}
 
-/// A spool's file may be given exactly where it has at most `FILE_MAX` bytes, and then it is given as it is; with one byte
-/// more it is as if the spool had no such file.
+/// States that a spool's file may be given exactly if it has at most `FILE_MAX` bytes, and that it is then given
+/// unchanged. With one byte more, it is as if the spool had no such file.
 pub fn what_may_be_given()
     ensures given { (h : Holdings) (name : List ℕ) (file : File)
         → (to_give h name ≡ Some file) ↔ ((h.file name ≡ Some file)
@@ -42,16 +42,16 @@ pub fn what_may_be_given()
         → FILE_MAX < length file.bytes → to_give h name ≡ None }
 {}
 
-/// A text that a message takes past its limit fits no turn, whatever the end awaits; so does a file, unless the end is
-/// lenient: then the rest of it may come, and it is refused with its end.
+/// States that a text which a message takes past its limit fits no turn, whatever the end awaits. The same holds for a
+/// file, unless the end is lenient. Then the rest of the file may come, and the file is refused at its end.
 pub fn what_is_too_long_fits_no_turn()
     ensures { (h : Holdings) (s : State) (message : List ℕ) → let g = gathered_with s message in
         limit_of g.kind < length g.bytes
         → step h s message ≡ on_past_limit h.lenient (kind_awaited s.awaits) s.awaits s.lists }
 {}
 
-/// A message fits no turn that comes before the file was sent whole of which it should say what became; no other message
-/// comes too early.
+/// States that a message fits no turn if it should give a file's result before that file was sent whole. No other
+/// message comes too early.
 pub fn what_comes_early_fits_no_turn()
     ensures sent { (h : Holdings) (message : List ℕ) (talk : DialogueState)
         → talk.machine.awaits ≡ SentFileDone → talk.waiting ≢ []
@@ -71,8 +71,8 @@ pub fn what_comes_early_fits_no_turn()
         ≡ replied talk.measure talk.waiting talk.kept (step h talk.machine message) }
 {}
 
-/// An end that is not lenient ends with what it can't read, takes SN8 as any other refusal for now, reads no M behind a mode,
-/// refuses no file for what it is told of its size, and awaits the rest of no file.
+/// States that an end that is not lenient ends if it can't read a text, and takes SN8 as any other refusal for now. It
+/// reads no M after a mode, refuses no file for its announced size, and awaits the rest of no file.
 pub fn lenient_is_a_setting()
     ensures unread { (h : Holdings) (text : List ℕ) (fault : BadText) (l : Lists) → h.lenient ≡ false
         → order_of text ≡ Err fault → on_text h Order text l ≡ out_of_turn l }
@@ -93,8 +93,8 @@ pub fn lenient_is_a_setting()
         → is_dropped s.awaits ≡ false → is_dropped (step h s message).state.awaits ≡ false }
 {}
 
-/// Whatever comes to an end: what it keeps, where a digest was told of it, has that digest; and what was told was read in the
-/// command or the answer that was taken.
+/// States that a file kept by an end has the digest that was announced for it, if any, whatever the end receives. The
+/// announced digest was read from the command or the answer that was taken.
 pub fn kept_files_fit()
     // What fits is told of exactly these bytes.
     ensures fits { (told : FileDigest) (bytes : List ℕ)
@@ -109,7 +109,8 @@ pub fn kept_files_fit()
         → heard h.digests (told_by_answer text) ≡ Some told }
 {}
 
-/// Whatever comes to an end: what it tells with a command, or in front of a file, is told of the file that its spool gives.
+/// States that a digest announced with a command, or before a file, is that of the file that the spool gives, whatever
+/// the end receives.
 pub fn what_is_told_is_so()
     ensures answered { (h : Holdings) (s : State) (message : List ℕ)
         → TellsTruly h (step h s message).says }
@@ -117,7 +118,7 @@ pub fn what_is_told_is_so()
         → TellsTruly h (opening side h l).says }
 {}
 
-/// An end that has not the setting tells no digest, and hears none.
+/// States that an end without the setting announces no digest, and ignores those it receives.
 pub fn digests_are_a_setting()
     ensures ordered { (h : Holdings) (order : Command) → h.digests ≡ false
         → told_with h order ≡ None }
@@ -127,8 +128,8 @@ pub fn digests_are_a_setting()
         → heard h.digests told ≡ None }
 {}
 
-/// An end with every setting off, which is not lenient, tells and hears no digests, and gives each file now or never, goes from its
-/// opening on by a table of its own, which knows nothing of the settings.
+/// States that an end with every setting off follows a table of its own from its opening on, which knows no settings.
+/// Such an end is not lenient, announces and reads no digests, and gives each file now or never.
 pub fn an_end_with_all_settings_off_goes_by_the_plain_table()
     ensures opens { (side : Side) (h : Holdings) (l : Lists) → AreOff h
         → opening side h l ≡ plain_opening side h l }
@@ -146,14 +147,16 @@ pub fn an_end_with_all_settings_off_goes_by_the_plain_table()
         → awaits_plainly (plain_reply_to h none_waits s message).state.awaits ≡ true }
 {}
 
-/// Every text of a conversation may be cut into messages, and is read as what was said; no file is too large.
+/// States that every text of a conversation may be cut into messages, and is read as it was said. No file is too
+/// large.
 pub fn said_is_read_back()
     ensures { (a b : Party) → IsSound a → IsSound b
         → EachTurn (λ t. IsReadBack t.said) (conversation a b) }
 {}
 
-/// One end, which doesn't know the other's jobs or holdings, and sends and takes in any order that a link allows, stands where
-/// the conversation says: for both ends, every two parties, and whatever it has brought from earlier sessions.
+/// States that one end is where the conversation says. It doesn't know the other's jobs or holdings, and sends and
+/// takes in any order that a link allows. This holds for both ends, every two parties, and whatever it brought from
+/// earlier sessions.
 pub fn an_end_follows_the_conversation()
     ensures { (a b : Party) → IsSound a → IsSound b → (me : Side) (struck failed : List Job) (kept : List Kept)
         (acts : List Act) → let p = party me a b in let first = link_up me p struck failed kept in

@@ -1,4 +1,4 @@
-//! The conversation of two ends: their jobs, the files that they give and take, and what each has to say next.
+//! The conversation of two ends: their jobs, the files they exchange, and each end's next message.
 #![tactic(auto)]
 
 mod awaits;

@@ -26,7 +26,7 @@ use uug_talk::{
     refused_letter,
 };
 
-/// The end is master: it chooses its next job and says its command, behind an answer where there is one to give.
+/// Continues as master: chooses the next job and says its command, after an answer if there is one.
 pub(crate) fn go_on<A: Allocator, S: Spool>(
     queue: &mut Queue<A>,
     spool: &S,
@@ -40,7 +40,7 @@ pub(crate) fn go_on<A: Allocator, S: Spool>(
     commands(spool, before, order)
 }
 
-// A command with what is told of its file, behind an answer where there is one to give.
+// Makes the reaction that says a command with its file's announced digest, after an answer if there is one.
 fn commands<S: Spool>(spool: &S, before: Option<Answer>, order: Order) -> Reaction
     ensures { result ≡ gives_order before order (told_with (S.holdings spool.now) order) }
 {
@@ -48,7 +48,7 @@ fn commands<S: Spool>(spool: &S, before: Option<Answer>, order: Order) -> Reacti
     Reaction::commands(before, order, told)
 }
 
-/// What an end does with a whole text, by what it awaits.
+/// Returns the reaction to a whole text, by what the end awaits.
 pub(crate) fn on_text<A: Allocator, S: Spool>(
     queue: &mut Queue<A>,
     spool: &S,
@@ -85,7 +85,7 @@ pub(crate) fn on_text<A: Allocator, S: Spool>(
     }
 }
 
-// What this end hears that a command tells of its file: nothing where it compares no digests.
+// Returns the digest that a command announces for its file, or none if this end compares no digests.
 fn heard_by_order<S: Spool>(spool: &S, text: &[u8]) -> Option<FileDigest>
     ensures { result ≡ heard (S.holdings spool.now).digests (told_by_order text.now) }
 {
@@ -96,7 +96,7 @@ fn heard_by_order<S: Spool>(spool: &S, text: &[u8]) -> Option<FileDigest>
     }
 }
 
-// The same of what an answer tells of its file.
+// Returns the digest that an answer announces for its file, or none if this end compares no digests.
 fn heard_by_answer<S: Spool>(spool: &S, text: &[u8]) -> Option<FileDigest>
     ensures { result ≡ heard (S.holdings spool.now).digests (told_by_answer text.now) }
 {
@@ -107,7 +107,7 @@ fn heard_by_answer<S: Spool>(spool: &S, text: &[u8]) -> Option<FileDigest>
     }
 }
 
-// Reads the answer to R: a lenient end takes an M after the mode, too.
+// Reads the answer to R. A lenient end also takes an M after the mode.
 fn read_giving<S: Spool>(spool: &S, text: &[u8]) -> Result<Answer, BadText>
     ensures exact { result ≡ or_wished (answer_of text.now) (S.holdings spool.now).lenient text.now }
     ensures mode { IfOk result (λ answer. HasModeAnswered answer) }
@@ -144,7 +144,7 @@ fn on_order<A: Allocator, S: Spool>(
     }
 }
 
-// Refuses what can't be read, in its own letter, where the end is lenient.
+// Refuses a command that can't be read, in its own letter, if the end is lenient.
 fn on_unread<S: Spool>(spool: &S, letter: Option<u8>) -> Reaction
     ensures reply { (l : Lists) → on_unread (S.holdings spool.now).lenient letter l
         ≡ reply_of (S.holdings spool.now) l result [] }
@@ -171,7 +171,7 @@ fn on_send<S: Spool>(spool: &S, target: Name, mode: u16, told: Option<FileDigest
     }
 }
 
-// Whether the file of a command is taken: a lenient end refuses one that it is told to be too large.
+// Returns whether the file of a command is taken. A lenient end refuses one whose announced size is too large.
 fn send_verdict<S: Spool>(spool: &S, target: &Name, told: &Option<FileDigest>) -> Verdict
     ensures { result ≡ send_verdict (S.holdings spool.now) target.now told.now }
 {
@@ -209,7 +209,7 @@ fn on_request<S: Spool>(spool: &S, source: Name) -> Reaction
     }
 }
 
-// The roles are exchanged where this end has a job to offer.
+// Exchanges the roles if this end has a job to offer.
 fn on_hang_up<S: Spool>(spool: &S, next: Option<Order>) -> Reaction
     ensures reply { (l : Lists) → on_hang_up (S.holdings spool.now) next l
         ≡ reply_of (S.holdings spool.now) l result [] }
@@ -278,7 +278,7 @@ fn move_refused<A: Allocator>(queue: &mut Queue<A>, held: bool)
     }
 }
 
-// The file of the job in front goes out.
+// Sends the file of the first job.
 fn on_send_yes<A: Allocator, S: Spool>(queue: &Queue<A>, spool: &S) -> Reaction
     ensures reply { on_send_yes (S.holdings spool.now) queue.now.ahead queue.now
         ≡ reply_of (S.holdings spool.now) queue.now result [] }
@@ -304,7 +304,7 @@ fn send_file<S: Spool>(spool: &S, name: &Name) -> Reaction
     }
 }
 
-// The file that was sent is that of the job in front.
+// Handles the result for the file that was sent, if the first job is a Send job.
 fn on_sent_job_done<A: Allocator, S: Spool>(
     queue: &mut Queue<A>,
     spool: &S,
@@ -374,7 +374,7 @@ fn on_request_answer<A: Allocator, S: Spool>(
     }
 }
 
-// Where the roles are exchanged, this end is the slave then.
+// Handles the answer to H. If the roles are exchanged, this end is then the slave.
 fn on_hang_up_answer(answer: Result<Answer, BadText>) -> Reaction
     ensures reply { (h : Holdings) (l : Lists)
         → on_hang_up_answer answer l ≡ reply_of h l result [] }

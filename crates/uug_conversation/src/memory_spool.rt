@@ -24,7 +24,7 @@ pub struct MemorySpool<A: Allocator> {
 }
 
 impl<A: Allocator + Copy> MemorySpool<A> {
-    /// A spool with no file, that takes every file, and is not lenient. It takes no memory.
+    /// Makes a spool with no file, that takes every file, and is not lenient. It takes no memory.
     pub fn new(alloc: A) -> Self
         ensures { held_by result ≡ no_holdings }
     {
@@ -40,7 +40,7 @@ impl<A: Allocator + Copy> MemorySpool<A> {
         }
     }
 
-    /// A file to give, of a mode of at most `MODE_MAX`. Of two files of one name the first counts.
+    /// Adds a file to give, with a mode of at most `MODE_MAX`. Of two files with one name, the first counts.
     pub fn add_file(&mut self, name: Name, mode: u16, bytes: &[u8]) -> Result<(), AllocError>
         requires { mode ≤ MODE_MAX }
         ensures ok { OnOk result (held_by self.new ≡
@@ -53,7 +53,7 @@ impl<A: Allocator + Copy> MemorySpool<A> {
         push_file(&mut self.files, self.alloc, name, mode, bytes)
     }
 
-    /// A file of this name is never taken.
+    /// Makes the spool refuse files of this name for ever.
     pub fn deny(&mut self, name: Name) -> Result<(), AllocError>
         ensures ok { OnOk result (held_by self.new ≡
             record (held_by self.old) { denied = (held_by self.old).denied ++ name ∷ [] }) }
@@ -63,7 +63,7 @@ impl<A: Allocator + Copy> MemorySpool<A> {
         Ok(())
     }
 
-    /// A file of this name may be taken at another time, unless it is denied.
+    /// Makes the spool refuse files of this name for now, unless the name is denied.
     pub fn later(&mut self, name: Name) -> Result<(), AllocError>
         ensures ok { OnOk result (held_by self.new ≡
             record (held_by self.old) { postponed = (held_by self.old).postponed ++ name ∷ [] }) }
@@ -73,7 +73,7 @@ impl<A: Allocator + Copy> MemorySpool<A> {
         Ok(())
     }
 
-    /// A file of this name can't be put in its place.
+    /// Makes `keep` refuse a file of this name: it can't be put in its place.
     pub fn immovable(&mut self, name: Name) -> Result<(), AllocError>
         ensures ok { OnOk result (held_by self.new ≡
             record (held_by self.old) { immovable = (held_by self.old).immovable ++ name ∷ [] }) }
@@ -83,21 +83,21 @@ impl<A: Allocator + Copy> MemorySpool<A> {
         Ok(())
     }
 
-    /// Whether its end refuses what it can't read, and goes on.
+    /// Sets whether the end refuses what it can't read, and goes on.
     pub fn set_lenient(&mut self, lenient: bool)
         ensures { held_by self.new ≡ record (held_by self.old) { lenient = lenient } }
     {
         self.lenient = lenient;
     }
 
-    /// Whether its end tells digests of its files, and compares those that it is told.
+    /// Sets whether the end announces digests of its files, and compares those it receives.
     pub fn set_digests(&mut self, digests: bool)
         ensures { held_by self.new ≡ record (held_by self.old) { digests = digests } }
     {
         self.digests = digests;
     }
 
-    /// The files that were kept, in the order in which they were.
+    /// Returns the kept files, in the order in which they were kept.
     pub fn stored(&self) -> &[Stored<A>]
         ensures { map kept_of result.now ≡ (held_by self.now).stored }
     {

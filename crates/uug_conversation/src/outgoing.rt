@@ -10,17 +10,17 @@ use std::alloc::{AllocError, Allocator};
 use std::marker::Model;
 use uug_talk::{MESSAGE_MAX, Message};
 
-/// How much an end says at once at most: an answer, and a command or a file behind it.
+/// The most items that an end says at once: an answer, then a command or a file.
 pub const SAYINGS_MAX: usize = 2;
 
-/// What an end has still to say, and how much of the first was sent. It keeps no text and no file: a message is made when
-/// it goes out, a file's from what the spool lends.
+/// The items that an end has still to say, and how much of the first was sent. It keeps no text and no file. Each
+/// message is made when it goes out, a file's message from the bytes that the spool lends.
 #[derive(Drop)]
 pub(crate) struct Outgoing<A: Allocator> {
     sayings: Vec<Saying, A>,
-    /// So many in front were said.
+    /// The number of items at the front that were said.
     said: usize,
-    /// So many bytes of the first one's text or file were sent.
+    /// The number of bytes sent from the first item's text or file.
     offset: usize,
 }
 
@@ -42,7 +42,7 @@ impl<A: Allocator> Model for Outgoing<A> {
 }
 
 impl<A: Allocator + Copy> Outgoing<A> {
-    /// Nothing to say. It takes no memory.
+    /// Makes an empty list. It takes no memory.
     pub(crate) fn new(alloc: A) -> Self
         ensures sayings { result.sayings ≡ [] }
         ensures offset { result.offset ≡ 0 }
@@ -56,7 +56,7 @@ impl<A: Allocator + Copy> Outgoing<A> {
 }
 
 impl<A: Allocator> Outgoing<A> {
-    /// Makes room for all that is said at once.
+    /// Makes room for everything that is said at once.
     pub(crate) fn reserve(&mut self) -> Result<(), AllocError>
         ensures sayings { self.new.sayings ≡ self.old.sayings }
         ensures offset { self.new.offset ≡ self.old.offset }
@@ -65,7 +65,7 @@ impl<A: Allocator> Outgoing<A> {
         self.sayings.reserve(SAYINGS_MAX)
     }
 
-    /// Nothing is to be said any more.
+    /// Drops everything that is to be said.
     pub(crate) fn clear(&mut self)
         ensures sayings { self.new.sayings ≡ [] }
         ensures offset { self.new.offset ≡ 0 }
@@ -76,7 +76,7 @@ impl<A: Allocator> Outgoing<A> {
         self.offset = 0;
     }
 
-    /// This is to be said behind all the rest.
+    /// Adds items after all the others.
     pub(crate) fn say(&mut self, says: Says)
         requires room { SAYINGS_MAX ≤ self.old.room }
         requires sayable { All IsSayable (sayings_of says) }
@@ -95,15 +95,15 @@ impl<A: Allocator> Outgoing<A> {
         }
     }
 
-    /// Whether nothing is to be said.
+    /// Returns whether nothing is to be said.
     pub(crate) fn is_silent(&self) -> bool
         ensures { result ≡ is_silent self.now.sayings }
     {
         self.said == self.sayings.len()
     }
 
-    /// Puts the next message to go out, of at most `size` bytes, into `message`, and says whether there was one. It is
-    /// taken away. Where `short` is set, the last message of a text ends with its zero byte.
+    /// Moves the next outgoing message, of at most `size` bytes, into `message`, and returns whether there was one. If
+    /// `short` is set, the last message of a text ends with its zero byte.
     pub(crate) fn take_message<S: Spool>(
         &mut self,
         spool: &S,
@@ -137,7 +137,7 @@ impl<A: Allocator> Outgoing<A> {
         true
     }
 
-    /// The first one was said. When all were, the room that they took is free again.
+    /// Drops the first item after it was said. After the last one, the room that they took is free again.
     fn drop_first(&mut self)
         requires { self.old.sayings ≢ [] }
         ensures sayings { self.new.sayings ≡ drop 1 self.old.sayings }

@@ -18,8 +18,8 @@ use uug_talk::{
     Answer, Chunks, FILE_MAX, MESSAGE_MAX, Message, Order, refusal_text, write_answer, write_order,
 };
 
-/// Puts the message of at most `size` bytes that stands at an offset in the text or file into `message`, and says whether
-/// it is the last. Where `short` is set, the last one of a text ends with its zero byte.
+/// Writes the message at an offset in the text or file into `message`, and returns whether it is the last. It has at
+/// most `size` bytes. If `short` is set, the last message of a text ends with its zero byte.
 pub(crate) fn part_of<S: Spool>(
     saying: &Saying,
     spool: &S,
@@ -53,7 +53,8 @@ pub(crate) fn part_of<S: Spool>(
     }
 }
 
-/// A call of its own, so that a file's message makes no room for the text of a command.
+/// Cuts a message from a command. It is a separate call, so that a file's message reserves no room for a command's
+/// text.
 #[inline(never)]
 fn part_of_order(
     order: &Order,
@@ -82,7 +83,7 @@ fn part_of_order(
     }
 }
 
-/// The same of an answer.
+/// Cuts a message from an answer, as `part_of_order` does from a command.
 #[inline(never)]
 fn part_of_answer(
     answer: &Answer,
@@ -132,7 +133,7 @@ fn part_of_refusal(
     part_of_text(&refusal_text(letter), size, short, offset, message)
 }
 
-/// The same of the answer RY, with what is told of its file.
+/// Cuts a message from the answer RY, with the digest announced for its file.
 #[inline(never)]
 fn part_of_giving(
     mode: u16,
@@ -212,7 +213,7 @@ fn part_of_file(bytes: &[u8], size: usize, offset: usize, message: &mut Message)
     rest.is_empty()
 }
 
-/// What stands behind so many bytes, which is nothing where there are fewer.
+/// Returns the bytes after the first `offset` bytes, or none if there are fewer.
 fn behind(bytes: &[u8], offset: usize) -> &[u8]
     ensures { result.now ≡ drop offset bytes.now }
 {

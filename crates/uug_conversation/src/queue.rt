@@ -12,7 +12,7 @@ use thiserror::Error;
 /// The most jobs that may be pending at one end.
 pub const JOBS_MAX: usize = 1024;
 
-/// Why a job was not added.
+/// The reason why a job was not added.
 #[derive(Clone, Copy, Debug, PartialEq, Eq, Error)]
 pub enum QueueFault {
     /// `JOBS_MAX` jobs are pending.
@@ -23,14 +23,14 @@ pub enum QueueFault {
     Memory,
 }
 
-/// The jobs of an end: those that are pending, those that were done, and those that were given up for ever. A clause
-/// sees them as lists, and of the pending ones, which were skipped in this session and which are still ahead.
+/// The jobs of an end: pending, done, and given up for ever. A clause sees them as lists. It sees the pending ones as
+/// two lists: those skipped in this session and those still ahead.
 #[derive(Drop)]
 pub struct Queue<A: Allocator> {
     pending: Backlog<A>,
-    /// So many of the pending ones, from the front, were skipped in this session.
+    /// The number of pending jobs, from the front, that were skipped in this session.
     passed: usize,
-    /// These two have room for every pending job.
+    /// This list and `failed` have room for every pending job.
     struck: Vec<Job, A>,
     failed: Vec<Job, A>,
 }
@@ -57,7 +57,7 @@ impl<A: Allocator> Model for Queue<A> {
 }
 
 impl<A: Allocator + Copy> Queue<A> {
-    /// A queue with no job. It takes no memory.
+    /// Makes an empty queue. It takes no memory.
     pub fn new(alloc: A) -> Self
         ensures { result ≡ at_start [] [] [] }
     {
@@ -71,7 +71,7 @@ impl<A: Allocator + Copy> Queue<A> {
 }
 
 impl<A: Allocator> Queue<A> {
-    /// Adds a job behind all that are pending. `Full` is looked at first; a refusal changes nothing.
+    /// Adds a job after all pending jobs. `Full` is checked first. An error changes nothing.
     pub fn add(&mut self, job: Job) -> Result<(), QueueFault>
         ensures ok { OnOk result (self.new ≡ added job self.old) }
         ensures err { OnErr result (self.new ≡ self.old) }
@@ -89,7 +89,7 @@ impl<A: Allocator> Queue<A> {
         Ok(())
     }
 
-    /// The jobs that are pending, those that were skipped in this session first. Their names are names.
+    /// Returns the pending jobs, those skipped in this session first. Their names are names.
     pub fn pending(&self) -> &[Job]
         ensures jobs { result.now ≡ pending self.now }
         ensures most { length result.now ≤ JOBS_MAX }
@@ -98,21 +98,21 @@ impl<A: Allocator> Queue<A> {
         self.pending.as_slice()
     }
 
-    /// The jobs that were done, in the order in which they were.
+    /// Returns the jobs that were done, in the order in which they were done.
     pub fn struck(&self) -> &[Job]
         ensures { result.now ≡ self.now.struck }
     {
         self.struck.as_slice()
     }
 
-    /// The jobs that were given up for ever, in the order in which they were.
+    /// Returns the jobs that were given up for ever, in the order in which they were given up.
     pub fn failed(&self) -> &[Job]
         ensures { result.now ≡ self.now.failed }
     {
         self.failed.as_slice()
     }
 
-    /// The first job that is still ahead in this session.
+    /// Returns the first job that is still ahead in this session.
     pub(crate) fn first(&self) -> Option<&Job>
         ensures { MatchOption result (self.now.ahead ≡ [])
             (λ job. slice_get self.now.ahead 0 ≡ Some job.now) }
@@ -120,7 +120,7 @@ impl<A: Allocator> Queue<A> {
         self.pending.get(self.passed)
     }
 
-    /// A session starts: every pending job is ahead.
+    /// Starts a session: every pending job is ahead.
     pub(crate) fn restart(&mut self)
         ensures { self.new ≡ at_start (pending self.old) self.old.struck self.old.failed }
     {
@@ -128,7 +128,7 @@ impl<A: Allocator> Queue<A> {
         self.passed = 0;
     }
 
-    /// The first job ahead stays pending, and is not offered again in this session.
+    /// Skips the first job ahead. It stays pending, and is not offered again in this session.
     pub(crate) fn pass_first(&mut self)
         ensures { self.new ≡ moved_once pass self.old }
     {
@@ -137,7 +137,7 @@ impl<A: Allocator> Queue<A> {
         }
     }
 
-    /// The first job ahead is done.
+    /// Marks the first job ahead as done.
     pub(crate) fn strike_first(&mut self)
         ensures { self.new ≡ moved_once strike self.old }
     {
@@ -147,7 +147,7 @@ impl<A: Allocator> Queue<A> {
         }
     }
 
-    /// The first job ahead is given up for ever.
+    /// Gives up the first job ahead for ever.
     pub(crate) fn fail_first(&mut self)
         ensures { self.new ≡ moved_once fail self.old }
     {
@@ -158,7 +158,7 @@ impl<A: Allocator> Queue<A> {
     }
 }
 
-/// Room for one more pending job, and for every pending job to be moved to one of the other lists.
+/// Makes room for one more pending job, and for moving every pending job to either of the other lists.
 fn make_room<A: Allocator>(
     pending: &mut Backlog<A>,
     struck: &mut Vec<Job, A>,

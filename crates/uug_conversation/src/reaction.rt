@@ -6,8 +6,9 @@ use crate::awaits::Awaits;
 use uug_digest::FileDigest;
 use uug_talk::{Answer, Name, Order};
 
-/// What is said in one turn: a command with what is told of its file, an answer, RY with the file's mode and what is told of it,
-/// a file, known by the name under which the spool gives it, or the refusal of a command by its letter.
+/// An item said in one turn. It is a command with its file's announced digest, an answer, RY with the file's mode and
+/// announced digest, a file, known by the name under which the spool gives it, or the refusal of a command by its
+/// letter.
 #[derive(Clone, Copy)]
 pub(crate) enum Saying {
     Order(Order, Option<FileDigest>),
@@ -17,7 +18,7 @@ pub(crate) enum Saying {
     Refusal(u8),
 }
 
-/// What an end says when it has taken a text or a file.
+/// The items that an end says after it has taken a text or a file.
 #[derive(Clone, Copy)]
 pub(crate) enum Says {
     Nothing,
@@ -25,7 +26,7 @@ pub(crate) enum Says {
     Two(Saying, Saying),
 }
 
-/// What an end awaits when it has taken a text or a file, and what it says then.
+/// The item that an end awaits after it has taken a text or a file, and what it then says.
 #[derive(Clone, Copy)]
 pub(crate) struct Reaction {
     pub(crate) awaits: Awaits,
@@ -67,7 +68,7 @@ impl Reaction {
         }
     }
 
-    /// A command with what is told of its file, behind an answer where there is one to give.
+    /// Makes the reaction that says a command with its file's announced digest, after an answer if there is one.
     pub(crate) fn commands(before: Option<Answer>, order: Order, told: Option<FileDigest>) -> Self
         ensures { result ≡ gives_order before order told }
     {

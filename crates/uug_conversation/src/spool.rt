@@ -11,11 +11,11 @@ use uug_talk::{MODE_MAX, Name};
 pub struct FileView<'a> {
     /// The file's mode, at most `MODE_MAX`.
     pub mode: u16,
-    /// What is in it.
+    /// The file's bytes.
     pub bytes: &'a [u8],
 }
 
-/// Why a file was not kept.
+/// The reason why a file was not kept.
 #[derive(Clone, Copy, Debug, PartialEq, Eq, Error)]
 pub enum KeepFault {
     /// A file of this name can't be put in its place.
@@ -29,8 +29,8 @@ pub enum KeepFault {
     Memory,
 }
 
-/// The files of an end. Clauses see what it gives and accepts, which no call changes, the files that were kept, in the
-/// order in which they were, and how many times its device has failed.
+/// The files of an end. Clauses see what it gives and accepts, which no call changes. They also see the kept files, in
+/// the order in which they were kept, and the number of device failures.
 pub trait Spool {
     ghost holdings: { Self → Holdings };
 
@@ -38,25 +38,25 @@ pub trait Spool {
 
     ghost faults: { Self → ℕ };
 
-    /// Whether a file of this name is taken.
+    /// Returns whether a file of this name is taken.
     fn may_keep(&self, name: &Name) -> Verdict
         ensures { result ≡ (holdings self.now).verdict name.now };
 
-    /// Returns under which name a file of this name is kept that is sent to this one.
+    /// Returns the name under which a file named `source` and sent to `target` is kept.
     fn landing(&self, source: &Name, target: &Name) -> Name
         ensures { result ≡ (holdings self.now).landing source.now target.now };
 
-    /// The file of this name, if there is one.
+    /// Returns the file of this name, if there is one.
     fn fetch(&self, name: &Name) -> Option<FileView<'_>>
         ensures { shown_file result ≡ (holdings self.now).file name.now };
 
-    /// Returns whether there may be a file of this name that can't be given now, but later. It is asked only where `fetch` finds
-    /// none.
+    /// Returns whether there may be a file of this name that can't be given now, but later. It is asked only if
+    /// `fetch` finds none.
     fn is_delayed(&self, name: &Name) -> bool
         ensures { result ≡ (holdings self.now).delayed name.now };
 
-    /// Keeps a file under this name. `Refused` is looked at first. After a refusal what was kept is as before. Want
-    /// of memory is answered before the device is touched: the count of faults is then as before, too.
+    /// Keeps a file under this name. `Refused` is checked first. An error leaves the kept files as they were. Lack of
+    /// memory is reported before the device is touched, so the count of faults also stays as it was.
     fn keep(&mut self, name: &Name, mode: u16, bytes: &[u8]) -> Result<(), KeepFault>
         requires { mode ≤ MODE_MAX }
         ensures holdings { holdings self.new ≡ holdings self.old }
@@ -70,15 +70,15 @@ pub trait Spool {
             → (faults self.old < faults self.new) ⊎ (faults self.old ≡ u64.MAX) }
         ensures count { faults self.old ≤ faults self.new };
 
-    /// Whether this end refuses what it can't read, and goes on.
+    /// Returns whether this end refuses what it can't read, and goes on.
     fn is_lenient(&self) -> bool
         ensures { result ≡ (holdings self.now).lenient };
 
-    /// Whether this end tells digests of its files, and compares those that it is told.
+    /// Returns whether this end announces digests of its files, and compares those it receives.
     fn tells_digests(&self) -> bool
         ensures { result ≡ (holdings self.now).digests };
 
-    /// How many times the device has failed. At the greatest number the count stands.
+    /// Returns the number of device failures. The count stops at the greatest number.
     fn faults(&self) -> u64
         ensures { result ≡ faults self.now };
 

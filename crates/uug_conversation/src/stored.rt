@@ -5,14 +5,14 @@ ghost use Rattle.uug_talk.specs.declared.mode.TheConstants.{MODE_MAX};
 use std::alloc::Allocator;
 use uug_talk::Name;
 
-/// A file that a spool in memory has.
+/// A file in a memory spool.
 #[derive(Drop)]
 pub struct Stored<A: Allocator> {
     /// The file's name.
     pub name: Name,
     /// The file's mode, at most octal 7777.
     pub mode: u16,
-    /// What is in it.
+    /// The file's bytes.
     pub bytes: Vec<u8, A>,
     ghost in_range: { mode ≤ MODE_MAX },
     ghost of_bytes: { AreBytes bytes.items },

@@ -1,4 +1,4 @@
-/// Whether a spool takes a file of some name.
+/// A spool's decision on a file of some name.
 #[derive(Clone, Copy, Debug, PartialEq, Eq)]
 pub enum Verdict {
     /// The file may be sent.

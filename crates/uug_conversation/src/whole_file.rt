@@ -18,14 +18,14 @@ use std::alloc::Allocator;
 use uug_digest::FileDigest;
 use uug_talk::{Answer, MODE_MAX, Name};
 
-/// Why a whole file was neither kept nor refused.
+/// The reason why a whole file was neither kept nor refused.
 #[derive(Clone, Copy)]
 pub enum FileFault {
     Device,
     Memory,
 }
 
-/// Whether a file of these bytes is the one that was told of. Where nothing was told, any is.
+/// Returns whether the announced digest is that of these bytes. If none was announced, any bytes fit.
 fn fits(told: &Option<FileDigest>, bytes: &[u8]) -> bool
     ensures { result ≡ fits told.now bytes.now }
 {
@@ -35,8 +35,8 @@ fn fits(told: &Option<FileDigest>, bytes: &[u8]) -> bool
     }
 }
 
-/// Keeps a file, and says whether it did: not now where it isn't the one that was told of, which is looked at first, and
-/// never where it can't be put in its place.
+/// Keeps a file, and returns whether it did. The digest is compared first: a file that doesn't fit it is `Later`. A
+/// file that can't be put in its place is `Never`.
 fn keep<S: Spool>(
     spool: &mut S,
     name: &Name,
@@ -71,7 +71,7 @@ fn keep<S: Spool>(
     }
 }
 
-/// Keeps the file that is awaited, and says whether it did; or no file is awaited.
+/// Keeps the awaited file, and returns whether it did. Returns none if no file is awaited.
 fn keep_awaited<A: Allocator, S: Spool>(
     queue: &Queue<A>,
     spool: &mut S,
@@ -128,7 +128,7 @@ fn move_done<A: Allocator>(queue: &mut Queue<A>, verdict: Verdict)
     }
 }
 
-/// What an end does by whether the file was kept.
+/// Returns the reaction of an end to whether the file was kept.
 fn on_kept<A: Allocator, S: Spool>(
     queue: &mut Queue<A>,
     spool: &S,
@@ -150,7 +150,7 @@ fn on_kept<A: Allocator, S: Spool>(
     }
 }
 
-/// What an end does where no file is awaited that could be kept: the rest of one that is past the limit has come.
+/// Returns the reaction if no awaited file could be kept: the rest of a file over the limit has come.
 fn on_none_kept<A: Allocator, S: Spool>(
     queue: &mut Queue<A>,
     spool: &S,
@@ -170,8 +170,8 @@ fn on_none_kept<A: Allocator, S: Spool>(
     }
 }
 
-/// What an end does with a whole file, by what it awaits. Where it may be kept, it is. `Memory` and `Device` are the
-/// spool's; after them nothing is kept and no job has moved.
+/// Returns the reaction to a whole file, by what the end awaits. The file is kept if it may be. `Memory` and `Device`
+/// are the spool's. After them nothing is kept and no job has moved.
 pub(crate) fn on_file<A: Allocator, S: Spool>(
     queue: &mut Queue<A>,
     spool: &mut S,

@@ -3,17 +3,17 @@ ghost use Rattle.uug_digest.specs.Digests.{digest_of};
 
 use sha2::{Digest, Sha256};
 
-/// What is told of a file: how many bytes it has, and their digest.
+/// The announcement of a file: its size and its digest.
 #[derive(Clone, Copy, Debug, PartialEq, Eq)]
 pub struct FileDigest {
-    /// So many bytes.
+    /// The number of bytes.
     pub size: u32,
     /// Their SHA-256 digest (FIPS 180-4).
     pub hash: [u8; 32],
 }
 
 impl FileDigest {
-    /// What is told of a file of these bytes.
+    /// Makes the announcement of a file of these bytes.
     pub fn of(bytes: &[u8]) -> FileDigest
         requires { length bytes.now ≤ u32.MAX }
         ensures { result ≡ digest_of bytes.now }
@@ -24,7 +24,7 @@ impl FileDigest {
         }
     }
 
-    /// Whether it is what is told of a file of these bytes.
+    /// Returns whether it is the announcement of a file of these bytes.
     pub fn is_of(&self, bytes: &[u8]) -> bool
         ensures { IsTrue result ↔ (self.now ≡ digest_of bytes.now) }
     {

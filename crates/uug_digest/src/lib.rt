@@ -1,5 +1,5 @@
-//! What is told of a file in front of its bytes, its size and its SHA-256 digest: as words behind the mode of a command or an
-//! answer, and whether bytes are those of that file. And from which byte on a file is to be sent, as a word behind `SY`.
+//! The size and the SHA-256 digest that are announced before a file's bytes. They are words after the mode of a
+//! command or an answer. Bytes can be compared with them. A word after `SY` says from which byte on a file is sent.
 #![tactic(auto)]
 
 mod file_digest;

@@ -1,4 +1,4 @@
-//! Commands and answers that tell the size and the digest of their file.
+//! Commands and answers that announce the size and the digest of their file.
 ghost use Rattle.std.specs.Prelude.{◌≡◌, ◌+◌, ◌≤◌, ◌++◌, ◌∷◌, length, Some};
 ghost use Rattle.hex.specs.Hex.{IsBytes, encode_lower};
 ghost use Rattle.std.specs.Int.{to_be_bytes, w32};
@@ -13,10 +13,10 @@ use arrayvec::ArrayVec;
 use sha2::{Digest, Sha256};
 use uug_talk::{Answer, MODE_MAX, Order, write_answer, write_order};
 
-/// The room for a text that tells of its file. It is more than the longest one needs.
+/// The room for a text that announces a digest. It is more than the longest one needs.
 pub const TELLING_MAX: usize = 1_152;
 
-/// The text of a command that tells this of its file, without its zero byte.
+/// Returns the text of a command that announces this digest for its file, without its zero byte.
 pub fn order_telling(order: &Order, told: &FileDigest) -> ArrayVec<u8, TELLING_MAX>
     requires { HasMode order.now }
     ensures text { result.items ≡ order_telling_text order.now told.now }
@@ -30,7 +30,7 @@ pub fn order_telling(order: &Order, told: &FileDigest) -> ArrayVec<u8, TELLING_M
     with_digest(&write_order(order), told)
 }
 
-/// The text of the answer `RY` with this mode that tells this of its file, without its zero byte.
+/// Returns the text of the answer `RY` with this mode that announces this digest for its file, without its zero byte.
 pub fn give_telling(mode: u16, told: &FileDigest) -> ArrayVec<u8, TELLING_MAX>
     requires { mode ≤ MODE_MAX }
     ensures text { result.items ≡ give_telling_text mode told.now }
@@ -44,14 +44,14 @@ pub fn give_telling(mode: u16, told: &FileDigest) -> ArrayVec<u8, TELLING_MAX>
     with_digest(&write_answer(&Answer::GiveYes(mode)), told)
 }
 
-/// The SHA-256 digest of these bytes (FIPS 180-4), in hexadecimal digits.
+/// Returns the SHA-256 digest of these bytes (FIPS 180-4), in hexadecimal digits.
 pub fn hash_text(bytes: &[u8]) -> [u8; 64]
     ensures { result ≡ hash_text bytes.now }
 {
     hash_digits(&Sha256::digest(bytes))
 }
 
-/// A text, and behind it what is told.
+/// Returns a text, followed by the announced size and digest.
 fn with_digest(text: &[u8], told: &FileDigest) -> ArrayVec<u8, TELLING_MAX>
     requires { length text.now + 128 ≤ TELLING_MAX }
     ensures text { result.items ≡ text.now ++ 32 ∷ digest_text told.now }

@@ -1,4 +1,4 @@
-//! Reading what a command or an answer tells of its file.
+//! Reads the size and digest that a command or an answer announces for its file.
 ghost use Rattle.std.specs.Prelude.{◌≡◌};
 ghost use Rattle.std.specs.Char.{is_ascii_hexdigit};
 ghost use Rattle.std.specs.List.{list_all};
@@ -9,7 +9,8 @@ use crate::file_digest::FileDigest;
 use hex::FromHex;
 use uug_talk::split_word;
 
-/// What a command `S` tells of its file, by the words behind its mode, or `None` where they tell no size and digest.
+/// Returns the size and digest that a command `S` announces for its file, in the words after its mode. Returns `None`
+/// if they give no size and digest.
 pub fn told_by_order(text: &[u8]) -> Option<FileDigest>
     ensures { result ≡ told_by_order text.now }
 {
@@ -20,7 +21,8 @@ pub fn told_by_order(text: &[u8]) -> Option<FileDigest>
     }
 }
 
-/// What an answer `RY` tells of its file, by the words behind its mode, or `None` where they tell no size and digest.
+/// Returns the size and digest that an answer `RY` announces for its file, in the words after its mode. Returns `None`
+/// if they give no size and digest.
 pub fn told_by_answer(text: &[u8]) -> Option<FileDigest>
     ensures { result ≡ told_by_answer text.now }
 {
@@ -83,7 +85,7 @@ fn is_hex_numeral(word: &[u8]) -> bool
     !word.is_empty() && are_hex_digits(word)
 }
 
-/// The number that a word of hexadecimal digits writes, if it fits 32 bits. A sign is not read.
+/// Returns the number that a word of hexadecimal digits writes, if it fits 32 bits. It reads no sign.
 fn read_hex(word: &[u8]) -> Option<u32>
     ensures { result ≡ hex_number word.now }
 {

@@ -1,4 +1,4 @@
-//! Laws of one end that is told by the events that happen to it. The functions do nothing.
+//! Laws of one end, described by the events that happen to it. The functions do nothing.
 ghost use Rattle.std.specs.Prelude.{◌≡◌, ℕ, List};
 ghost use Rattle.uug_conversation.specs.Holdings.{Holdings, Kept};
 ghost use Rattle.uug_conversation.specs.declared.side.Side.{Side};
@@ -11,14 +11,14 @@ ghost use Rattle.uug_session.specs.Engine.{BeginsSession, with_outbox};
 ghost use Rattle.uug_session.specs.Node.{NodeState};
 ghost use Rattle.uug_session.specs.NodeCalls.{Beside, Make, NodeCall};
 
-/// Whatever a node is called with, some events lead it from how it was to how it is then.
+/// States that some events lead a node from its state before any calls to its state after them.
 pub fn calls_are_events()
     ensures { (h : Holdings) (most : ℕ) (calls : List NodeCall) (added : List EntryValue)
         (old new : Beside) → Make h most calls added old new
         → IsLedByEvents h old.kept new.kept old.node new.node }
 {}
 
-/// What comes at the line of a node, and was taken up, is some events to it, which lead it there.
+/// States that what comes at the line of a node, and was handled, is some events that lead it to its state after them.
 pub fn what_is_heard_happens()
     ensures { (h : Holdings) (kept kept_after : List Kept) (es : List LineEvent)
         (emitted : List Emitted) (before after : NodeState)
@@ -26,15 +26,15 @@ pub fn what_is_heard_happens()
         → IsLedByLine h kept kept_after es before after }
 {}
 
-/// A node that begins a session is an end that comes so to it.
+/// States that a node that begins a session is an end at its beginning.
 pub fn a_node_begins_as_an_end()
     ensures { (side : Side) (b : EndBeginning) (entries : List EntryValue) (n : NodeState)
         → BeginsSession (identity_of side b) b.own b.number b.lists entries n.engine
         → BeginsAsEnd side b n }
 {}
 
-/// Events that lead a node on follow those that led it there, and where just its outbox was cleared there are none. So a node
-/// that began a session, and was led on from there, has run it up to where it is.
+/// States that the events that lead a node on follow those that led it there. If only its outbox was cleared, there
+/// are none. A node that began a session, and was led on from there, has therefore run it up to its present state.
 pub fn events_follow_events()
     ensures later { (h : Holdings) (kept kept_between kept_after : List Kept)
         (before between after : NodeState) → IsLedByEvents h kept kept_between before between

@@ -6,8 +6,8 @@ use crate::limits::{MESSAGE_MAX, SIZE_MIN, WINDOW_MAX};
 use thiserror::Error;
 use uug_packet::{Seq, field_size};
 
-/// What one end of a link announces: the window and the packet size that the other end shall use. Beside it, whether this
-/// end is quiet on repeats and whether its commands are short, which it keeps to itself.
+/// The announcement of one end of a link: the window and the packet size that the other end shall use. It also holds
+/// two settings that this end keeps to itself: whether it is quiet on repeats, and whether its commands are short.
 #[derive(Clone, Copy, Debug, PartialEq, Eq)]
 pub struct Announce {
     pub(crate) window: Seq,
@@ -17,7 +17,7 @@ pub struct Announce {
     ghost in_range: { IsWindow (number_of window) },
 }
 
-/// Why there is no such announcement.
+/// The reason why there is no such announcement.
 #[derive(Clone, Copy, Debug, PartialEq, Eq, Error)]
 pub enum BadAnnounce {
     /// The window is not 1 to 7.
@@ -31,8 +31,8 @@ pub enum BadAnnounce {
 impl Announce {
     ghost use Rattle.uug_link.specs.Announced.{announced, quiet_as, short_as};
 
-    /// The announcement of a window, 1 to 7, and a size in bytes, a power of two from 32 to 4096. The window is
-    /// looked at first. It is of an end that is not quiet on repeats, and whose commands are filled up with zeros.
+    /// Makes the announcement of a window, 1 to 7, and a size in bytes, a power of two from 32 to 4096. The window is
+    /// checked first. The end is not quiet on repeats, and its commands are filled up with zeros.
     pub fn new(window: u8, size: usize) -> Result<Self, BadAnnounce>
         ensures window { IfOk result (λ a. (announced a).window ≡ window) }
         ensures size { IfOk result (λ a. size_of_code (announced a).size_code ≡ size) }
@@ -53,10 +53,11 @@ impl Announce {
         })
     }
 
-    /// The same, of an end that is quiet on repeats, or is not.
+    /// Returns the same announcement, with this setting for quiet repeats.
     ///
-    /// Of an end that is not, each data packet out of order is answered. One that is leaves the repeats that follow a
-    /// reject or a doubled packet unanswered, since each answer to them would make the other end repeat all again.
+    /// An end that is not quiet answers each data packet out of order. A quiet end leaves the repeats that follow a
+    /// reject or a doubled packet unanswered, because each answer to them would make the other end repeat everything
+    /// again.
     #[must_use]
     pub fn with_quiet(self, quiet: bool) -> Self
         ensures { announced result ≡ quiet_as quiet (announced self) }
@@ -69,17 +70,18 @@ impl Announce {
         }
     }
 
-    /// Whether this end is quiet on repeats.
+    /// Returns whether this end is quiet on repeats.
     pub fn is_quiet(self) -> bool
         ensures { result ≡ (announced self).quiet }
     {
         self.quiet
     }
 
-    /// The same, of an end whose commands are short, or are not.
+    /// Returns the same announcement, with this setting for short commands.
     ///
-    /// The last message of a command or an answer ends with its zero byte then, and is not filled up with zeros to a
-    /// multiple of the packet size. Who reads a command stops at its zero byte, so both are read the same.
+    /// If commands are short, the last message of a command or an answer ends with its zero byte. It is not filled up
+    /// with zeros to a multiple of the packet size. A reader of a command stops at its zero byte, so it reads both the
+    /// same.
     #[must_use]
     pub fn with_short(self, short: bool) -> Self
         ensures { announced result ≡ short_as short (announced self) }
@@ -92,14 +94,14 @@ impl Announce {
         }
     }
 
-    /// Whether the commands of this end are short.
+    /// Returns whether the commands of this end are short.
     pub fn is_short(self) -> bool
         ensures { result ≡ (announced self).short }
     {
         self.short
     }
 
-    /// The window that the other end shall use, 1 to 7.
+    /// Returns the window that the other end shall use, 1 to 7.
     pub fn window(self) -> u8
         ensures value { result ≡ (announced self).window }
         ensures within { IsWindow result }
@@ -107,7 +109,7 @@ impl Announce {
         self.window.value()
     }
 
-    /// The packet size in bytes that the other end shall use, a power of two from 32 to 4096.
+    /// Returns the packet size in bytes that the other end shall use, a power of two from 32 to 4096.
     pub fn size(self) -> usize
         ensures value { result ≡ size_of_code (announced self).size_code }
         ensures one_of_eight { IsSize result }

@@ -1,25 +1,25 @@
-/// One thing that an end emitted.
+/// One item that an end emitted.
 #[derive(Clone, Copy, Debug, PartialEq, Eq)]
 pub enum Entry<'a> {
-    /// A text of the handshake, or the last one behind the packets of the link.
+    /// A text of the handshake, or the final text after the packets of the link.
     Text(&'a [u8]),
     /// A packet of the link.
     Packet {
-        /// Its spelling.
+        /// The packet as written.
         bytes: &'a [u8],
-        /// Whether it is a data packet that is sent for the first time.
+        /// True for a data packet that is sent for the first time.
         first: bool,
     },
 }
 
-/// What an entry is, without its bytes.
+/// The kind of an entry, without its bytes.
 #[derive(Clone, Copy)]
 pub(crate) enum EntryKind {
     Text,
     Packet { first: bool },
 }
 
-/// An entry, whose bytes stand between the end of the one before it and its own end.
+/// An entry whose bytes lie between the end of the entry before it and its own end.
 #[derive(Clone, Copy)]
 pub(crate) struct Mark {
     pub(crate) kind: EntryKind,

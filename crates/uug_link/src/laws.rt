@@ -1,4 +1,4 @@
-//! The laws of links and of the window machine: each is the contract of a function that does nothing.
+//! The laws of links and of the window machine. Each is the contract of a function that does nothing.
 ghost use Rattle.std.specs.Prelude.{◌≡◌, ◌≢◌, ◌↔◌, ◌∷◌, ℕ, suc, ◌+◌, ◌-◌, ◌%◌, ◌<◌, ◌≤◌, List, drop, length, slice_get, Some, None, MatchOption, IsTrue};
 ghost use Rattle.uug_link.specs.Announced.{Announced, announced};
 ghost use Rattle.uug_link.specs.Arrivals.{IsPlace, arrived, as_happenings, place_of, same_packet};
@@ -23,7 +23,7 @@ ghost use Rattle.uug_link.specs.declared.phase.Phase.TheVariants.{AwaitsInitA, C
 ghost use Rattle.uug_packet.specs.Field.{field_size};
 ghost use Rattle.uug_packet.specs.Packet.{PacketValue, control, init_c};
 
-/// The limits of a link: each number stands here, and no other clause repeats it.
+/// States the limits of a link. No other clause repeats these numbers.
 pub fn limits()
     ensures window { WINDOW_MAX ≡ 7 }
     ensures unacked { UNACKED_MAX ≡ WINDOW_MAX }
@@ -33,7 +33,7 @@ pub fn limits()
     ensures entries { ENTRIES_MAX ≡ 64 }
 {}
 
-/// What a link answers to which event, and where it then is.
+/// States how a link answers each event, and how its phase then moves.
 pub fn what_a_link_answers()
     // Up comes from INITC alone, Taken from a data packet, Closed from CLOSE, GaveUp from a timeout.
     ensures answers { (s : State) (e : Event) → MayAnswer (step s e).outcome e }
@@ -57,7 +57,7 @@ pub fn what_a_link_answers()
     ensures window_stays { (s : State) (e : Event) → IsUp s → (step s e).state.window ≡ s.window }
 {}
 
-/// A link that is quiet on repeats, and one that is not.
+/// States the rules of a link that is quiet on repeats, and of one that is not.
 pub fn quiet_on_repeats()
     // One that is not steps by the old rules: the setting moves nothing then.
     ensures plain { (s : State) (e : Event) → IsPlain s → step s e ≡ plain_step s e }
@@ -68,8 +68,8 @@ pub fn quiet_on_repeats()
         → KeepsRejects (step s e).state }
 {}
 
-/// Whatever a peer sends that doesn't keep to the rules: it strikes no message but by the number of a packet that is
-/// outstanding, and no link comes up with a window larger than one that the peer has told.
+/// States the limits on a peer that breaks the rules. It strikes no message except by the number of an outstanding
+/// packet. No link comes up with a window larger than one that the peer has announced.
 pub fn no_peer_leads_a_link_astray()
     // A packet that acknowledges an outstanding one strikes its message and all before it.
     ensures strikes { (s : State) (p : PacketValue) (y behind : ℕ) → IsUp s → HasNumbers s
@@ -92,15 +92,15 @@ pub fn no_peer_leads_a_link_astray()
         × IsSmallerOf y s.window (step s (packet_found p)).state.window }
 {}
 
-/// A message goes out in the smallest field that holds it, whatever size the other end has announced: for the first time
-/// and each time that it goes out again.
+/// States that a message goes out in the smallest field that holds it, whatever size the other end has announced. This
+/// holds the first time and each time that it goes out again.
 pub fn messages_go_out_in_the_smallest_field()
     ensures smallest { (s : State) (e : Event) → HaveSmallestFields (step s e).emitted }
     ensures holds { (len : ℕ) → len ≤ MESSAGE_MAX → len ≤ field_size (smallest_code len) }
 {}
 
-/// Each packet that a link emits can be written, and so is read again as what it is, where the link has made a right
-/// announcement and meets what it may.
+/// States that each packet that a link emits can be written, and so is read back as the same packet. The link must
+/// have made a right announcement and meet what it may.
 pub fn what_a_link_emits_can_be_written()
     // Each announcement of the program is a right one.
     ensures right { (a : Announce) → IsAnnouncement (announced a) }
@@ -112,13 +112,13 @@ pub fn what_a_link_emits_can_be_written()
         → AreWellFormed (step s e).emitted }
 {}
 
-/// What holds after every run of the window machine, of each direction `d` and the opposite one `o`: whatever was sent,
-/// repeated and lost, numbers modulo eight tell as much as whole numbers do.
+/// States the invariant of each run of the window machine, for each direction `d` and the opposite one `o`. Whatever
+/// was sent, repeated and lost, numbers modulo eight say as much as whole numbers do.
 ///
-/// On the line a number is written modulo eight: as its digit. Numbers with the same digit are the same, or at least
+/// On the line a number is written modulo eight: as its digit. Numbers with the same digit are equal, or at least
 /// eight apart. A receiver sees only data packets from seven before the expected one to six after it, so none that is
-/// eight away: only the expected one has its digit. A sender sees only acknowledgements from what counts as acknowledged
-/// to seven more, eight numbers with eight digits.
+/// eight away. Only the expected one has its digit. A sender sees only acknowledgements from the acknowledged number
+/// to seven more: eight numbers with eight digits.
 pub fn the_window_is_safe()
     // What counts as acknowledged was taken, what was taken was sent, and no more is sent than the window allows.
     ensures counts { Always (λ d o. CountsInOrder d) }
@@ -134,9 +134,9 @@ pub fn the_window_is_safe()
         EachAck (λ a. a ≡ o.acked + (a % 8 + 8 - o.acked % 8) % 8) d.flight) }
 {}
 
-/// Two links, whatever is lost between them, run as the window machine: with its numbers and acknowledgements on the
-/// line as their digits modulo eight. So each takes what the other sent, in order and once, and neither has more
-/// unacknowledged than the other announced.
+/// States that two links run as the window machine, whatever is lost between them. On the line, its numbers and
+/// acknowledgements are their digits modulo eight. Each link takes what the other sent, in order and once. Neither has
+/// more unacknowledged than the other announced.
 pub fn two_links_run_as_the_machine()
     // Each run is one of the machine, whose windows are those that the ends announced.
     ensures machine { (near far : Announced) (ends : Ends) →
@@ -156,11 +156,12 @@ pub fn two_links_run_as_the_machine()
         KnowsSize e.link.phase → e.link.size_code ≡ announced.size_code) }
 {}
 
-/// What occurs at two links is so many moves of the window machine: first what comes, then what goes out.
+/// States that each occurrence at two links is a number of moves of the window machine: first those of what comes,
+/// then those of what goes out.
 ///
-/// A packet of the window that is found arrives, at a link that is up; at any other link, and where it is skipped, it
-/// is lost. Each packet of the window that is emitted is put in flight, one by one: as a new message where the end's
-/// caller sends one, else as a message that is sent again or as an acknowledgement. Nothing else moves the machine.
+/// A window packet that is found arrives, at a link that is up. At any other link, and if it is skipped, it is lost.
+/// Each window packet that is emitted is put in flight, one by one. It is a new message if the end's caller sends one,
+/// and otherwise a repeated message or an acknowledgement. Nothing else moves the machine.
 pub fn each_occurrence_is_moves_of_the_machine()
     // The machine at the start reads two first links.
     ensures start { (near far : Announced) (a b : State) → IsFirst near a → IsFirst far b →
@@ -183,8 +184,8 @@ pub fn each_occurrence_is_moves_of_the_machine()
         × AllMoveWith (first_ends a b) os (start far.window near.window) made }
 {}
 
-/// How runs of two links are made: from two first links, by one more occurrence or several at one end; and seen from
-/// the other end.
+/// States how runs of two links are made: from two first links, by one more occurrence or several at one end, and as
+/// seen from the other end.
 pub fn runs_of_two_links()
     ensures first { (near far : Announced) (a b : State) →
         IsFirst near a → IsFirst far b → IsRun near far (first_ends a b) }
@@ -197,7 +198,7 @@ pub fn runs_of_two_links()
         IsRun near far ends → IsRun far near (seen_from_far ends) }
 {}
 
-/// Where a packet that is found stands among those that the other end emitted.
+/// States the place of a packet that is found among those that the other end emitted.
 pub fn arrivals()
     ensures same { (p q : PacketValue) → IsTrue (same_packet p q) ↔ (p ≡ q) }
     // The place that is computed is the least one, and none only where there is none.
@@ -215,10 +216,10 @@ pub fn arrivals()
         IsRun near far (record ends { near = arrived p i ends.near }) }
 {}
 
-/// What arrives in a run of two links, whatever was lost before it: it can be read, and none of it is stray.
+/// States that each packet arriving in a run of two links, whatever was lost before it, can be read and is not stray.
 ///
-/// So a message that was taken counts as acknowledged as soon as one packet behind it arrives, and what an end repeats is
-/// what the other still lacks: what a clean line needs to bring both to the end.
+/// A message that was taken therefore counts as acknowledged as soon as one packet after it arrives. An end repeats
+/// only what the other still lacks. A clean line needs this to bring both to the end.
 pub fn what_two_links_emit_arrives()
     // Each packet that an end has emitted can be written, and is read again as what it is.
     ensures written { AlwaysEmits CanBeWritten }
@@ -232,12 +233,11 @@ pub fn what_two_links_emit_arrives()
         (step ends.near.link (packet_found p)).state.oldest ≡ (y + 1) % 8 }
 {}
 
-/// What a line brings where nothing on it is lost, between two links that are up: why both come to the end of what they
-/// have to say.
+/// States what a line that loses nothing brings between two links that are up. This is why both come to the end of
+/// what they have to say.
 pub fn a_clean_line_brings_all()
-    // A packet that arrives, whatever was lost before it, leaves the others on the way; it is taken where it is the expected
-    // one, what it acknowledges counts, and data is always answered by a
-    // link that is not quiet on repeats.
+    // A packet that arrives, whatever was lost before it, leaves the others on the way; it is taken where it is the
+    // expected one, what it acknowledges counts, and data is always answered by a link that is not quiet on repeats.
     ensures hears { (near far : Announced) (ends : Ends) (p : PacketValue) (ps : List PacketValue)
         (place : ℕ) →
         IsWindow near.window → IsWindow far.window → IsRun near far ends → IsUp ends.near.link

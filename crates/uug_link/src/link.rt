@@ -22,8 +22,8 @@ use std::alloc::{AllocError, Allocator};
 use std::marker::Model;
 use uug_packet::{Packet, field_size};
 
-/// One end's link. It knows no time and reads no bytes: its caller hands it the packets and the broken ones that were
-/// found, and hears of timeouts. What it emits goes into an outbox.
+/// One end's link. It knows no time and reads no bytes. Its caller hands it the packets and the broken ones found, and
+/// reports timeouts. It emits into an outbox.
 #[derive(Drop)]
 pub struct Link {
     status: Status,
@@ -44,7 +44,7 @@ impl Model for Link {
 }
 
 impl Link {
-    /// The link of the end that calls.
+    /// Makes the link of the calling end.
     pub fn caller(own: Announce) -> Self
         ensures { result ≡ caller_state (announced own) }
     {
@@ -54,7 +54,7 @@ impl Link {
         }
     }
 
-    /// The link of the end that is called.
+    /// Makes the link of the called end.
     pub fn called(own: Announce) -> Self
         ensures { result ≡ called_state (announced own) }
     {
@@ -64,8 +64,8 @@ impl Link {
         }
     }
 
-    /// Begins the start-up: emits INITA. Of a caller's link on which this has not answered Ok and which has not ended.
-    /// Without memory for the packet, link and outbox are as before.
+    /// Begins the start-up: emits INITA. It is for a caller's link that has not ended, and on which this has not yet
+    /// returned Ok. Without memory for the packet, link and outbox are as before.
     pub fn begin<A: Allocator>(&mut self, out: &mut Outbox<A>) -> Result<(), AllocError>
         requires { IsFresh self.old }
         ensures { Follows (step self.old to_begin) self.old self.new out.old out.new (done result) }
@@ -74,8 +74,8 @@ impl Link {
         self.apply(reaction, out)
     }
 
-    /// Takes up a packet that was found. The answer is `Taken` where its message is the next one, `Up` where the link has
-    /// come up, and `Closed` where CLOSE has ended it; it is never `GaveUp`.
+    /// Handles a packet that was found. Returns `Taken` if its message is the next one, `Up` if the link has come up,
+    /// and `Closed` if CLOSE has ended it. It never returns `GaveUp`.
     pub fn on_packet<A: Allocator>(
         &mut self,
         packet: &Packet<'_>,
@@ -88,7 +88,7 @@ impl Link {
         self.react(reaction, out)
     }
 
-    /// Takes up that a broken packet was found, and asks for the expected one unless it has been asked for.
+    /// Handles a broken packet that was found, and asks for the expected one unless that was already done.
     pub fn on_bad<A: Allocator>(&mut self, out: &mut Outbox<A>) -> Result<Outcome, LinkFault>
         ensures { Follows (step self.old bad_found) self.old self.new out.old out.new
             (answered result) }
@@ -97,8 +97,8 @@ impl Link {
         self.react(reaction, out)
     }
 
-    /// Handles a timeout, and emits what may be lost again. The eighth time in a row without
-    /// progress ends the link: CLOSE is emitted, and the answer is `GaveUp`.
+    /// Handles a timeout, and emits again what may be lost. The eighth timeout in a row without progress ends the
+    /// link: CLOSE is emitted, and the answer is `GaveUp`.
     pub fn on_timeout<A: Allocator>(&mut self, out: &mut Outbox<A>) -> Result<Outcome, LinkFault>
         ensures { Follows (step self.old timed_out) self.old self.new out.old out.new
             (answered result) }
@@ -107,15 +107,15 @@ impl Link {
         self.react(reaction, out)
     }
 
-    /// Whether `on_timeout` would emit anything: there is something that may be lost, or the link ends.
+    /// Returns whether `on_timeout` would emit anything, because something may be lost or the link ends.
     pub fn speaks_when_late(&self) -> bool
         ensures { IsTrue result ↔ ((step self.now timed_out).emitted ≢ []) }
     {
         self.status.speaks_when_late(self.slots.len())
     }
 
-    /// Sends a message of at most `size` bytes, on a link that has room for one more. Without memory for the packet, link
-    /// and outbox are as before.
+    /// Sends a message of at most `size` bytes, on a link that has room for one more. Without memory for the packet,
+    /// link and outbox are as before.
     pub fn send<A: Allocator>(
         &mut self,
         message: &[u8],
@@ -142,7 +142,7 @@ impl Link {
         self.apply(reaction, out)
     }
 
-    /// Whether messages may go both ways.
+    /// Returns whether messages may go both ways.
     pub fn is_up(&self) -> bool
         ensures up { IsTrue result ↔ IsUp self.now }
         ensures window { IsTrue result → IsWindow self.now.window }
@@ -150,28 +150,28 @@ impl Link {
         matches!(self.status.phase, Phase::Up)
     }
 
-    /// Whether this end has closed the link and waits for the other's CLOSE.
+    /// Returns whether this end has closed the link and waits for the other's CLOSE.
     pub fn is_closing(&self) -> bool
         ensures { IsTrue result ↔ IsClosing self.now }
     {
         matches!(self.status.phase, Phase::Closing)
     }
 
-    /// Whether this end is quiet on repeats.
+    /// Returns whether this end is quiet on repeats.
     pub fn is_quiet(&self) -> bool
         ensures { result ≡ self.now.own.quiet }
     {
         self.status.own.quiet
     }
 
-    /// Whether the commands of this end are short.
+    /// Returns whether the commands of this end are short.
     pub fn is_short(&self) -> bool
         ensures { result ≡ self.now.own.short }
     {
         self.status.own.short
     }
 
-    /// Whether `on_packet` would answer `Taken` to this packet, if it is not refused memory.
+    /// Returns whether `on_packet` would return `Taken` for this packet, if it is not refused memory.
     pub fn takes(&self, packet: &Packet<'_>) -> bool
         ensures { IsTrue result ↔ ((step self.now (packet_found (shown packet.now))).outcome
             ≡ taken) }
@@ -182,14 +182,15 @@ impl Link {
         }
     }
 
-    /// Whether one more message may go out: the link is up, and fewer are unacknowledged than the window lets.
+    /// Returns whether one more message may go out: the link is up, and fewer are unacknowledged than the window
+    /// allows.
     pub fn room(&self) -> bool
         ensures { IsTrue result ↔ HasRoom self.now }
     {
         self.is_up() && self.unacked() < self.window()
     }
 
-    /// How many messages were sent and not acknowledged.
+    /// Returns the number of messages that were sent and not acknowledged.
     pub fn unacked(&self) -> usize
         ensures count { result ≡ length self.now.unacked }
         ensures within { result ≤ self.now.window }
@@ -198,21 +199,21 @@ impl Link {
         self.slots.len()
     }
 
-    /// The number of the oldest message that was sent and not acknowledged, or of the next to be sent.
+    /// Returns the number of the oldest message that was sent and not acknowledged, or of the next one to be sent.
     pub fn oldest(&self) -> u8
         ensures { result ≡ self.now.oldest }
     {
         self.status.oldest.value()
     }
 
-    /// The number of the data packet that is to be taken next.
+    /// Returns the number of the data packet to be taken next.
     pub fn expected(&self) -> u8
         ensures { result ≡ self.now.expected }
     {
         self.status.received.next().value()
     }
 
-    /// How many timeouts have passed in a row without progress; at the eighth the link gives up.
+    /// Returns the number of timeouts in a row without progress. At the eighth the link gives up.
     pub fn timeouts(&self) -> u8
         ensures count { result ≡ self.now.timeouts }
         ensures most { result ≤ TIMEOUTS_MAX }
@@ -220,8 +221,8 @@ impl Link {
         self.status.timeouts.count()
     }
 
-    /// The greatest number of packets that may be unacknowledged, 1 to 7, of a link that is up: the smaller of the two
-    /// windows that the other end has announced.
+    /// Returns the greatest number of packets that may be unacknowledged, 1 to 7, on a link that is up. It is the
+    /// smaller of the two windows that the other end has announced.
     pub fn window(&self) -> usize
         requires { IsUp self.now }
         ensures value { result ≡ self.now.window }
@@ -230,7 +231,7 @@ impl Link {
         usize::from(self.status.window.value())
     }
 
-    /// The packet size in bytes that the other end has announced, 32 to 4096, of a link that is up.
+    /// Returns the packet size in bytes, 32 to 4096, that the other end has announced, on a link that is up.
     pub fn size(&self) -> usize
         requires { IsUp self.now }
         ensures value { result ≡ size_of_code self.now.size_code }
@@ -257,7 +258,8 @@ impl Link {
         reaction.reply.answer()
     }
 
-    /// Makes room first, since that may be refused. What changes the link and emits then is not.
+    /// Applies a reaction. It makes room first, because that may be refused. The change of the link and its output
+    /// can't fail.
     fn apply<A: Allocator>(
         &mut self,
         reaction: Reaction,

@@ -19,7 +19,7 @@ use std::alloc::Allocator;
 use uug_packet::{Packet, Seq, field_code};
 
 impl Status {
-    /// The data packet that carries a message, in the smallest field that holds it.
+    /// Makes the data packet that carries a message, in the smallest field that holds it.
     fn data_packet<'a>(self, number: Seq, message: &'a [u8]) -> Packet<'a>
         requires { length message.now ≤ MESSAGE_MAX }
         ensures packet { shown result
@@ -58,7 +58,7 @@ impl Status {
         out.add_within(EntryKind::Packet { first: true }, slots.packet(last));
     }
 
-    /// How many packets go out, of a link on which so many are outstanding.
+    /// Returns the number of packets that go out, on a link with this many outstanding.
     pub(crate) fn emissions(self, emits: Emits, outstanding: usize) -> usize
         requires { outstanding ≤ WINDOW_MAX }
         ensures count { (ms : List (List ℕ)) → length ms ≡ outstanding →
@@ -74,14 +74,14 @@ impl Status {
         }
     }
 
-    /// How many packets stand in front of the one of that number, if it is outstanding.
+    /// Returns the index of the packet with this number, if it is outstanding.
     fn place_of(self, number: Seq) -> usize
         ensures { result ≡ distance (number_of self.oldest) (number_of number) }
     {
         usize::from(number.ahead_of(self.oldest))
     }
 
-    /// Emits what goes out. There is room for it.
+    /// Emits into the outbox, which has room for it.
     pub(crate) fn emit<A: Allocator>(self, emits: Emits, slots: &mut Slots, out: &mut Outbox<A>)
         requires slots { AreSlots (number_of self.oldest) slots.old }
         requires room { length (emitted_of emits (state_of self (messages_in slots.old)))
@@ -101,7 +101,7 @@ impl Status {
         }
     }
 
-    /// Emits all packets that are outstanding again, in order.
+    /// Emits all outstanding packets again, in order.
     fn send_again<A: Allocator>(self, slots: &mut Slots, out: &mut Outbox<A>)
         requires slots { AreSlots (number_of self.oldest) slots.old }
         requires room { length slots.old ≤ out.old.spare }
@@ -116,7 +116,7 @@ impl Status {
         }
     }
 
-    /// Emits the packet of that number again, if it is outstanding.
+    /// Emits the packet with this number again, if it is outstanding.
     fn send_selected<A: Allocator>(self, number: Seq, slots: &mut Slots, out: &mut Outbox<A>)
         requires slots { AreSlots (number_of self.oldest) slots.old }
         requires room { let s = state_of self (messages_in slots.old) in
@@ -153,7 +153,7 @@ impl Status {
     }
 }
 
-/// The code of the smallest field that holds so many bytes.
+/// Returns the code of the smallest field that holds this many bytes.
 fn smallest_code(len: usize) -> u8
     requires { len ≤ MESSAGE_MAX }
     ensures value { result ≡ smallest_code len }

@@ -3,7 +3,7 @@ ghost use Rattle.uug_packet.specs.Number.{number_of};
 
 use uug_packet::Seq;
 
-/// The number that stands `count` places behind another.
+/// Returns the number that is `count` places after another.
 pub(crate) fn plus(number: Seq, count: usize) -> Seq
     ensures { number_of result ≡ (number_of number + count) % 8 }
 {

@@ -9,7 +9,7 @@ use std::alloc::{AllocError, Allocator};
 use std::marker::Model;
 use uug_packet::{Control, PACKET_MAX, control_packet};
 
-/// What an end emitted and its caller has not yet cleared: entries, in the order in which they were emitted.
+/// The entries that an end emitted and its caller has not yet cleared, in the order in which they were emitted.
 #[derive(Drop)]
 pub struct Outbox<A: Allocator> {
     bytes: Vec<u8, A>,
@@ -32,7 +32,7 @@ impl<A: Allocator> Model for Outbox<A> {
 }
 
 impl<A: Allocator + Copy> Outbox<A> {
-    /// An outbox with no entry. It takes no memory.
+    /// Makes an empty outbox. It takes no memory.
     pub fn new(alloc: A) -> Self
         ensures { result.entries ≡ [] }
     {
@@ -44,14 +44,14 @@ impl<A: Allocator + Copy> Outbox<A> {
 }
 
 impl<A: Allocator> Outbox<A> {
-    /// The number of entries.
+    /// Returns the number of entries.
     pub fn len(&self) -> usize
         ensures { result ≡ length self.now.entries }
     {
         self.marks.len()
     }
 
-    /// The entry at a place below `len`.
+    /// Returns the entry at an index below `len`.
     pub fn entry(&self, i: usize) -> Entry<'_>
         requires { i < length self.now.entries }
         ensures { slice_get self.now.entries i ≡ Some (shown_entry result) }
@@ -59,14 +59,14 @@ impl<A: Allocator> Outbox<A> {
         entry_at(&self.marks, &self.bytes, i)
     }
 
-    /// The bytes of all entries, joined.
+    /// Returns the bytes of all entries, joined.
     pub fn bytes(&self) -> &[u8]
         ensures { result.now ≡ joined self.now.entries }
     {
         self.bytes.as_slice()
     }
 
-    /// Takes all entries away. What it takes without memory gets no less.
+    /// Removes all entries. The room that it has without more memory does not shrink.
     pub fn clear(&mut self)
         ensures entries { self.new.entries ≡ [] }
         ensures spare { self.old.spare ≤ self.new.spare }
@@ -75,14 +75,14 @@ impl<A: Allocator> Outbox<A> {
         self.marks.clear();
     }
 
-    /// How many entries of at most `PACKET_MAX` bytes it takes without memory.
+    /// Returns the number of entries of at most `PACKET_MAX` bytes that fit without more memory.
     pub fn spare(&self) -> usize
         ensures { result ≡ self.now.spare }
     {
         (unused(&self.bytes) / PACKET_MAX).min(unused(&self.marks))
     }
 
-    /// Makes room for `n` more entries of at most `PACKET_MAX` bytes, `n` being at most `ENTRIES_MAX`. The entries stay,
+    /// Makes room for `n` more entries of at most `PACKET_MAX` bytes. `n` is at most `ENTRIES_MAX`. The entries stay,
     /// with and without memory for it.
     pub fn reserve(&mut self, n: usize) -> Result<(), AllocError>
         requires { n ≤ ENTRIES_MAX }
@@ -106,7 +106,7 @@ impl<A: Allocator> Outbox<A> {
         self.add(EntryKind::Text, bytes)
     }
 
-    /// Appends a control packet. There is room for it.
+    /// Appends a control packet, for which there is room.
     pub(crate) fn add_control(&mut self, item: Control)
         requires { 0 < self.old.spare }
         ensures entries { self.new.entries ≡ self.old.entries
@@ -146,7 +146,7 @@ impl<A: Allocator> Outbox<A> {
     }
 }
 
-/// For how many more items a vector has room.
+/// Returns the number of items for which a vector still has room.
 fn unused<T, A: Allocator>(items: &Vec<T, A>) -> usize
     ensures { result ≡ vec_capacity items.now - vec_len items.now }
 {

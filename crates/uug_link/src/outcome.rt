@@ -4,7 +4,7 @@ ghost use Rattle.uug_link.specs.Follows.{answered};
 
 use thiserror::Error;
 
-/// What a packet, a bad mark or a timeout did to a link.
+/// The effect of a packet, a bad mark or a timeout on a link.
 #[derive(Clone, Copy, Debug, PartialEq, Eq)]
 pub enum Outcome {
     /// Nothing that its caller has to know.
@@ -17,7 +17,7 @@ pub enum Outcome {
     Closed,
 }
 
-/// Why a link did not take something up.
+/// The reason why a link did not handle something.
 #[derive(Clone, Copy, Debug, PartialEq, Eq, Error)]
 pub enum LinkFault {
     /// Memory was refused: link and outbox are as before.
@@ -31,7 +31,7 @@ pub enum LinkFault {
     Halted,
 }
 
-/// What a link answers, unless it is refused memory.
+/// A link's answer, unless it is refused memory.
 #[derive(Clone, Copy)]
 pub(crate) enum Reply {
     Nothing,

@@ -1,4 +1,4 @@
-/// Which end of the link this is.
+/// The end's role on the link.
 #[derive(Clone, Copy)]
 pub(crate) enum Role {
     /// The end that begins the link.
@@ -7,7 +7,7 @@ pub(crate) enum Role {
     Called,
 }
 
-/// How far a link is.
+/// The phase of a link.
 #[derive(Clone, Copy)]
 pub(crate) enum Phase {
     /// A caller's link that has not begun.

@@ -2,17 +2,17 @@ use crate::outcome::Reply;
 use crate::status::Status;
 use uug_packet::{Control, Seq};
 
-/// What an event does to a link, but for a message that its caller sends.
+/// The effect of an event on a link. It doesn't cover a message that the link's caller sends.
 #[derive(Clone, Copy)]
 pub(crate) struct Reaction {
     pub(crate) status: Status,
-    /// How many of the oldest messages have arrived.
+    /// The number of oldest messages that have arrived.
     pub(crate) strikes: usize,
     pub(crate) emits: Emits,
     pub(crate) reply: Reply,
 }
 
-/// What goes out then.
+/// The packets that go out then.
 #[derive(Clone, Copy)]
 pub(crate) enum Emits {
     Nothing,

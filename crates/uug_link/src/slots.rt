@@ -1,4 +1,4 @@
-//! The packets that were sent and not acknowledged, as they were written.
+//! The packets that were sent and not acknowledged, as written.
 ghost use Rattle.std.specs.Prelude.{◌≡◌, ℕ, ◌+◌, ◌%◌, ◌<◌, ◌≤◌, List, [], ◌∷◌, ◌++◌, length, drop, get_or, slice_get, slice_set, Some};
 ghost use Rattle.arrayvec.specs.ArrayVec.{array_vec_len};
 ghost use Rattle.uug_link.specs.Slots.{bytes_in};
@@ -12,18 +12,18 @@ use arrayvec::ArrayVec;
 use std::marker::Model;
 use uug_packet::{PACKET_MAX, Packet, Seq, encode, re_ack};
 
-/// A place for a packet, as it is written.
+/// A place for a written packet.
 pub(crate) type Slot = ArrayVec<u8, PACKET_MAX>;
 
-/// The packets that may have to go out again. Their places are used in turn, so that none is moved when the oldest are
-/// struck.
+/// The packets that may have to go out again. Their places are used in turn, so that no packet moves when the oldest
+/// are struck.
 #[derive(Drop)]
 pub(crate) struct Slots {
-    /// A place is added when it is first needed, and written over when its turn comes again.
+    /// The places. One is added when it is first needed, and overwritten when its turn comes again.
     places: ArrayVec<Slot, UNACKED_MAX>,
     /// The place of the oldest packet.
     oldest: usize,
-    /// How many packets there are.
+    /// The number of packets.
     count: usize,
 }
 
@@ -56,7 +56,7 @@ impl Slots {
         self.count
     }
 
-    /// The packet that so many stand in front of.
+    /// Returns the packet at index `i`, counted from the oldest.
     pub(crate) fn packet(&self, i: usize) -> &[u8]
         requires { i < length self.now }
         ensures value { slice_get self.now i ≡ Some result.now }
@@ -65,7 +65,7 @@ impl Slots {
         self.places[in_turn(self.oldest, i)].as_slice()
     }
 
-    /// Takes the oldest packets away: their places are free from then on.
+    /// Removes the oldest packets, which frees their places.
     pub(crate) fn strike(&mut self, count: usize)
         requires { count ≤ length self.old }
         ensures { self.new ≡ drop count self.old }
@@ -74,7 +74,7 @@ impl Slots {
         self.count -= count;
     }
 
-    /// Writes a packet behind the others.
+    /// Writes a packet after the others.
     pub(crate) fn add(&mut self, packet: &Packet<'_>)
         requires room { length self.old < UNACKED_MAX }
         requires writable { IsWritable (shown packet.now) }
@@ -91,7 +91,7 @@ impl Slots {
         self.count += 1;
     }
 
-    /// Changes the acknowledgement of the data packet that so many stand in front of.
+    /// Changes the acknowledgement of the data packet at index `i`.
     pub(crate) fn re_ack(&mut self, i: usize, ack: Seq)
         requires within { i < length self.old }
         requires written { IsWrittenCarry (get_or self.old i []) }
@@ -106,7 +106,7 @@ impl Slots {
     }
 }
 
-/// Adds a place in which nothing is written.
+/// Adds an empty place.
 fn make_place(places: &mut ArrayVec<Slot, UNACKED_MAX>)
     requires { array_vec_len places.old < UNACKED_MAX }
     ensures { bytes_in places.new.items ≡ bytes_in places.old.items ++ [] ∷ [] }
@@ -114,7 +114,7 @@ fn make_place(places: &mut ArrayVec<Slot, UNACKED_MAX>)
     places.push(Slot::new());
 }
 
-/// The place that is used `count` turns behind another.
+/// Returns the place that is used `count` turns after another.
 fn in_turn(place: usize, count: usize) -> usize
     requires small { (place < UNACKED_MAX) × (count ≤ UNACKED_MAX) }
     ensures { result ≡ (place + count) % UNACKED_MAX }

@@ -1,4 +1,4 @@
-//! How a link starts up.
+//! The start-up of a link.
 
 ghost use Rattle.std.specs.Prelude.{◌≡◌, ℕ, List, min};
 ghost use Rattle.uug_packet.specs.Number.{number_of};

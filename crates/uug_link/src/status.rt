@@ -18,14 +18,14 @@ pub(crate) struct Status {
     pub(crate) window: Seq,
     /// The code of the size that the other end has announced.
     pub(crate) size_code: Seq,
-    /// The number of the oldest message that was sent and not acknowledged, or of the next to be sent.
+    /// The number of the oldest message that was sent and not acknowledged, or of the next one to be sent.
     pub(crate) oldest: Seq,
     /// The number of the last data packet that was taken.
     pub(crate) received: Seq,
-    /// 0 where no reject has gone out for the packet that is expected, else at most one more than the window that this
-    /// end has announced.
+    /// 0 if no reject has gone out for the expected packet, else at most one more than the window that this end has
+    /// announced.
     pub(crate) reject_left: u8,
-    /// The number of the data packet out of order that came last, since one was taken.
+    /// The number of the last data packet out of order that came since one was taken.
     pub(crate) passed: Option<Seq>,
     pub(crate) timeouts: Timeouts,
 }
@@ -36,7 +36,7 @@ impl Status {
     ghost use Rattle.uug_link.specs.State.{first_state, IsFresh, IsUp};
     ghost use Rattle.uug_link.specs.Step.{step, to_begin, packet_found, bad_found, timed_out, to_close, on_control, on_close, repeated, ignored, quiet, answers, answers_halted, nothing};
 
-    /// Of a link to which nothing has happened.
+    /// Makes the status of a link to which nothing has happened.
     pub(crate) fn first(role: Role, phase: Phase, own: Announce) -> Self
         ensures { state_of result [] ≡ first_state role phase (announced own) }
     {
@@ -58,7 +58,7 @@ impl Status {
         }
     }
 
-    /// Begins the start-up, of a link that is fresh.
+    /// Begins the start-up of a fresh link.
     pub(crate) fn after_begin(self) -> Reaction
         requires { IsFresh (state_of self []) }
         ensures strikes { result.strikes ≡ 0 }
@@ -72,7 +72,7 @@ impl Status {
         status.emitting(Control::InitA(self.own.window))
     }
 
-    /// Takes up a packet, while so many messages are outstanding.
+    /// Handles a packet, with this many messages outstanding.
     pub(crate) fn after_packet(self, packet: &Packet<'_>, outstanding: usize) -> Reaction
         ensures strikes { result.strikes ≤ outstanding }
         ensures effect { (ms : List (List ℕ)) → length ms ≡ outstanding →
@@ -85,7 +85,7 @@ impl Status {
         }
     }
 
-    /// Takes up that a broken packet was found.
+    /// Handles a broken packet that was found.
     pub(crate) fn after_bad(self) -> Reaction
         ensures strikes { result.strikes ≡ 0 }
         ensures effect { (ms : List (List ℕ))
@@ -170,7 +170,7 @@ impl Status {
         }
     }
 
-    /// Takes up the other end's CLOSE.
+    /// Handles the other end's CLOSE.
     fn after_close(self) -> Reaction
         ensures strikes { result.strikes ≡ 0 }
         ensures effect { (ms : List (List ℕ))
@@ -191,7 +191,7 @@ impl Status {
         }
     }
 
-    /// What goes out again at a timeout.
+    /// Returns what goes out again at a timeout.
     fn repeated(self) -> Emits
         ensures { (ms : List (List ℕ)) →
             emitted_of result (state_of self ms)
@@ -209,7 +209,7 @@ impl Status {
         }
     }
 
-    /// Whether anything goes out at a timeout, of a link that keeps so many messages.
+    /// Returns whether anything goes out at a timeout, on a link with this many outstanding messages.
     pub(crate) fn speaks_when_late(self, outstanding: usize) -> bool
         ensures { (ms : List (List ℕ)) → length ms ≡ outstanding →
             IsTrue result ↔ ((step (state_of self ms) timed_out).emitted ≢ []) }
@@ -251,7 +251,7 @@ impl Status {
         }
     }
 
-    /// The answer of a link that has ended.
+    /// Makes the answer of a link that has ended.
     fn refusing(self) -> Reaction
         ensures strikes { result.strikes ≡ 0 }
         ensures effect { (ms : List (List ℕ))

@@ -3,7 +3,7 @@ ghost use Rattle.uug_link.specs.declared.limits.TheConstants.{TIMEOUTS_MAX};
 
 use crate::limits::TIMEOUTS_MAX;
 
-/// The timeouts in a row without progress.
+/// The number of timeouts in a row without progress.
 #[derive(Clone, Copy)]
 pub(crate) struct Timeouts {
     count: u8,
@@ -17,7 +17,7 @@ impl Timeouts {
         Timeouts { count: 0 }
     }
 
-    /// As many as end a link.
+    /// Makes the number of timeouts that ends a link.
     pub(crate) fn most() -> Self
         ensures { result.count ≡ TIMEOUTS_MAX }
     {
@@ -33,7 +33,7 @@ impl Timeouts {
         self.count
     }
 
-    /// One more, unless that ends the link.
+    /// Returns one more, or none if that ends the link.
     pub(crate) fn next(self) -> Option<Self>
         ensures { MatchOption result (TIMEOUTS_MAX ≤ self.count + 1)
             (λ more. (more.count ≡ self.count + 1) × (self.count + 1 < TIMEOUTS_MAX)) }

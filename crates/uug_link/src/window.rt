@@ -1,4 +1,4 @@
-//! What a link that is up does with the numbers of packets.
+//! The handling of packet numbers on a link that is up.
 
 ghost use Rattle.std.specs.Prelude.{◌≡◌, ℕ, suc, pred, ◌≤◌, nat_lt, if◌then◌else◌, List, [], length, option_map};
 ghost use Rattle.uug_packet.specs.Number.{number_of};
@@ -53,7 +53,7 @@ impl Status {
         }
     }
 
-    /// Takes up the number of a data packet, on a link that is up.
+    /// Handles the number of a data packet, on a link that is up.
     fn after_number(self, number: Seq) -> Reaction
         ensures strikes { result.strikes ≡ 0 }
         ensures effect { (ms : List (List ℕ))
@@ -80,7 +80,7 @@ impl Status {
         }
     }
 
-    /// What is left of a reject where a packet is taken.
+    /// Returns what is left of a reject after a packet is taken.
     fn reject_left_after(self) -> u8
         ensures { result ≡ (if self.own.quiet then pred self.reject_left else 0) }
     {
@@ -91,7 +91,7 @@ impl Status {
         }
     }
 
-    /// Takes up the number of a data packet out of order, at an end that is quiet on repeats.
+    /// Handles the number of a data packet out of order, at an end that is quiet on repeats.
     fn after_repeat(self, number: Seq) -> Reaction
         ensures strikes { result.strikes ≡ 0 }
         ensures effect { (ms : List (List ℕ))
@@ -115,7 +115,7 @@ impl Status {
         }
     }
 
-    /// Whether a repeat has begun anew with a packet, and nothing was taken since the one before it.
+    /// Returns whether a repeat has begun anew with a packet, and nothing was taken since the one before it.
     fn begins_anew(self, number: Seq) -> bool
         ensures { result ≡
             begins_anew (option_map number_of self.passed) (number_of number) (state_of self []) }
@@ -126,7 +126,7 @@ impl Status {
         }
     }
 
-    /// Asks for what follows the packet that was taken last, from a packet out of order on.
+    /// Asks for what follows the packet that was taken last, because of a packet out of order.
     fn asking(self, number: Seq, control: Control) -> Reaction
         ensures strikes { result.strikes ≡ 0 }
         ensures effect { (ms : List (List ℕ)) → effect_of result ms
@@ -140,7 +140,7 @@ impl Status {
         status.emitting(control)
     }
 
-    /// Whether the reject that has gone out is enough for a broken packet too.
+    /// Returns whether the reject that has gone out is enough for a broken packet too.
     pub(crate) fn has_enough(self) -> bool
         ensures { result ≡
             (if self.own.quiet then nat_lt (number_of self.own.window) self.reject_left else nat_lt 0 self.reject_left) }
@@ -152,7 +152,7 @@ impl Status {
         }
     }
 
-    /// How many packets have to be taken behind a reject until all that is repeated for it has passed.
+    /// Returns how many packets have to be taken after a reject until everything repeated for it has passed.
     fn until_over(self) -> u8
         ensures { result ≡ suc (number_of self.own.window) }
     {

@@ -2,13 +2,13 @@ ghost use Rattle.std.specs.Prelude.{◌≡◌, ◌<◌, ◌==◌, ◌||◌, nat_
 ghost use Rattle.uug_packet.specs.Checksum.{check};
 ghost use Rattle.uug_packet.specs.Spelling.{checksum_of};
 
-/// What the check of a field begins with.
+/// The start value of a field's check.
 pub const CHECK_START: u16 = 0xffff;
 
-/// What a checksum is taken from.
+/// The value from which a checksum is subtracted.
 pub const CHECKSUM_BASE: u16 = 0xaaaa;
 
-/// The check of a field's bytes, all of them, padding too.
+/// Returns the check of all bytes of a field, padding included.
 ///
 /// Taylor UUCP manual, "UUCP 'g' Protocol".
 #[tactic(auto, unfolding(crate::specs::Checksum::check))]
@@ -30,16 +30,16 @@ pub fn check(field: &[u8]) -> u16
     check
 }
 
-/// Whether a byte mixes the second register in: it is 0, or the addition wrapped. One test tells both, as a zero less one is
-/// the greatest number.
+/// Returns whether a byte mixes the second register in: it is 0, or the addition wrapped. One test covers both,
+/// because zero minus one is the greatest number.
 fn mixes(byte: u8, check: u16) -> bool
     ensures { result ≡ (byte == 0 || nat_lt check byte) }
 {
     check <= u16::from(byte).wrapping_sub(1)
 }
 
-/// The check with the second register mixed in. Few bytes ask for it. It is a call, so that the processor guesses that a byte
-/// does not, and goes on to the next: otherwise each byte would wait for both registers.
+/// Returns the check with the second register mixed in. Few bytes need it. It is a call, so that the processor guesses
+/// that a byte does not need it, and goes on to the next. Otherwise each byte would wait for both registers.
 #[cold]
 #[inline(never)]
 fn mixed_into(check: u16, mixed: u16) -> u16
@@ -48,7 +48,7 @@ fn mixed_into(check: u16, mixed: u16) -> u16
     check ^ mixed
 }
 
-/// The checksum that a header carries: `0xaaaa` less the number.
+/// Returns the checksum that a header carries: `0xaaaa` minus the number.
 pub fn checksum_of(n: u16) -> u16
     ensures { result ≡ checksum_of n }
 {

@@ -5,7 +5,7 @@ use crate::number::Seq;
 pub enum Control {
     /// The link ends.
     Close,
-    /// A reject: the number of the last packet correctly received. All behind it is to be sent again.
+    /// A reject: the number of the last packet correctly received. All packets after it are to be sent again.
     Rj(Seq),
     /// A selective reject: the number of the one packet to be sent again.
     Srj(Seq),
@@ -13,7 +13,7 @@ pub enum Control {
     Rr(Seq),
     /// The greatest window to use, at the end of the start-up.
     InitC(Seq),
-    /// Asks for packets of the size `2^(y+5)`, y being the number.
+    /// A request for packets of the size `2^(y+5)`, where y is the number.
     InitB(Seq),
     /// The greatest window to use, at the beginning of the start-up.
     InitA(Seq),

@@ -12,16 +12,16 @@ use crate::number::Seq;
 use crate::packet::Packet;
 use thiserror::Error;
 
-/// Why no packet stands at the front of some bytes.
+/// The reason why bytes do not begin with a packet.
 #[derive(Clone, Copy, Debug, PartialEq, Eq, Error)]
 pub enum NoPacket {
-    /// More bytes are needed to tell.
+    /// More bytes are needed to decide.
     #[error("more bytes are needed")]
     Short,
     /// The first byte is not 0x10.
     #[error("no packet begins here")]
     BadStart,
-    /// K is none of a packet.
+    /// K is not that of any packet.
     #[error("bad size code")]
     BadK,
     /// The last byte of the header is not the exclusive or of the four before it.
@@ -30,15 +30,15 @@ pub enum NoPacket {
     /// The control byte fits no packet of this K.
     #[error("bad control byte")]
     BadKind,
-    /// The checksum is another one.
+    /// The checksum is wrong.
     #[error("bad checksum")]
     BadSum,
-    /// A short field says that it has more missing bytes than there are, or none.
+    /// A short field says that more bytes are missing than it has, or none.
     #[error("bad length")]
     BadLength,
 }
 
-/// The control packet that a control byte says.
+/// Returns the control packet for a control byte.
 fn control_of(byte: u8) -> Option<Control>
     ensures { MatchOption result (control_of byte ≡ None) (λ c.
         control_of byte ≡ Some (shown_control c)) }
@@ -56,12 +56,13 @@ fn control_of(byte: u8) -> Option<Control>
     }
 }
 
-/// The packet at the front of the bytes, and how many of them it takes. Bytes may follow it.
+/// Reads the packet at the front of the bytes, and returns it with the number of bytes that it takes. Bytes may follow
+/// it.
 ///
-/// The tests come in this order: nothing is `Short`, a first byte other than 0x10 `BadStart`, fewer bytes
-/// than a header `Short`; then `BadK`, `BadXor`, `BadKind`. A control packet is then tested for `BadSum`; of a
-/// data packet an incomplete field is `Short`, and then come `BadSum` and `BadLength`. The message is a slice of
-/// the bytes.
+/// The tests come in this order. No bytes are `Short`, a first byte other than 0x10 is `BadStart`, and fewer bytes
+/// than a header are `Short`. Then come `BadK`, `BadXor`, `BadKind`. A control packet is then tested for `BadSum`. For
+/// a data packet an incomplete field is `Short`, and then come `BadSum` and `BadLength`. The message is a slice of the
+/// bytes.
 ///
 /// Taylor UUCP manual, "UUCP 'g' Protocol".
 pub fn decode(bytes: &[u8]) -> Result<(Packet<'_>, usize), NoPacket>

@@ -16,7 +16,7 @@ use arrayvec::ArrayVec;
 
 /// Writes the packet: `out` then holds its canonical spelling and nothing else.
 ///
-/// Of a data packet, `k` is 1 to 8 and the message has at most `2^(k+4)` bytes.
+/// In a data packet, `k` is 1 to 8 and the message has at most `2^(k+4)` bytes.
 pub fn encode(packet: &Packet<'_>, out: &mut ArrayVec<u8, PACKET_MAX>)
     requires { IsWritable (shown packet.now) }
     ensures canonical { out.new.items ≡ canonical (shown packet.now) }
@@ -33,7 +33,7 @@ pub fn encode(packet: &Packet<'_>, out: &mut ArrayVec<u8, PACKET_MAX>)
     }
 }
 
-/// Changes the acknowledgement of the data packet that is written in the vector, and so its header alone.
+/// Changes the acknowledgement of the data packet that is written in the vector. Only its header changes.
 pub fn re_ack(written: &mut ArrayVec<u8, PACKET_MAX>, ack: Seq)
     requires { IsWrittenCarry written.old.items }
     ensures { (seq old k : ℕ) (message : List ℕ) → IsWellFormed (carry seq old k message) →
@@ -44,7 +44,7 @@ pub fn re_ack(written: &mut ArrayVec<u8, PACKET_MAX>, ack: Seq)
     set_header(header.acknowledging(ack), written);
 }
 
-/// The control packet as it is written: `encode` with no vector.
+/// Returns the control packet as written: `encode` without a vector.
 pub fn control_packet(packet: Control) -> [u8; HEADER_SIZE]
     ensures { result ≡ canonical (control (shown_control packet)) }
 {
@@ -87,7 +87,7 @@ fn encode_data(seq: Seq, ack: Seq, k: u8, message: &[u8], out: &mut ArrayVec<u8,
     set_header(header, out);
 }
 
-/// Leaves the place of the header, which is known last.
+/// Clears the vector, and leaves room for the header, which is known last.
 fn clear_for_header(out: &mut ArrayVec<u8, PACKET_MAX>)
     ensures { out.new.items ≡ replicate HEADER_SIZE 0 }
 {
@@ -95,7 +95,7 @@ fn clear_for_header(out: &mut ArrayVec<u8, PACKET_MAX>)
     append(&[0; HEADER_SIZE], out);
 }
 
-/// Puts the header in the place of the first bytes.
+/// Writes the header over the first bytes.
 #[tactic(auto, using(crate::proofs::EncodeLemmas::refill_whole))]
 fn set_header(header: Header, out: &mut ArrayVec<u8, PACKET_MAX>)
     requires { HEADER_SIZE ≤ array_vec_len out.old }
@@ -104,7 +104,7 @@ fn set_header(header: Header, out: &mut ArrayVec<u8, PACKET_MAX>)
     header.write(out.as_mut_slice());
 }
 
-/// The field that holds the message, with zeros as padding.
+/// Appends the field that holds the message, with zeros as padding.
 fn append_field(size: usize, message: &[u8], out: &mut ArrayVec<u8, PACKET_MAX>)
     requires fits { length message.now ≤ size }
     requires room { array_vec_len out.old + size ≤ PACKET_MAX }
@@ -126,7 +126,7 @@ fn append_zeros(count: usize, out: &mut ArrayVec<u8, PACKET_MAX>)
     }
 }
 
-/// How many bytes of a field are missing, where any are, and how many bytes say so.
+/// Appends the number of missing bytes of a field, if any are missing. Returns how many bytes that took.
 fn append_front(missing: usize, out: &mut ArrayVec<u8, PACKET_MAX>) -> usize
     requires few { missing < 2 ^ 15 }
     requires room { array_vec_len out.old + 2 ≤ PACKET_MAX }

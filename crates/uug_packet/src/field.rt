@@ -8,19 +8,19 @@ ghost use Rattle.uug_packet.specs.Spelling.{IsSpelling};
 use crate::decoding::NoPacket;
 use crate::header::{CONTROL_PLACE, HEADER_SIZE};
 
-/// The greatest code of a field's size; the least is 1.
+/// The greatest code of a field's size. The least is 1.
 pub const FIELD_CODE_MAX: u8 = 8;
 
-/// The bytes of the smallest field.
+/// The size of the smallest field in bytes.
 pub const FIELD_MIN: usize = 32;
 
-/// The bytes of the largest field.
+/// The size of the largest field in bytes.
 pub const FIELD_MAX: usize = 4096;
 
-/// The greatest number of missing bytes that one byte says.
+/// The greatest number of missing bytes that one byte can say.
 pub const ONE_BYTE_MAX: u8 = 127;
 
-/// How a field holds its message.
+/// The way in which a field holds its message.
 #[derive(Clone, Copy)]
 pub enum FieldKind {
     /// The whole field is valid.
@@ -29,7 +29,7 @@ pub enum FieldKind {
     Short,
 }
 
-/// The bytes of a field, by its code: `2^(k+4)`. A code is 1 to 8.
+/// Returns the size of a field in bytes, by its code: `2^(k+4)`. A code is 1 to 8.
 ///
 /// Taylor UUCP manual, "UUCP 'g' Protocol".
 pub fn field_size(k: u8) -> usize
@@ -42,7 +42,7 @@ pub fn field_size(k: u8) -> usize
     1 << (k + 4)
 }
 
-/// The code of the smallest field that holds so many bytes.
+/// Returns the code of the smallest field that holds this many bytes.
 ///
 /// Taylor UUCP manual, "UUCP 'g' Protocol".
 pub fn field_code(len: usize) -> u8
@@ -59,7 +59,7 @@ pub fn field_code(len: usize) -> u8
     code
 }
 
-/// The kind of field that the control byte of a data packet says.
+/// Returns the kind of field that the control byte of a data packet says.
 pub fn kind_of(control: u8) -> Option<FieldKind>
     ensures { result ≡ kind_of control }
 {
@@ -70,8 +70,8 @@ pub fn kind_of(control: u8) -> Option<FieldKind>
     }
 }
 
-/// Where the message begins in the bytes of a data packet: behind the header, and in a short field behind what says how
-/// many of its bytes are missing.
+/// Returns the place where the message begins in the bytes of a data packet. It follows the header. In a short field
+/// it follows the bytes that say how many bytes are missing.
 ///
 /// Taylor UUCP manual, "UUCP 'g' Protocol".
 pub fn message_start(packet: &[u8]) -> usize
@@ -87,14 +87,14 @@ pub fn message_start(packet: &[u8]) -> usize
     }
 }
 
-/// How many bytes at the front of a short field say how many of its bytes are missing, by the first of them.
+/// Returns how many bytes at the front of a short field say the number of missing bytes, by the first of them.
 fn front_size(first: u8) -> usize
     ensures { result ≡ front_size first }
 {
     if first <= ONE_BYTE_MAX { 1 } else { 2 }
 }
 
-/// How many bytes of a short field are missing.
+/// Returns the number of missing bytes of a short field.
 fn missing_in(field: &[u8]) -> usize
     requires { FIELD_MIN ≤ length field.now }
     ensures { result ≡ missing_in field.now }
@@ -105,7 +105,7 @@ fn missing_in(field: &[u8]) -> usize
     }
 }
 
-/// The valid bytes of a field.
+/// Returns the valid bytes of a field.
 pub fn message_of(kind: FieldKind, field: &[u8]) -> Result<&[u8], NoPacket>
     requires { FIELD_MIN ≤ length field.now }
     ensures { MatchResult result
@@ -118,7 +118,8 @@ pub fn message_of(kind: FieldKind, field: &[u8]) -> Result<&[u8], NoPacket>
     }
 }
 
-/// What stands behind the front of a short field, less by the missing bytes than the whole field.
+/// Returns the message of a short field: the bytes after its front, as many as the field's size minus the missing
+/// bytes.
 fn valid_bytes(field: &[u8], front: usize, missing: usize) -> Result<&[u8], NoPacket>
     ensures { MatchResult result
         (λ message. valid_bytes field.now front missing ≡ Ok message.now)

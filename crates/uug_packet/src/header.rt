@@ -8,31 +8,31 @@ use crate::decoding::NoPacket;
 use crate::number::Seq;
 use byteorder::{ByteOrder, LittleEndian};
 
-/// The byte that each packet begins with, DLE.
+/// The byte at the start of each packet, DLE.
 pub const START: u8 = 0x10;
 
-/// The bytes of a header, and so of a control packet.
+/// The size of a header in bytes, and so of a control packet.
 pub const HEADER_SIZE: usize = 6;
 
-/// Where the control byte stands in a header.
+/// The place of the control byte in a header.
 pub const CONTROL_PLACE: usize = 4;
 
-/// K of a control packet.
+/// The K of a control packet.
 pub const CONTROL_K: u8 = 9;
 
-/// What a header says.
+/// The fields of a packet's header.
 #[derive(Clone, Copy)]
 pub struct Header {
     /// 1 to 8 in a data packet, 9 in a control packet.
     pub k: u8,
-    /// Of the control byte, and in a data packet of the field.
+    /// The checksum of the control byte, and in a data packet of the field.
     pub checksum: u16,
     /// The kind of packet, and two numbers.
     pub control: u8,
 }
 
 impl Header {
-    /// The header at the front of the bytes, with K and the exclusive or tested.
+    /// Reads the header at the front of the bytes, and tests K and the exclusive or.
     #[tactic(auto, unfolding(crate::specs::Decoded::header_at))]
     pub fn read(bytes: &[u8]) -> Result<Self, NoPacket>
         ensures exact { MatchResult result
@@ -61,7 +61,7 @@ impl Header {
         }
     }
 
-    /// The header in the first bytes, with nothing tested: they are those of a packet.
+    /// Reads the header in the first bytes of a packet, and tests nothing.
     pub fn at(bytes: &[u8]) -> Self
         requires { HEADER_SIZE ≤ length bytes.now }
         ensures code { result.k ≡ slice_index bytes.now 1 }
@@ -76,9 +76,9 @@ impl Header {
         }
     }
 
-    /// The header of the same data packet with another acknowledgement.
+    /// Returns the header of the same data packet with another acknowledgement.
     ///
-    /// The checksum is taken from the check of the field mixed with the control byte, so that the check is had from it
+    /// The checksum is taken from the check of the field mixed with the control byte, so the check follows from it
     /// without the field.
     pub fn acknowledging(self, ack: Seq) -> Self
         ensures code { result.k ≡ self.k }
@@ -96,7 +96,7 @@ impl Header {
         }
     }
 
-    /// Writes the header in the place of the first bytes.
+    /// Writes the header over the first bytes.
     pub fn write(self, bytes: &mut [u8])
         requires { HEADER_SIZE ≤ length bytes.old }
         ensures written { bytes.new ≡ header_of self ++ drop HEADER_SIZE bytes.old }

@@ -1,4 +1,4 @@
-//! Laws of the packets: each is the contract of a function that does nothing.
+//! Laws of the packets. Each is the contract of a function that does nothing.
 
 ghost use Rattle.std.specs.Prelude.{◌≡◌, ℕ, ◌<◌, ◌≤◌, List, ◌++◌, length, take, Ok, Err, ◌⊎◌};
 ghost use Rattle.uug_packet.specs.declared.packet.TheConstants.{PACKET_MAX};
@@ -12,26 +12,26 @@ ghost use Rattle.uug_packet.specs.WellFormed.{IsWellFormed};
 
 use crate::decoding::NoPacket;
 
-/// The limit of a packet, in numbers. Bytes that wait are fewer.
+/// States the limit of a packet in numbers. Waiting bytes are fewer.
 pub fn limits()
     ensures packet { PACKET_MAX ≡ 4102 }
     ensures waits { (s : List ℕ) → Waits s → length s < PACKET_MAX }
 {}
 
-/// No spelling is a prefix of a different spelling, and no list of bytes spells two packets.
+/// States that no spelling is a prefix of a different spelling, and that no list of bytes spells two packets.
 pub fn one_spelling()
     ensures { (p q : PacketValue) (w v x y : List ℕ) →
         IsSpelling p w → IsSpelling q v → w ++ x ≡ v ++ y → (p ≡ q) × (w ≡ v) }
 {}
 
-/// The spelling that is written is one. So what was written is read again, whatever follows it.
+/// States that the written bytes are a spelling. So they are read back, whatever follows them.
 pub fn written_is_read()
     ensures spelled { (p : PacketValue) (w : List ℕ) → IsSpelling p w → IsSpelling p (canonical p) }
     ensures read { (p : PacketValue) (w rest : List ℕ) → IsSpelling p w →
         decoded (canonical p ++ rest) ≡ Ok (p, length (canonical p)) }
 {}
 
-/// What is read of a packet's bytes with no check is its message.
+/// States that reading a packet's bytes with no check gives its message.
 pub fn messages_are_read()
     ensures spelled { (p : PacketValue) (w : List ℕ) → IsSpelling p w
         → message_in w ≡ message_if_data p }
@@ -39,7 +39,8 @@ pub fn messages_are_read()
         → message_in (canonical p) ≡ message_if_data p }
 {}
 
-/// What is spelled or read is a well-formed packet, and each well-formed one is written and read again.
+/// States that a packet that is spelled or read is well-formed, and that each well-formed packet is written and read
+/// back.
 pub fn packets_are_well_formed()
     ensures spelled { (p : PacketValue) (w : List ℕ) → IsSpelling p w → IsWellFormed p }
     ensures decoded { (s : List ℕ) (p : PacketValue) (n : ℕ) → decoded s ≡ Ok (p, n)
@@ -49,7 +50,8 @@ pub fn packets_are_well_formed()
         → decoded (canonical p) ≡ Ok (p, length (canonical p)) }
 {}
 
-/// The function of the tests in their order agrees with the spellings, with bytes that wait and with broken ones.
+/// States that the function of the tests in their order agrees with the spellings, with waiting bytes and with broken
+/// ones.
 pub fn decoded_is_spelled()
     ensures read { (p : PacketValue) (w rest : List ℕ) → IsSpelling p w
         → decoded (w ++ rest) ≡ Ok (p, length w) }
@@ -63,7 +65,7 @@ pub fn decoded_is_spelled()
         → IsBroken s }
 {}
 
-/// What is settled by some bytes stays so when more follow: only bytes that wait can still become a packet.
+/// States that a decided case stays decided when more bytes follow. Only waiting bytes can still become a packet.
 pub fn waiting_is_undecided()
     // The front of bytes that wait waits, and so does each spelling that is cut.
     ensures shorter { (s t : List ℕ) → Waits (s ++ t) → Waits s }
@@ -73,7 +75,8 @@ pub fn waiting_is_undecided()
     ensures packet { (p : PacketValue) (w t : List ℕ) → IsSpelling p w → Waits (w ++ t) → ⊥ }
     ensures broken { (s : List ℕ) → IsBroken s → Waits s → ⊥ }
     ensures longer { (s t : List ℕ) → IsBroken s → IsBroken (s ++ t) }
-    // Where bytes begin with a packet, their front waits or begins with it. A front that doesn't wait is broken where they are.
+    // Where bytes begin with a packet, their front waits or begins with it. A front that doesn't wait is broken where
+    // they are.
     ensures front { (p : PacketValue) (w more s t : List ℕ) → IsSpelling p w → s ++ t ≡ w ++ more →
         Waits s ⊎ ((others : List ℕ) × (s ≡ w ++ others)) }
     ensures settled { (s t : List ℕ) → (Waits s → ⊥) → IsBroken (s ++ t) → IsBroken s }

@@ -11,9 +11,9 @@ use crate::header::{CONTROL_PLACE, HEADER_SIZE, Header};
 use crate::number::Seq;
 use crate::packet::Packet;
 
-/// The message of a packet that was written or found, read with no check of the field. A control packet has none.
+/// Reads the message of a packet that was written or found, with no check of the field. A control packet has none.
 ///
-/// Of bytes that are no packet it may return anything that lies in them, or nothing.
+/// For bytes that are no packet it may return any of their bytes, or nothing.
 ///
 /// Taylor UUCP manual, "UUCP 'g' Protocol".
 pub fn message_in(packet: &[u8]) -> Option<&[u8]>
@@ -40,8 +40,8 @@ fn read_message(packet: &[u8]) -> Option<&[u8]>
     }
 }
 
-/// Whether the bytes, which are those of some packet as it is written, are those of this one. Nothing is written and no
-/// check computed for it.
+/// Returns whether the bytes, which spell some packet as written, are those of this one. It writes nothing and
+/// computes no check.
 pub fn is_written(packet: &Packet<'_>, bytes: &[u8]) -> bool
     requires packet { IsWritable (shown packet.now) }
     requires bytes { IsWritten bytes.now }
@@ -58,7 +58,7 @@ pub fn is_written(packet: &Packet<'_>, bytes: &[u8]) -> bool
     }
 }
 
-/// Whether the header has this code and these numbers, and the field this message.
+/// Returns whether the header has this code and these numbers, and the field this message.
 fn says_carry(bytes: &[u8], seq: Seq, ack: Seq, k: u8, message: &[u8]) -> bool
     requires { HEADER_SIZE ≤ length bytes.now }
     ensures { IsTrue result ↔ ((slice_index bytes.now 1 ≡ k)

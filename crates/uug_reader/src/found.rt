@@ -1,10 +1,10 @@
 use uug_packet::Packet;
 
-/// What is found in a stream.
+/// An item found in a stream.
 #[derive(Clone, Copy, Debug, PartialEq, Eq)]
 pub enum Found<'a> {
-    /// A packet, whose message is a slice of what the reader holds.
+    /// A packet. Its message is a slice of the bytes that the reader holds.
     Packet(Packet<'a>),
-    /// A data packet is complete here, but its checksum or its field is wrong.
+    /// A complete data packet with a wrong checksum or a wrong field.
     Bad,
 }

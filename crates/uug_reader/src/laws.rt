@@ -1,4 +1,4 @@
-//! Laws of the cut and the scan of a stream, and of a reader: each is the contract of a function that does nothing.
+//! Laws of the cut and the scan of a stream, and of a reader. Each is the contract of a function that does nothing.
 ghost use Rattle.std.specs.Prelude.{◌≡◌, ℕ, ◌+◌, ◌≤◌, ◌↔◌, List, [], ◌∷◌, ◌++◌, length, drop};
 ghost use Rattle.uug_packet.specs.Bytes.{AreBytes};
 ghost use Rattle.uug_packet.specs.Packet.{PacketValue};
@@ -12,12 +12,12 @@ ghost use Rattle.uug_reader.specs.Reading.{Reading, fresh, Shows};
 ghost use Rattle.uug_reader.specs.Scan.{Finds, IsScan};
 ghost use Rattle.uug_reader.specs.Search.{search_of, standing, waiting};
 
-/// The limit of a reader, in numbers.
+/// States the limit of a reader in numbers.
 pub fn limits()
     ensures { READER_SIZE ≡ 4102 }
 {}
 
-/// Each stream of bytes is cut in one way: into these parts and this rest, and no others.
+/// States that each stream of bytes is cut in one way: into these parts and this rest, and no others.
 pub fn one_cut()
     ensures some { (s : List ℕ) → AreBytes s
         → (parts : List Part) × (rest : List ℕ) × IsCut s parts rest }
@@ -25,7 +25,7 @@ pub fn one_cut()
         IsCut s parts rest → IsCut s others other → (parts ≡ others) × (rest ≡ other) }
 {}
 
-/// Each stream of bytes has one scan: these items and this rest, and no others.
+/// States that each stream of bytes has one scan: these items and this rest, and no others.
 pub fn one_scan()
     ensures some { (s : List ℕ) → AreBytes s
         → (items : List Item) × (rest : List ℕ) × IsScan s items rest }
@@ -33,8 +33,9 @@ pub fn one_scan()
         IsScan s items rest → IsScan s others other → (items ≡ others) × (rest ≡ other) }
 {}
 
-/// It doesn't matter where a stream is cut into pieces. The items of the first piece are those of the whole stream,
-/// whose others are those of the rest of the first piece and the bytes behind it. The parts are so too.
+/// States that it doesn't matter where a stream is cut into pieces. The items of the first piece are the first of the
+/// whole stream. The others are those of the rest of the first piece and the bytes after it. The same holds for the
+/// parts.
 pub fn scan_in_pieces()
     ensures scan { (s t rest last : List ℕ) (items more : List Item) →
         IsScan s items rest → IsScan (rest ++ t) more last → IsScan (s ++ t) (items ++ more) last }
@@ -42,7 +43,8 @@ pub fn scan_in_pieces()
         IsCut s parts rest → IsCut (rest ++ t) more last → IsCut (s ++ t) (parts ++ more) last }
 {}
 
-/// Noise, an item, and the scan of what is behind it are the scan of the whole. So are noise and a rest that waits.
+/// States that noise, an item, and the scan of the bytes after it are the scan of the whole. So are noise and a rest
+/// that waits.
 pub fn scan_from_the_first()
     ensures item { (s others rest : List ℕ) (item : Item) (n : ℕ) (items : List Item) →
         PassesNoise s others → StandsFirst item n others → IsScan (drop n others) items rest →
@@ -50,8 +52,8 @@ pub fn scan_from_the_first()
     ensures rest { (s rest : List ℕ) → PassesNoise s rest → Waits rest → IsScan s [] rest }
 {}
 
-/// What is found from the front of some bytes, step by step: nothing yet, an item that stands first, and more behind what
-/// was found. It is found as well where more bytes follow. Each item takes at least a byte.
+/// States the steps by which items are found at the front of some bytes: nothing yet, a first item, and more after
+/// those found. They are also found if more bytes follow. Each item takes at least a byte.
 pub fn found_in_steps()
     ensures none { (s : List ℕ) → Finds s [] s }
     ensures item { (s : List ℕ) (item : Item) (n : ℕ) → StandsFirst item n s
@@ -64,14 +66,14 @@ pub fn found_in_steps()
         → length others + length items ≤ length s }
 {}
 
-/// The items of two lists of parts, one behind the other, are those of the one and then those of the other.
+/// States that the items of two joined lists of parts are those of the first list and then those of the second.
 pub fn items_joined()
     ensures { (parts more : List Part)
         → items_of (parts ++ more) ≡ items_of parts ++ items_of more }
 {}
 
-/// What stands first still does with more bytes after it, and is found again: a further search skips no byte and finds
-/// the same item, and it never finds that there is none.
+/// States that a first item remains the first with more bytes after it, and is found again. A further search skips no
+/// byte and finds the same item. It never finds that there is none.
 pub fn found_again()
     ensures first { (s t : List ℕ) (item : Item) (n : ℕ) → StandsFirst item n s
         → StandsFirst item n (s ++ t) }
@@ -82,7 +84,7 @@ pub fn found_again()
         StandsFirst item n s → FindsNothing (s ++ t) → ⊥ }
 {}
 
-/// The search as a function gives just what stands first behind noise, or the rest that waits there.
+/// States that the search, as a function, gives exactly the first item after noise, or the rest that waits there.
 pub fn search_finds_the_first()
     ensures item { (s others : List ℕ) (item : Item) (n : ℕ) → AreBytes s →
         (search_of s ≡ standing item n others) ↔ (PassesNoise s others
@@ -91,14 +93,14 @@ pub fn search_finds_the_first()
         → (search_of s ≡ waiting rest) ↔ (PassesNoise s rest × Waits rest) }
 {}
 
-/// What the search finds as a packet is a well-formed one, whatever the stream.
+/// States that a packet that the search finds is well-formed, whatever the stream.
 pub fn found_packets_are_well_formed()
     ensures { (s others : List ℕ) (p : PacketValue) (n : ℕ)
         → search_of s ≡ standing (found p) n others → IsWellFormed p }
 {}
 
-/// Whatever calls a reader had since it was made or cleared, the items that it dropped are the first of the
-/// scan of all bytes that it accepted, and the others are those of the scan of what it holds.
+/// States that the items that a reader dropped are the first of the scan of all bytes that it accepted. The others are
+/// those of the scan of the bytes that it holds. This holds whatever calls it had since it was made or cleared.
 pub fn dropped_are_first()
     ensures finds { (calls : List Call) (now : Reading) →
         Make calls fresh now → Finds (all_accepted calls) (all_dropped calls) now.bytes }
@@ -108,7 +110,8 @@ pub fn dropped_are_first()
         (later : List Item) × IsScan now.bytes later rest × (items ≡ all_dropped calls ++ later) }
 {}
 
-/// The item that is shown stays so, whatever is pushed, searched and shown, until it is dropped, and just that item is.
+/// States that the item shown stays until it is dropped, whatever is pushed, searched and shown. Exactly that item is
+/// dropped.
 pub fn shown_is_dropped()
     ensures stays { (item : Item) (calls : List Call) (old new : Reading) →
         Shows item old → Make calls old new → all_dropped calls ≡ [] → Shows item new }

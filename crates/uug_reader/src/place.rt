@@ -1,4 +1,4 @@
-//! Where an item lies among the bytes that it stands first in.
+//! The place of an item among the bytes at whose front it lies.
 ghost use Rattle.std.specs.Prelude.{◌≡◌};
 ghost use Rattle.uug_reader.specs.Code.Place.{item_beside};
 ghost use Rattle.uug_reader.specs.Shown.{item_of};
@@ -7,24 +7,25 @@ use crate::found::Found;
 use arrayvec::ArrayVec;
 use uug_packet::{Control, PACKET_MAX, Packet, Seq};
 
-/// Where the message of the item shown is laid, since a ring may hold it in two pieces. It has room for a whole packet.
+/// The buffer for the message of the item shown, because a ring may hold it in two pieces. It has room for a whole
+/// packet.
 pub type Beside = ArrayVec<u8, PACKET_MAX>;
 
-/// The item that stands first.
+/// The first item.
 #[derive(Clone, Copy)]
 pub struct Standing {
-    /// What it is, and where its message lies.
+    /// The item and the place of its message.
     pub place: Place,
-    /// How many bytes it takes.
+    /// The number of bytes that it takes.
     pub size: usize,
 }
 
-/// An item, by where its message lies.
+/// An item, with the place of its message.
 #[derive(Clone, Copy)]
 pub enum Place {
     /// A control packet, which has no message.
     Control(Control),
-    /// A data packet, and from where to where its message lies, counted from the item's first byte.
+    /// A data packet, and the start and end of its message, counted from the item's first byte.
     Data {
         seq: Seq,
         ack: Seq,
@@ -35,7 +36,7 @@ pub enum Place {
     Bad,
 }
 
-/// The item of that place, with the message laid beside.
+/// Returns the item of this place. `beside` holds its message.
 pub fn show(beside: &[u8], place: Place) -> Found<'_>
     ensures { item_of result ≡ item_beside place beside.now }
 {

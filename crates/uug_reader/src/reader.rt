@@ -8,18 +8,18 @@ use std::alloc::{AllocError, Allocator, Global};
 use std::marker::Model;
 use uug_packet::PACKET_MAX;
 
-/// How many bytes a reader holds at most: the longest packet.
+/// The most bytes that a reader holds: the longest packet.
 pub const READER_SIZE: usize = PACKET_MAX;
 
-/// Finds packets in a stream of bytes that comes in pieces. It gives the same packets wherever the stream is
-/// cut into pieces.
+/// A reader that finds packets in a stream of bytes that comes in pieces. It gives the same packets wherever the
+/// stream is cut into pieces.
 #[derive(Drop)]
 pub struct Reader<A: Allocator = Global> {
     /// The bytes held.
     ring: HeapCircularBuffer<u8, A>,
     /// The message of the item shown.
     beside: Beside,
-    /// The item shown, which stands first among the bytes held.
+    /// The item shown, which is the first in the held bytes.
     shown: Option<Standing>,
 }
 
@@ -45,7 +45,7 @@ impl<A: Allocator> Reader<A> {
     ghost use Rattle.uug_reader.specs.Search.{after_search};
     ghost use Rattle.uug_reader.specs.Shown.{item_of};
 
-    /// A reader that holds nothing. No other call takes memory.
+    /// Makes a reader that holds nothing. No other call takes memory.
     pub fn new(alloc: A) -> Result<Self, AllocError>
         ensures bytes { IfOk result (λ reader. reader.bytes ≡ []) }
         ensures shown { IfOk result (λ reader. reader.shown_size ≡ 0) }
@@ -57,7 +57,7 @@ impl<A: Allocator> Reader<A> {
         })
     }
 
-    /// Appends the first bytes that fit, and says how many. The item shown stays.
+    /// Appends the first bytes that fit, and returns their number. The item shown stays.
     pub fn push(&mut self, piece: &[u8]) -> usize
         ensures count { result ≡ min (READER_SIZE - length self.old.bytes) (length piece.now) }
         ensures bytes { self.new.bytes ≡ self.old.bytes ++ take result piece.now }
@@ -66,8 +66,8 @@ impl<A: Allocator> Reader<A> {
         self.ring.fill_from_slice(piece)
     }
 
-    /// Drops what is no part of an item from the front, up to the first item, and says whether there is one. That
-    /// item is shown until it is dropped. Where there is none, at least one byte fits.
+    /// Drops bytes that are no part of an item from the front, up to the first item. Returns whether there is one.
+    /// That item is shown until it is dropped. If there is none, at least one byte fits.
     #[tactic(auto, using(crate::proofs::FindingLemmas::waiting_fits))]
     pub fn search(&mut self) -> bool
         ensures passes { PassesNoise self.old.bytes self.new.bytes }
@@ -81,7 +81,7 @@ impl<A: Allocator> Reader<A> {
         first.is_some()
     }
 
-    /// The item shown, which stands first among the bytes held.
+    /// Returns the item shown, which is the first in the held bytes.
     pub fn showing(&self) -> Option<Found<'_>>
         ensures { MatchOption result (self.now.shown_size ≡ 0) (λ found.
             Shows (item_of found) self.now) }
@@ -101,7 +101,7 @@ impl<A: Allocator> Reader<A> {
         self.showing()
     }
 
-    /// Takes away the item that is shown: the bytes of a packet, or one byte where it is bad.
+    /// Removes the item shown: the bytes of a packet, or one byte if it is bad.
     pub fn drop_found(&mut self)
         requires { 0 < self.old.shown_size }
         ensures item { (item : Item) × StandsFirst item self.old.shown_size self.old.bytes }
@@ -113,7 +113,7 @@ impl<A: Allocator> Reader<A> {
         }
     }
 
-    /// How many bytes are held.
+    /// Returns the number of held bytes.
     pub fn waiting(&self) -> usize
         ensures len { result ≡ length self.now.bytes }
         ensures most { result ≤ READER_SIZE }
@@ -121,7 +121,7 @@ impl<A: Allocator> Reader<A> {
         self.ring.len()
     }
 
-    /// Takes all bytes away.
+    /// Removes all bytes.
     pub fn clear(&mut self)
         ensures bytes { self.new.bytes ≡ [] }
         ensures shown { self.new.shown_size ≡ 0 }

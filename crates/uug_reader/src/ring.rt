@@ -13,8 +13,8 @@ use circular_buffer::HeapCircularBuffer;
 use std::alloc::Allocator;
 use uug_packet::PACKET_MAX;
 
-/// What stands first: the item that is shown, or else what a search finds. The noise in front is dropped, and the
-/// message of what is found is laid beside.
+/// Returns the first item: the one shown, or else the one that a search finds. The search drops the noise before it,
+/// and copies its message into `beside`.
 pub fn find_first<A: Allocator>(
     ring: &mut HeapCircularBuffer<u8, A>,
     beside: &mut Beside,
@@ -37,7 +37,7 @@ pub fn find_first<A: Allocator>(
     search.first
 }
 
-/// Drops the first bytes, so many.
+/// Drops the first `count` bytes.
 pub fn drop_front<A: Allocator>(ring: &mut HeapCircularBuffer<u8, A>, count: usize)
     requires { count ≤ length ring.old.items }
     ensures { ring.new ≡ buffer (drop count ring.old.items) ring.old.capacity }
@@ -45,7 +45,7 @@ pub fn drop_front<A: Allocator>(ring: &mut HeapCircularBuffer<u8, A>, count: usi
     ring.truncate_front(ring.len() - count);
 }
 
-/// What a ring of bytes holds are bytes, for the proofs here.
+/// Reads a ring's pieces, to show the proofs here that they are bytes.
 fn are_bytes<A: Allocator>(ring: &HeapCircularBuffer<u8, A>)
     ensures { AreBytes ring.now.items }
 {
@@ -57,7 +57,7 @@ fn pieces_are_bytes(front: &[u8], back: &[u8])
     ensures { AreBytes (front.now ++ back.now) }
 {}
 
-/// Searches a ring, and lays the message of what is found beside.
+/// Searches a ring, and copies the message of the item found into `beside`.
 fn search_ring<A: Allocator>(ring: &HeapCircularBuffer<u8, A>, beside: &mut Beside) -> Search
     requires { length ring.now.items ≤ PACKET_MAX }
     ensures within { result.passed ≤ length ring.now.items }
@@ -69,7 +69,7 @@ fn search_ring<A: Allocator>(ring: &HeapCircularBuffer<u8, A>, beside: &mut Besi
     search_pieces(front, back, beside)
 }
 
-/// Searches two pieces, one behind the other. They are joined only where the first ends in the midst of an item.
+/// Searches two pieces, one after the other. They are joined only if the first ends inside an item.
 fn search_pieces(front: &[u8], back: &[u8], beside: &mut Beside) -> Search
     requires { length front.now + length back.now ≤ PACKET_MAX }
     ensures within { result.passed ≤ length (front.now ++ back.now) }
@@ -93,7 +93,7 @@ fn search_pieces(front: &[u8], back: &[u8], beside: &mut Beside) -> Search
     }
 }
 
-/// Searches two pieces that are joined for it.
+/// Joins two pieces and searches them.
 fn search_joined(front: &[u8], back: &[u8], beside: &mut Beside) -> Search
     requires { length front.now + length back.now ≤ PACKET_MAX }
     ensures within { result.passed ≤ length (front.now ++ back.now) }
@@ -112,7 +112,7 @@ fn search_joined(front: &[u8], back: &[u8], beside: &mut Beside) -> Search
     search
 }
 
-/// Lays the message of the item in that place of the bytes beside.
+/// Copies the message of the item at this place of the bytes into `beside`.
 fn lay(place: Place, bytes: &[u8], beside: &mut Beside)
     requires lies { LiesIn place bytes.now }
     requires few { length bytes.now ≤ PACKET_MAX }
@@ -124,7 +124,7 @@ fn lay(place: Place, bytes: &[u8], beside: &mut Beside)
     }
 }
 
-/// Of the bytes that were joined beside, and passed so many, keeps the message of the item in that place of the others.
+/// Keeps only the message of the item in the joined bytes. The place counts from the byte after the first `passed`.
 fn keep(place: Place, passed: usize, beside: &mut Beside)
     requires few { array_vec_len beside.old ≤ PACKET_MAX }
     requires within { passed ≤ array_vec_len beside.old }

@@ -13,7 +13,7 @@ use uug_packet::{CONTROL_K, NoPacket, Packet, decode, message_start};
 
 /// The part at the front of some bytes.
 pub enum FirstPart<'a> {
-    /// A packet, and how many bytes it takes.
+    /// A packet, and the number of bytes that it takes.
     Packet(Packet<'a>, usize),
     /// The first byte of a broken packet.
     Bad,
@@ -21,23 +21,23 @@ pub enum FirstPart<'a> {
     Noise,
 }
 
-/// What a search finds.
+/// The result of a search.
 #[derive(Clone, Copy)]
 pub struct Search {
-    /// How many bytes of noise stand in front.
+    /// The number of noise bytes at the front.
     pub passed: usize,
-    /// The item behind them, or `None` where the bytes wait.
+    /// The item after them, or `None` if the bytes wait.
     pub first: Option<Standing>,
 }
 
-/// Whether the header at the front is of a data packet.
+/// Returns whether the header at the front is that of a data packet.
 fn is_data(bytes: &[u8]) -> bool
     ensures { IsTrue result ↔ (slice_index bytes.now 1 ≢ CONTROL_K) }
 {
     bytes.len() < 2 || bytes[1] != CONTROL_K
 }
 
-/// The part at the front, or `None` where the bytes wait.
+/// Returns the part at the front, or `None` if the bytes wait.
 fn first_part(bytes: &[u8]) -> Option<FirstPart<'_>>
     ensures { MatchOption result (Waits bytes.now) (λ part. BeginsWith part bytes.now) }
 {
@@ -50,7 +50,7 @@ fn first_part(bytes: &[u8]) -> Option<FirstPart<'_>>
     }
 }
 
-/// Where the packet lies that takes the first bytes, so many.
+/// Returns the place of the packet that takes the first `size` bytes.
 fn place_of(packet: &Packet<'_>, bytes: &[u8], size: usize) -> Place
     requires within { size ≤ length bytes.now }
     requires spelled { IsSpelling (shown packet.now) (take size bytes.now) }
@@ -77,7 +77,7 @@ fn place_of(packet: &Packet<'_>, bytes: &[u8], size: usize) -> Place
     }
 }
 
-/// Passes over the noise in front, and says what stands first behind it.
+/// Skips the noise at the front, and returns the first item after it.
 pub fn search_in(bytes: &[u8]) -> Search
     ensures within { result.passed ≤ length bytes.now }
     ensures passes { PassesNoise bytes.now (drop result.passed bytes.now) }

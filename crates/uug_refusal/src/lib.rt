@@ -1,8 +1,8 @@
 //! An allocator for tests: it refuses one request for memory, and passes the others on.
 //!
-//! Proved of it is the contract of every allocator (`std::alloc::Allocator`): what it hands out is a block of the size
-//! and alignment that were asked for, which the holder may give back. Which request it refuses, no clause can say, since
-//! the count changes behind a `&`: its tests show it.
+//! It is proved to keep the contract of every allocator (`std::alloc::Allocator`). It hands out a block of the
+//! requested size and alignment, which the holder may give back. No clause can say which request it refuses, because
+//! the count changes inside a `&`. Its tests show that.
 #![tactic(auto)]
 
 mod refusing;

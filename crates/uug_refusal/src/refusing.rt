@@ -3,8 +3,8 @@ use std::alloc::{AllocError, Allocator};
 
 /// An allocator that refuses one request, and passes the others on to another allocator.
 ///
-/// A test hands out `&Refusing`, which is an allocator too. A new block is one request, and so is each time that a block
-/// grows or shrinks.
+/// A test hands out `&Refusing`, which is an allocator too. A new block is one request, and so is each growth or
+/// shrinkage of a block.
 #[derive(Drop)]
 pub struct Refusing<B: Allocator> {
     inner: B,
@@ -12,7 +12,7 @@ pub struct Refusing<B: Allocator> {
 }
 
 impl<B: Allocator> Refusing<B> {
-    /// Refuses the nth request from now on; with 0, none.
+    /// Makes an allocator that refuses the nth request from now on. With 0 it refuses none.
     pub fn new(inner: B, nth: u64) -> Self {
         Refusing {
             inner,
@@ -20,17 +20,17 @@ impl<B: Allocator> Refusing<B> {
         }
     }
 
-    /// Counts anew, and refuses the nth request from now on; with 0, none.
+    /// Restarts the count, and refuses the nth request from now on. With 0 it refuses none.
     pub fn refuse(&self, nth: u64) {
         self.requests.restart(nth);
     }
 
-    /// How many requests came since `new` or the last `refuse`, with the refused one.
+    /// Returns the number of requests since `new` or the last `refuse`, including the refused one.
     pub fn requests(&self) -> u64 {
         self.requests.came()
     }
 
-    /// Whether one of them was refused.
+    /// Returns whether one of them was refused.
     pub fn was_refused(&self) -> bool {
         self.requests.is_refused()
     }

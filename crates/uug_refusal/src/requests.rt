@@ -1,6 +1,6 @@
 use std::cell::Cell;
 
-/// How many requests came, and which of them is refused.
+/// The number of requests that came, and which of them is refused.
 #[derive(Drop)]
 pub struct Requests {
     came: Cell<u64>,
@@ -8,7 +8,7 @@ pub struct Requests {
 }
 
 impl Requests {
-    /// The nth request to come is refused; with 0, none.
+    /// Makes a count that refuses the nth request to come. With 0 it refuses none.
     pub fn new(nth: u64) -> Self {
         Requests {
             came: Cell::new(0),
@@ -16,25 +16,25 @@ impl Requests {
         }
     }
 
-    /// Counts anew, as `new` does.
+    /// Restarts the count, as `new` does.
     pub fn restart(&self, nth: u64) {
         self.came.set(0);
         self.refused.set(nth);
     }
 
-    /// Counts one request, and tells whether it is the one that is refused.
+    /// Counts one request, and returns whether it is the one to refuse.
     pub fn refuses_next(&self) -> bool {
         let came = self.came.get().saturating_add(1);
         self.came.set(came);
         came == self.refused.get()
     }
 
-    /// How many came since the count began.
+    /// Returns the number of requests since the count began.
     pub fn came(&self) -> u64 {
         self.came.get()
     }
 
-    /// Whether the one to refuse has come.
+    /// Returns whether the one to refuse has come.
     pub fn is_refused(&self) -> bool {
         let nth = self.refused.get();
         nth != 0 && nth <= self.came.get()

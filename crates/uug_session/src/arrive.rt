@@ -1,4 +1,4 @@
-//! A node takes up the bytes that come to it.
+//! A node's handling of incoming bytes.
 ghost use Rattle.std.specs.Prelude.{◌≡◌, ◌<◌, ◌≤◌, [], length, take, true, false};
 ghost use Rattle.std.specs.Prelude.{IfErr, OnErr, OnOk, Ok};
 ghost use Rattle.uug_session.specs.Engine.{HasFailed};
@@ -12,17 +12,17 @@ use std::alloc::{AllocError, Allocator};
 use thiserror::Error;
 use uug_conversation::Spool;
 
-/// There was no memory to take up all of a piece.
+/// The error of a piece that was not handled completely, for lack of memory.
 #[derive(Clone, Copy, Debug, PartialEq, Eq, Error)]
 #[error("out of memory behind {used} bytes of the piece")]
 pub struct Unfinished {
-    /// How many bytes of the piece were taken. Those behind them are to be handed in again.
+    /// The number of bytes of the piece that were taken. The bytes after them are to be handed in again.
     pub used: usize,
 }
 
 impl<S: Spool, A: Allocator + Copy> Node<S, A> {
-    /// Takes up the item that stands first in the bytes held, and says whether there was one. Without memory for that it
-    /// is still there.
+    /// Handles the first item in the held bytes, and returns whether there was one. Without memory for it the item is
+    /// still there.
     fn take_next(&mut self) -> Result<bool, AllocError>
         ensures goes_on { GoesOn (S.holdings (spool_of self.old))
             (S.kept (spool_of self.old)) (S.kept (spool_of self.new))
@@ -50,8 +50,8 @@ impl<S: Spool, A: Allocator + Copy> Node<S, A> {
         Ok(true)
     }
 
-    /// Takes up all that is found in the bytes held, one item after the other. Without memory for an item it is still
-    /// there, and those in front of it were taken up.
+    /// Handles everything found in the held bytes, one item after the other. Without memory for an item, that item is
+    /// still there, and those before it were handled.
     fn take_all_found(&mut self) -> Result<(), AllocError>
         ensures goes_on { GoesOn (S.holdings (spool_of self.old))
             (S.kept (spool_of self.old)) (S.kept (spool_of self.new))
@@ -73,9 +73,10 @@ impl<S: Spool, A: Allocator + Copy> Node<S, A> {
         Ok(())
     }
 
-    /// Takes a whole piece of the bytes that come: as many of them as fit, all that is found then, and so on up to its
-    /// end, by calls of `offer`, `next_found` and `take_found`. Without memory for an item, that item is still there, and those in front of it were taken up; nothing is lost
-    /// where the bytes from `used` on are then handed in again.
+    /// Takes a whole piece of the incoming bytes. It takes as many of them as fit, then handles all that is found, and
+    /// continues up to the piece's end, by calls of `offer`, `next_found` and `take_found`. Without memory for an
+    /// item, that item is still there, and those before it were handled. Nothing is lost if the bytes from `used` on
+    /// are then handed in again.
     pub fn arrive(&mut self, piece: &[u8]) -> Result<(), Unfinished>
         ensures taken { OnOk result (TakesAll (S.holdings (spool_of self.old))
             (S.kept (spool_of self.old)) (S.kept (spool_of self.new))

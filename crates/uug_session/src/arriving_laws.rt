@@ -1,4 +1,4 @@
-//! Laws of how bytes that come to an end are taken up. The functions do nothing.
+//! Laws of how an end handles incoming bytes. The functions do nothing.
 ghost use Rattle.std.specs.Prelude.{◌≡◌, ◌≤◌, ℕ, List, [], ◌++◌, length};
 ghost use Rattle.uug_link.specs.Entries.{EntryValue};
 ghost use Rattle.uug_packet.specs.Bytes.{AreBytes};
@@ -19,16 +19,16 @@ ghost use Rattle.uug_session.specs.Sessions.{HoldsNothing};
 ghost use Rattle.uug_session.specs.ShownItems.{IsShown, ItemFound, NothingFound};
 ghost use Rattle.uug_session.specs.TextsFound.{Taken};
 
-/// What is found in some bytes is found there with more behind them, too; where nothing is found, what waits goes on as
-/// the whole does. Each item takes a byte.
+/// States that an item found in some bytes is also found if more bytes follow. If nothing is found, the waiting bytes
+/// go on as the whole does. Each item takes a byte.
 pub fn what_is_found_stays()
     ensures more { (stage : Stage) (bytes more : List ℕ)
         → finding stage (bytes ++ more) ≡ found_with stage more (finding stage bytes) }
     ensures fewer { (stage : Stage) (bytes : List ℕ) → LeavesFewer (finding stage bytes) bytes }
 {}
 
-/// Bytes that come in pieces are taken up as if they came at once: the same is found in them, in the same order, and the
-/// same waits. This holds of whatever takes up what is found.
+/// States that bytes in pieces are handled as if they came at once. The same items are found, in the same order, and
+/// the same bytes wait. This holds for any receiver of the found items.
 pub fn bytes_come_in_any_pieces<X>()
     ensures pieces { (t : Receiver X) (piece more : List ℕ) (h : Buffered X)
         → takes_piece t (piece ++ more) h ≡ then_takes t more (takes_piece t piece h) }
@@ -41,8 +41,8 @@ pub fn bytes_come_in_any_pieces<X>()
         (finding (t.stage_of x) bytes) x }
 {}
 
-/// What a node takes in one piece after another is what it takes in one: behind a piece that was taken up whole, and behind
-/// one for which memory was refused, the rest of it then.
+/// States that a node takes the same from two pieces in a row as from one joined piece. This holds after a piece that
+/// was taken whole. It also holds after a piece for which memory was refused and whose rest is then handed in.
 pub fn pieces_arrive_as_one()
     ensures whole { (h : Holdings) (kept later_kept last_kept : List Kept)
         (most faults middle last : ℕ)
@@ -58,9 +58,10 @@ pub fn pieces_arrive_as_one()
         → TakesAll h kept last_kept (HasFailed most faults last) (used ++ more) a c }
 {}
 
-/// Whatever is called, in whatever order, a node goes through steps: bytes come, and are taken up as if all that came between
-/// two timeouts had come at once, in whatever pieces, and whatever was refused memory; or there is a timeout.
-/// What is emitted is what was added to the outbox, whatever was cleared away since. Without a timeout there is one step.
+/// States that a node goes through steps, whatever calls are made, in whatever order. One kind of step is a timeout.
+/// In the other, bytes come: all bytes between two timeouts are handled as if they had come at once, in whatever
+/// pieces they came, and whatever was refused memory. The emitted entries are those added to the outbox, whatever was
+/// cleared since. Without a timeout there is one step.
 pub fn calls_take_what_comes()
     ensures goes_through { (h : Holdings) (most : ℕ) (calls : List NodeCall)
         (added : List EntryValue) (old new : Beside)
@@ -85,8 +86,8 @@ pub fn calls_take_what_comes()
     ensures at_first { (n : NodeState) → HoldsNothing n → ShowsWhatIsFound n }
 {}
 
-/// The item that a node shows behind a search is the one that is found next in the bytes that it held, and it is the only
-/// one. Where it shows none, nothing was whole, or the first text was too long.
+/// States that the item shown after a search is the next one found in the bytes that the node held, and the only one.
+/// If it shows none, nothing was whole, or the first text was too long.
 pub fn a_search_shows_what_is_found()
     ensures shown { (n : NodeState) (item : ItemValue) → IsShown item (searched n)
         → ItemFound item n (searched n) }
@@ -97,8 +98,9 @@ pub fn a_search_shows_what_is_found()
     ensures rests { (n : NodeState) → item_size (searched n) ≡ 0 → IsAtRest (searched n) }
 {}
 
-/// In whatever pieces bytes come, what is found in them is what stands there: in the greeting the texts of all of them, and
-/// then, from the first byte behind the last text on, the items of their scan. This holds of whatever takes up what is found.
+/// States that the items found do not depend on the pieces in which bytes come. In the greeting they are the texts of
+/// all bytes. After it they are the items of the scan, from the first byte after the last text on. This holds for any
+/// receiver of the found items.
 pub fn what_stands_there_is_found<X>()
     ensures texts { (t : Receiver X) (came piece : List ℕ) (before : List (List ℕ)) (h : Buffered X)
         → Hails (t.stage_of h.end) → Taken before came h.held
@@ -108,7 +110,8 @@ pub fn what_stands_there_is_found<X>()
         → FindsItems t (came ++ piece) before h.end (takes_piece t piece h) }
 {}
 
-/// What is left behind texts and items that were found in bytes are bytes, and so is what stands in front of others.
+/// States that the rest after the texts and items found in bytes consists of bytes. The same holds for the part in
+/// front of others.
 pub fn bytes_are_left()
     ensures texts { (texts : List (List ℕ)) (rest stream : List ℕ) → StandBefore texts rest stream
         → AreBytes stream

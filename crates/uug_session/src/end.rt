@@ -1,11 +1,11 @@
-/// How a session ended at one end.
+/// The way a session ended at one end.
 #[derive(Clone, Copy, Debug, PartialEq, Eq)]
 pub enum End {
-    /// The session ended after this end had sent or taken HY, in whatever way.
+    /// The session ended after this end had sent or taken HY, however it ended.
     Done,
     /// The called end did not let the caller in.
     Refused,
-    /// Another end was reached than the one that was called.
+    /// The end reached is not the one that was called.
     WrongName,
     /// The two ends have no protocol in common.
     NoProtocol,

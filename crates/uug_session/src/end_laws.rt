@@ -19,7 +19,7 @@ ghost use Rattle.uug_conversation.specs.DialogueState.{DialogueState, end_keeper
 ghost use Rattle.uug_conversation.specs.declared.side.Side.{Side};
 ghost use Rattle.uug_conversation.specs.View.{conversation_view, own_messages, party};
 
-/// Jobs that were struck and failed in earlier sessions change nothing of what an end does: they stay in front.
+/// States that jobs struck or failed in earlier sessions do not change what an end does. They stay in front.
 pub fn earlier_jobs_change_nothing()
     ensures start { (jobs struck failed : List Job)
         → behind struck failed (at_start jobs [] []) ≡ at_start jobs struck failed }
@@ -30,15 +30,15 @@ pub fn earlier_jobs_change_nothing()
         ≡ reply_behind struck failed (step h s message) }
 {}
 
-/// No message that an end says is longer than the size that the other end announced.
+/// States that no message of an end is longer than the size that the other end announced.
 pub fn own_messages_fit()
     ensures { (me : Side) (a b : Party)
         → All (λ message.
         length message ≤ (party me a b).measure.size) (own_messages (conversation_view me a b)) }
 {}
 
-/// Each packet that an end emits can be written, and so is read again as what it is, where the end has made a right
-/// announcement.
+/// States that each packet that an end emits can be written, and so is read back as the same packet. The end must have
+/// made a right announcement.
 pub fn what_an_end_emits_can_be_written()
     ensures first { (id : Identity) (own : Announced) (number : Option ℕ) (talk : DialogueState)
         → IsAnnouncement own
@@ -54,7 +54,7 @@ pub fn what_an_end_emits_can_be_written()
         → All CanBeWritten (end_step (end_keeper side h) id event e).emitted }
 {}
 
-/// The session of an end whose link has ended is over. This holds of whatever keeps the conversation.
+/// States that the session of an end is over if its link has ended, whatever keeps the conversation.
 pub fn a_session_ends_with_its_link<C>()
     ensures first { (id : Identity) (own : Announced) (number : Option ℕ) (c : C)
         → EndsWithItsLink (begins_session id own number c).state }
@@ -67,8 +67,8 @@ pub fn a_session_ends_with_its_link<C>()
         → IsStarting e.link.phase }
 {}
 
-/// The number of an end's conversations rises where a text of the greeting lets the caller in, and stays at all else: through
-/// the link, timeouts and a lost line. This holds of whatever keeps the conversation.
+/// States that the number of an end's conversations rises if a text of the greeting lets the caller in. Everything
+/// else leaves it as it was: the link, timeouts and a lost line. This holds for whatever keeps the conversation.
 pub fn a_number_rises_in_the_greeting_alone<C>()
     ensures first { (id : Identity) (own : Announced) (number : Option ℕ) (c : C)
         → (begins_session id own number c).state.number ≡ number }

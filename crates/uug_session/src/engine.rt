@@ -27,11 +27,11 @@ use uug_link::{Announce, Link, LinkFault, Outbox, Outcome, TIMEOUTS_MAX, WINDOW_
 use uug_packet::Packet;
 use uug_talk::{Message, Name};
 
-/// More than what a packet, a broken one or a timeout can bring an end to emit: the link's answer, as many new messages
-/// as a window has, CLOSE and the final text.
+/// A bound above the number of entries that one packet, broken packet or timeout can cause an end to emit: the link's
+/// answer, as many new messages as a window has, CLOSE and the final text.
 const EMITTED_MAX: usize = 16;
 
-/// One end of a session, but for its spool and the bytes that it has not read yet.
+/// One end of a session, without its spool and the bytes it has not read yet.
 #[derive(Drop)]
 pub(crate) struct Engine<A: Allocator> {
     side: Side,
@@ -40,7 +40,7 @@ pub(crate) struct Engine<A: Allocator> {
     link: Link,
     dialogue: Dialogue<A>,
     outbox: Outbox<A>,
-    /// Where a message is made that goes out: what it holds means nothing between two calls.
+    /// The buffer for an outgoing message. Its content means nothing between two calls.
     message: Message,
 }
 
@@ -70,7 +70,7 @@ impl<A: Allocator> Model for Engine<A> {
 }
 
 impl<A: Allocator + Copy> Engine<A> {
-    /// Sends the next message, if there is one and there is room for it, and says whether it did.
+    /// Sends the next message, if there is one and there is room for it. Returns whether it did.
     fn send_next<S: Spool>(&mut self, spool: &S) -> bool
         requires spare { 1 ≤ self.old.outbox.spare }
         ensures more { OnTrue result ((n : ℕ) →
@@ -112,7 +112,7 @@ impl<A: Allocator + Copy> Engine<A> {
         }
     }
 
-    /// Where the link is up, says what there is to say, and closes the link where all is over.
+    /// Sends what there is to say if the link is up, and closes the link if all is over.
     fn speak<S: Spool>(&mut self, spool: &S)
         requires spare { WINDOW_MAX + 1 ≤ self.old.outbox.spare }
         ensures spoken { spoken_of (S.holdings spool.now) (S.kept spool.now) self.new
@@ -145,7 +145,7 @@ impl<A: Allocator + Copy> Engine<A> {
         };
     }
 
-    /// The session is over: it is done, and the end sends its final text, where it had parted.
+    /// Ends the session. If the end had parted, the session is done, and the end sends its final text.
     fn finish(&mut self, has_parted: bool, how: End)
         requires spare { 1 ≤ self.old.outbox.spare }
         ensures stage { self.new.stage ≡ ended (how_it_ends has_parted how) }
@@ -167,7 +167,7 @@ impl<A: Allocator + Copy> Engine<A> {
         };
     }
 
-    /// Takes up a packet whose message is not the next one.
+    /// Handles a packet whose message is not the next one.
     fn hear<S: Spool>(&mut self, spool: &S, packet: &Packet<'_>)
         requires linked { self.old.stage ≡ linked }
         requires spare { EMITTED_MAX ≤ self.old.outbox.spare }
@@ -196,7 +196,7 @@ impl<A: Allocator + Copy> Engine<A> {
         }
     }
 
-    /// Takes up a packet whose message is the next one. The spool is asked first, where a file ends with it.
+    /// Handles a packet whose message is the next one. If a file ends with it, the spool is asked first.
     fn take<S: Spool>(&mut self, spool: &mut S, packet: &Packet<'_>) -> Result<(), AllocError>
         requires linked { self.old.stage ≡ linked }
         requires spare { EMITTED_MAX ≤ self.old.outbox.spare }
@@ -250,7 +250,7 @@ impl<A: Allocator + Copy> Engine<A> {
         };
     }
 
-    /// Ends a session that can't go on: closes the link, and takes leave where the end had parted.
+    /// Ends a session that can't go on: closes the link, and sends the final text if the end had parted.
     fn break_off(&mut self, has_parted: bool, how: End)
         requires up { IsUp self.old.link }
         requires spare { 2 ≤ self.old.outbox.spare }
@@ -268,7 +268,7 @@ impl<A: Allocator + Copy> Engine<A> {
         self.finish(has_parted, how);
     }
 
-    /// Takes up a packet that was found, on a link that has begun, and says whether its message was taken.
+    /// Handles a packet that was found, on a link that has begun. Returns whether its message was taken.
     pub(crate) fn on_packet<S: Spool>(
         &mut self,
         spool: &mut S,
@@ -298,7 +298,7 @@ impl<A: Allocator + Copy> Engine<A> {
         }
     }
 
-    /// Takes up a broken packet, on a link that has begun.
+    /// Handles a broken packet, on a link that has begun.
     pub(crate) fn on_bad<S: Spool>(&mut self, spool: &S) -> Result<(), AllocError>
         requires linked { self.old.stage ≡ linked }
         ensures ok { OnOk result (Does (bad_came self.old.number (end_keeper self.old.identity.side
@@ -342,7 +342,7 @@ impl<A: Allocator + Copy> Engine<A> {
         Ok(())
     }
 
-    /// Nothing has come on a link for some time.
+    /// Handles a timeout on a link.
     fn late(&mut self) -> Result<(), AllocError>
         requires linked { self.old.stage ≡ linked }
         ensures ok { OnOk result (Does (late self.old.number self.old.identity
@@ -359,7 +359,7 @@ impl<A: Allocator + Copy> Engine<A> {
         Ok(())
     }
 
-    /// The same on a link that has something to repeat, or that ends.
+    /// Handles a timeout on a link that has something to repeat, or that ends.
     fn repeat(&mut self) -> Result<(), AllocError>
         requires linked { self.old.stage ≡ linked }
         ensures ok { OnOk result (Does (late self.old.number self.old.identity
@@ -382,7 +382,7 @@ impl<A: Allocator + Copy> Engine<A> {
         Ok(())
     }
 
-    /// The same on a link that emits nothing. It takes no memory.
+    /// Handles a timeout on a link that emits nothing. It takes no memory.
     fn stay_silent(&mut self)
         requires linked { self.old.stage ≡ linked }
         requires silent { (step self.old.link timed_out).emitted ≡ [] }
@@ -397,7 +397,7 @@ impl<A: Allocator + Copy> Engine<A> {
         }
     }
 
-    /// Takes up a text of the greeting.
+    /// Handles a text of the greeting.
     pub(crate) fn on_text(&mut self, greeting: Greeting, text: &[u8]) -> Result<(), AllocError>
         requires hailing { self.old.stage ≡ hailing greeting }
         ensures ok { OnOk result (Does (hailing_step self.old.identity greeting
@@ -414,14 +414,14 @@ impl<A: Allocator + Copy> Engine<A> {
         Ok(())
     }
 
-    /// Takes up that a text of the greeting is too long: the session is over.
+    /// Ends the session because a text of the greeting is too long.
     pub(crate) fn on_long_text(&mut self)
         ensures { self.new ≡ with_stage (ended End.BadTalk) self.old }
     {
         self.stage = Stage::Ended(End::BadTalk);
     }
 
-    /// What the greeting has led to.
+    /// Moves to the stage that the greeting has led to.
     fn lead_to(&mut self, greeted: Greeted)
         requires hailing { IsHailing self.old.stage }
         requires spare { greeted ≡ Greeted.LinkBegins → WINDOW_MAX ≤ self.old.outbox.spare }
@@ -437,7 +437,7 @@ impl<A: Allocator + Copy> Engine<A> {
         }
     }
 
-    /// The link begins, by the caller.
+    /// Begins the link. The caller sends its first packet.
     fn begin_link(&mut self)
         requires hailing { IsHailing self.old.stage }
         requires spare { WINDOW_MAX ≤ self.old.outbox.spare }
@@ -457,7 +457,7 @@ impl<A: Allocator + Copy> Engine<A> {
         }
     }
 
-    /// The line is gone.
+    /// Handles the loss of the line.
     pub(crate) fn hang_up(&mut self)
         ensures { self.new ≡ with_stage (hung_up (dialogue_has_parted self.old.dialogue)
             self.old.stage) self.old }
@@ -470,14 +470,14 @@ impl<A: Allocator + Copy> Engine<A> {
         }
     }
 
-    /// How far the session has come.
+    /// Returns the stage of the session.
     pub(crate) fn stage(&self) -> Stage
         ensures { stage_of result ≡ self.now.stage }
     {
         self.stage
     }
 
-    /// The same, with how far the link has come.
+    /// Returns the phase of the session, which also depends on the link.
     pub(crate) fn phase(&self) -> Phase
         ensures { result ≡ phase_at self.now.stage self.now.link.phase }
     {
@@ -490,7 +490,7 @@ impl<A: Allocator + Copy> Engine<A> {
         }
     }
 
-    /// How many messages were sent and not acknowledged. In the greeting there is none.
+    /// Returns the number of messages that were sent and not acknowledged. It is 0 in the greeting.
     pub(crate) fn unacked(&self) -> usize
         ensures count { result ≡ length self.now.link.unacked }
         ensures most { result ≤ WINDOW_MAX }
@@ -499,21 +499,21 @@ impl<A: Allocator + Copy> Engine<A> {
         self.link.unacked()
     }
 
-    /// The number of the oldest message that was sent and not acknowledged, or of the next to be sent.
+    /// Returns the number of the oldest message that was sent and not acknowledged, or of the next one to be sent.
     pub(crate) fn oldest(&self) -> u8
         ensures { result ≡ self.now.link.oldest }
     {
         self.link.oldest()
     }
 
-    /// The number of the data packet that is to be taken next.
+    /// Returns the number of the data packet to be taken next.
     pub(crate) fn expected(&self) -> u8
         ensures { result ≡ self.now.link.expected }
     {
         self.link.expected()
     }
 
-    /// How many timeouts have passed in a row without progress at an end that talks; at no other any is counted.
+    /// Returns the number of timeouts in a row without progress, for an end that talks. For any other it is 0.
     pub(crate) fn timeouts(&self) -> u8
         ensures count { result ≡ timeouts_in
             (phase_at self.now.stage self.now.link.phase) self.now.link.timeouts }
@@ -525,21 +525,21 @@ impl<A: Allocator + Copy> Engine<A> {
         }
     }
 
-    /// Whether it is quiet on repeats.
+    /// Returns whether it is quiet on repeats.
     pub(crate) fn is_quiet(&self) -> bool
         ensures { result ≡ self.now.link.own.quiet }
     {
         self.link.is_quiet()
     }
 
-    /// What was emitted and not yet cleared.
+    /// Returns the entries that were emitted and not yet cleared.
     pub(crate) fn outbox(&self) -> &Outbox<A>
         ensures { result.now ≡ self.now.outbox }
     {
         &self.outbox
     }
 
-    /// Takes all that was emitted away.
+    /// Removes everything that was emitted.
     pub(crate) fn clear_outbox(&mut self)
         ensures entries { self.new.outbox.entries ≡ [] }
         ensures spare { self.old.outbox.spare ≤ self.new.outbox.spare }
@@ -548,21 +548,21 @@ impl<A: Allocator + Copy> Engine<A> {
         self.outbox.clear();
     }
 
-    /// The number of the next conversation, where one is kept.
+    /// Returns the number of the next conversation, if one is kept.
     pub(crate) fn number(&self) -> Option<u32>
         ensures { result ≡ self.now.number }
     {
         self.place.number
     }
 
-    /// From now on this number is kept.
+    /// Sets the number of the next conversation.
     pub(crate) fn set_number(&mut self, number: u32)
         ensures { self.new ≡ with_number (Some number) self.old }
     {
         self.place.number = Some(number);
     }
 
-    /// The jobs.
+    /// Returns the jobs.
     pub(crate) fn queue(&self) -> &Queue<A>
         ensures jobs { result.now ≡ self.now.dialogue.machine.lists }
         ensures names { All HasNames (pending self.now.dialogue.machine.lists) }
@@ -572,7 +572,7 @@ impl<A: Allocator + Copy> Engine<A> {
 }
 
 impl<A: Allocator + Copy> Engine<A> {
-    /// An end whose first session begins. It takes no memory.
+    /// Makes an end whose first session begins. It takes no memory.
     pub(crate) fn new(
         alloc: A,
         side: Side,
@@ -606,7 +606,7 @@ impl<A: Allocator + Copy> Engine<A> {
         self.outbox.reserve(1)
     }
 
-    /// The next session begins: what was left of the last one is dropped, and every pending job is to be offered.
+    /// Begins the next session: drops what was left of the last one. Every pending job is to be offered.
     pub(crate) fn restart(&mut self)
         requires spare { 1 ≤ self.old.outbox.spare }
         ensures { BeginsSession self.old.identity self.old.own self.old.number
@@ -620,7 +620,7 @@ impl<A: Allocator + Copy> Engine<A> {
     }
 }
 
-/// The greeting of an end on this side. The called end says its name.
+/// Returns the greeting of an end on this side. The called end says its name.
 fn first_greeting<A: Allocator>(side: Side, me: &Name, out: &mut Outbox<A>) -> Greeting
     requires spare { 1 ≤ out.old.spare }
     ensures stage { hailing result ≡ first_stage side }
@@ -638,7 +638,7 @@ fn first_greeting<A: Allocator>(side: Side, me: &Name, out: &mut Outbox<A>) -> G
     }
 }
 
-/// The link of an end on this side, before it has begun.
+/// Returns the link of an end on this side, before it has begun.
 fn first_link(side: Side, announce: Announce) -> Link
     ensures { result ≡ first_link side (announced announce) }
 {
@@ -648,7 +648,7 @@ fn first_link(side: Side, announce: Announce) -> Link
     }
 }
 
-/// The final text of an end that is done.
+/// Returns the final text of an end that is done.
 fn final_text(side: Side) -> &'static [u8]
     ensures text { result.now ≡ final_text side }
 {
@@ -658,7 +658,7 @@ fn final_text(side: Side) -> &'static [u8]
     }
 }
 
-/// The message of a data packet.
+/// Returns the message of a data packet, or no bytes for a control packet.
 fn message_of<'a>(packet: &Packet<'a>) -> &'a [u8]
     ensures { result.now ≡ message_of (shown packet.now) }
 {

@@ -13,7 +13,7 @@ use std::alloc::{AllocError, Allocator};
 use uug_link::{Outbox, TIMEOUTS_MAX};
 use uug_talk::{Name, caller_number, write_call};
 
-/// The text for which an end waits, in the order in which they come.
+/// The text for which an end waits. The variants are in the order in which the texts come.
 #[derive(Clone, Copy, Debug, PartialEq, Eq)]
 pub enum AwaitedText {
     /// The caller waits for the called end's name.
@@ -28,19 +28,19 @@ pub enum AwaitedText {
     Choice,
 }
 
-/// The greeting as one end stands in it.
+/// The state of the greeting at one end.
 #[derive(Clone, Copy, Debug, PartialEq, Eq)]
 pub struct Greeting {
-    /// The text for which the end waits.
+    /// The awaited text.
     pub awaited: AwaitedText,
-    /// The timeouts since the last text that was waited for.
+    /// The number of timeouts since the last awaited text.
     pub timeouts: u8,
 }
 
-/// What becomes of a greeting.
+/// The next state of a greeting.
 #[derive(Clone, Copy, Debug, PartialEq, Eq)]
 pub enum Greeted {
-    /// It goes on.
+    /// The greeting goes on.
     GoesOn(Greeting),
     /// The link begins.
     LinkBegins,
@@ -48,24 +48,24 @@ pub enum Greeted {
     Ended(End),
 }
 
-/// What a text leads to.
+/// The effect of a text.
 #[derive(Clone, Copy, Debug, PartialEq, Eq)]
 pub struct Led {
-    /// What becomes of the greeting.
+    /// The next state of the greeting.
     pub greeted: Greeted,
-    /// Whether the caller is let in, so that the number of the end's conversations rises.
+    /// True if the caller is let in, so that the number of the end's conversations rises.
     pub rises: bool,
 }
 
 impl Greeting {
-    /// The caller's greeting, before anything has come.
+    /// Makes the caller's greeting, before anything has come.
     pub fn caller() -> Self
         ensures { result ≡ first_greeting AwaitedText.CalledName }
     {
         Greeting::awaiting(AwaitedText::CalledName)
     }
 
-    /// The called end's greeting: it says its name first. Without memory for that the outbox's entries stay.
+    /// Makes the called end's greeting, which says its name first. Without memory for that, the outbox's entries stay.
     pub fn called<A: Allocator>(me: &Name, out: &mut Outbox<A>) -> Result<Self, AllocError>
         ensures first { IfOk result (λ greeting. greeting ≡ first_greeting AwaitedText.CallerName) }
         ensures says { Says (called_text me.now ∷ []) out.old out.new result }
@@ -74,7 +74,7 @@ impl Greeting {
         Ok(Greeting::awaiting(AwaitedText::CallerName))
     }
 
-    /// Takes up a text, of the end that stands at this place. Without memory for what it says the outbox's entries stay.
+    /// Handles a text at an end with this place. Without memory for its answer, the outbox's entries stay.
     pub fn on_text<A: Allocator>(
         self,
         place: &Place,
@@ -97,14 +97,14 @@ impl Greeting {
         }
     }
 
-    /// A text was too long: the session ends, and nothing is said.
+    /// Handles a text that was too long: the session ends, and nothing is said.
     pub fn on_long_text(self) -> Greeted
         ensures { result ≡ long_text_came.greeted }
     {
         Greeted::Ended(End::BadTalk)
     }
 
-    /// A timeout. At the limit the session ends; nothing is said.
+    /// Handles a timeout. At the limit the session ends. Nothing is said.
     pub fn on_timeout(self) -> Greeted
         ensures { result ≡ (timed_out self).greeted }
     {
@@ -186,7 +186,7 @@ impl Greeting {
         Greeting::on_known_caller(expects(place.number, text), out)
     }
 
-    /// The caller is the one that is expected.
+    /// Handles the text of the expected caller: lets it in, or refuses its number.
     fn on_known_caller<A: Allocator>(
         is_expected: bool,
         out: &mut Outbox<A>,
@@ -250,7 +250,7 @@ impl Greeting {
 }
 
 impl Led {
-    /// The number stays.
+    /// Makes the effect that leaves the number as it was.
     fn to(greeted: Greeted) -> Self
         ensures greeted { result.greeted ≡ greeted }
         ensures rises { result.rises ≡ false }
@@ -261,7 +261,7 @@ impl Led {
         }
     }
 
-    /// The caller is let in, and the number rises.
+    /// Makes the effect that lets the caller in, so that the number rises.
     fn in_by(greeting: Greeting) -> Self
         ensures greeted { result.greeted ≡ Greeted.GoesOn greeting }
         ensures rises { result.rises ≡ true }
@@ -273,7 +273,7 @@ impl Led {
     }
 }
 
-/// Whether a called end that keeps this number, or none, expects the one in a caller's text.
+/// Returns whether a called end expects the number in a caller's text. `number` is the one that it keeps, if any.
 fn expects(number: Option<u32>, text: &[u8]) -> bool
     ensures { result ≡ is_expected number (number_in_call text.now) }
 {
@@ -286,7 +286,7 @@ fn expects(number: Option<u32>, text: &[u8]) -> bool
     }
 }
 
-/// The number behind a text, by whether it rises. Behind the greatest one comes 0.
+/// Returns the number after a text. If it rises, it is one more. After the greatest number comes 0.
 pub(crate) fn number_behind(rises: bool, number: Option<u32>) -> Option<u32>
     ensures { result ≡ number_by rises number }
 {
@@ -296,7 +296,7 @@ pub(crate) fn number_behind(rises: bool, number: Option<u32>) -> Option<u32>
     }
 }
 
-/// The name in a caller's text: what stands behind its letter, up to the first space.
+/// Returns the name in a caller's text: the bytes after its letter, up to the first space.
 fn name_in(text: &[u8]) -> &[u8]
     requires { 0 < length text.now }
     ensures { result.now ≡ name_in_caller_text text.now }

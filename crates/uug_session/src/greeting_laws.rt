@@ -25,7 +25,7 @@ ghost use Rattle.uug_conversation.specs.declared.side.Side.{Side};
 ghost use Rattle.uug_conversation.specs.declared.side.Side.TheVariants.{Caller, Called};
 ghost use Rattle.uug_session.specs.WholeGreeting.{GreetingRun, GreetsBy, Greets, GreetEachOther, BecomeOf, IsNumber, IsOver, IsRefusal, greeting_run, has_let_in, whole_greeting, run_behind};
 
-/// Whatever bytes are delivered make one thing of the whole greeting of an end, and of a greeting from any stage on.
+/// States that the delivered bytes determine an end's whole greeting, and a greeting from any stage on.
 pub fn one_greeting()
     ensures whole { (side : Side) (me peer : List ℕ) (number : Option ℕ) (delivered : List ℕ)
         → (behind : List ℕ) × Greets side me peer number delivered
@@ -57,9 +57,9 @@ pub fn one_greeting()
         ≡ other }
 {}
 
-/// A greeting does not depend on the pieces in which the bytes come. Where it goes on, more bytes make of it what they
-/// make of what it is then, behind the bytes that are left. Where it is over, more bytes are only left with them. Both hold of
-/// the whole greeting of an end, and of a greeting from any stage on.
+/// States that a greeting does not depend on the pieces in which the bytes come. If it goes on, more bytes have the
+/// same effect on its present state, after the bytes that are left. If it is over, more bytes are only left with them.
+/// Both hold for the whole greeting of an end, and for a greeting from any stage on.
 pub fn greeting_in_pieces()
     ensures whole_goes_on { (side : Side) (me peer : List ℕ) (number : Option ℕ) (next : Greeting)
         (delivered more rest left : List ℕ)
@@ -84,10 +84,10 @@ pub fn greeting_in_pieces()
         → GreetsBy me peer number g (delivered ++ more) run (rest ++ more) }
 {}
 
-/// Two ends that greet each other over a clean line both begin the link where each expects the other, and the called end
-/// keeps no number or the same one as the caller; both then have the next number, where they keep one. Where the caller
-/// has called another end than it meant, it ends, and the called end still waits for the caller's name. Where the caller
-/// is not the one that the called end expects, or does not tell the number that it expects, both end. In these cases both
+/// States how two ends greet each other over a clean line. If each expects the other, and the called end keeps no
+/// number or the caller's, both begin the link. Both then have the next number, if they keep one. If the caller has
+/// called another end than it meant, it ends, and the called end still waits for the caller's name. If the called end
+/// does not expect the caller, or the number that it sends or leaves out, both end. In every case but the first, both
 /// numbers stay.
 pub fn ends_that_expect_each_other_begin()
     ensures begin { (caller called : List ℕ) (m n : Option ℕ)
@@ -117,8 +117,9 @@ pub fn ends_that_expect_each_other_begin()
         × GreetEachOther caller meant called expected m n at_caller at_called }
 {}
 
-/// In any greeting, whatever bytes come: the number of a called end rises exactly where it says that the caller is let in, and
-/// once; a caller's at most once; either has risen where the link begins; and a refused call leaves it as it was.
+/// States when a number rises in a greeting, whatever bytes come. A called end's rises exactly if it says that the
+/// caller is let in, and once. A caller's rises at most once. Either has risen when the link begins. A refused call
+/// leaves it as it was.
 pub fn a_number_rises_where_a_call_is_let_in()
     ensures called { (me peer : List ℕ) (number : Option ℕ) (delivered behind : List ℕ)
         (run : GreetingRun)
@@ -139,15 +140,16 @@ pub fn a_number_rises_where_a_call_is_let_in()
         → run.number ≡ number }
 {}
 
-/// From the start of a session on, a node greets as the whole greeting says that follows from its side, its name, the
-/// other's, the number that it keeps, and all bytes that came to it, in whatever pieces these came: it has said the same
-/// texts, and nothing else as long as it greets; it waits for the same text, or the session has ended the same way; it keeps
-/// the same number; and it holds what waits of the bytes behind the last text used. Where the greeting leads to the link, the
-/// link's begin comes behind the texts, and just the bytes behind the last text are taken up on it.
+/// States that a node, from the start of a session on, greets as the whole greeting says. That greeting follows from
+/// its side, its name, the other's, the number that it keeps, and all bytes that came, in whatever pieces. The node
+/// has said the same texts, and nothing else as long as it greets. It waits for the same text, or the session has
+/// ended the same way. It keeps the same number, and holds what waits of the bytes after the last text used. If the
+/// greeting leads to the link, the link's begin follows the texts, and exactly the bytes after the last text are
+/// handled on it.
 pub fn a_node_greets()
-    // Whatever is called, each call is a step by the table: with a text that it takes up, with one that is too long, with a
-    // timeout, or with nothing. What it says to that is what is added to the outbox, and the texts are the first of all
-    // bytes that came. So it is from the start of a session on.
+    // Whatever is called, each call is a step by the table: with a text that it takes up, with one that is too long,
+    // with a timeout, or with nothing. What it says to that is what is added to the outbox, and the texts are the
+    // first of all bytes that came. So it is from the start of a session on.
     ensures steps { (h : Holdings) (most : ℕ) (id : Identity) (calls : List NodeCall)
         (texts : List (List ℕ)) (came : List ℕ) (added : List EntryValue) (old new : Beside)
         (g : Greeting)
@@ -181,8 +183,8 @@ pub fn a_node_greets()
         → Greets id.side id.me id.peer number came run behind
         → run.greeted ≡ LinkBegins
         → HasBegunLink m run.says run.number behind }
-    // The same as one equation, whatever the node keeps and its spool's device does: all bytes from the start lead to what the
-    // bytes left lead to behind the whole greeting.
+    // The same as one equation, whatever the node keeps and its spool's device does: all bytes from the start lead to
+    // what the bytes left lead to behind the whole greeting.
     ensures comes { (h : Holdings) (id : Identity) (own : Announced) (number : Option ℕ)
         (talk : DialogueState)
         (failures : List Bool)

@@ -16,7 +16,7 @@ pub(crate) fn say<A: Allocator>(text: &[u8], out: &mut Outbox<A>) -> Result<(), 
     out.add_text(&write_hail(text))
 }
 
-/// Says two texts, or none where there is no memory for both.
+/// Says two texts, or none if there is no memory for both.
 pub(crate) fn say_both<A: Allocator>(
     first: &[u8],
     second: &[u8],
@@ -38,7 +38,7 @@ pub(crate) fn say_both<A: Allocator>(
     Ok(())
 }
 
-/// Says a few letters with a name behind them.
+/// Says a few letters, followed by a name.
 pub(crate) fn say_name<A: Allocator>(
     front: &[u8],
     name: &Name,

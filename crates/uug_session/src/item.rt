@@ -1,9 +1,9 @@
 use uug_packet::Packet;
 
-/// What an end has found in the bytes that came.
+/// An item found in the bytes that came.
 #[derive(Clone, Copy, Debug)]
 pub enum Item<'a> {
-    /// A text of the greeting, without the byte in front of it and the one that ends it.
+    /// A text of the greeting, without its start byte and its end byte.
     Text(&'a [u8]),
     /// A packet.
     Packet(Packet<'a>),

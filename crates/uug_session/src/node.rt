@@ -28,8 +28,8 @@ use uug_conversation::{Queue, Spool};
 use uug_link::{Outbox, TIMEOUTS_MAX, WINDOW_MAX};
 use uug_reader::{Found, READER_SIZE, Reader};
 
-/// One whole end: what it knows of itself and the other, its jobs, its files, and how far its session has come. It reads
-/// bytes that are offered to it, and what it emits goes into its outbox. It knows no time and no line.
+/// One whole end: its own name and the other's, its jobs, its files, and the state of its session. It reads bytes that
+/// are offered to it, and emits into its outbox. It knows no time and no line.
 #[derive(Drop)]
 pub struct Node<S: Spool, A: Allocator> {
     pub(crate) engine: Engine<A>,
@@ -41,8 +41,8 @@ pub struct Node<S: Spool, A: Allocator> {
 }
 
 impl<S: Spool, A: Allocator + Copy> Node<S, A> {
-    /// Takes the first bytes of a piece that fit, and says how many. An end whose session is over takes all and forgets
-    /// them.
+    /// Takes the first bytes of a piece that fit, and returns their number. An end whose session is over takes all
+    /// bytes and drops them.
     pub fn offer(&mut self, piece: &[u8]) -> usize
         ensures count { result ≡ accepted (node_of self.old) piece.now }
         ensures bytes { node_of self.new ≡ offered (take result piece.now) (node_of self.old) }
@@ -55,7 +55,7 @@ impl<S: Spool, A: Allocator + Copy> Node<S, A> {
         }
     }
 
-    /// How many bytes are held that were not read yet, at most `READER_SIZE`, and 0 where the session is over.
+    /// Returns the number of held bytes not read yet, at most `READER_SIZE`. It is 0 if the session is over.
     pub fn waiting(&self) -> usize
         ensures len { result ≡ length (held_bytes (node_of self.now)) }
         ensures most { result ≤ READER_SIZE }
@@ -67,7 +67,7 @@ impl<S: Spool, A: Allocator + Copy> Node<S, A> {
         }
     }
 
-    /// What was found and is shown, which stands first among the bytes held.
+    /// Returns the item shown, which is the first in the held bytes.
     pub(crate) fn showing(&self) -> Option<Item<'_>>
         ensures { MatchOption result (item_size (node_of self.now) ≡ 0)
             (λ item. IsShown (shown_item item) (node_of self.now)) }
@@ -82,8 +82,7 @@ impl<S: Spool, A: Allocator + Copy> Node<S, A> {
         }
     }
 
-    /// Drops what is skipped in front of the first item, which is then shown. At a text that is too long the session
-    /// is over.
+    /// Drops the skipped bytes before the first item, which is then shown. A text that is too long ends the session.
     pub(crate) fn search(&mut self)
         ensures found { node_of self.new ≡ searched (node_of self.old) }
         ensures passes { PassesNoiseOnLink (node_of self.old) (node_of self.new) }
@@ -103,8 +102,8 @@ impl<S: Spool, A: Allocator + Copy> Node<S, A> {
         }
     }
 
-    /// Shows the first item in the bytes held, which stays until it is taken: a text in the greeting, a packet or a broken
-    /// one on the link. What is skipped in front is taken away. At a text that is too long the session is over. After
+    /// Shows the first item in the held bytes: a text in the greeting, a packet or a broken one on the link. The item
+    /// stays until it is taken. Skipped bytes before it are removed. A text that is too long ends the session. After
     /// `None` at least one byte fits.
     pub fn next_found(&mut self) -> Option<Item<'_>>
         ensures none { IsNone result ↔ HoldsNoItem (node_of self.old) }
@@ -116,7 +115,7 @@ impl<S: Spool, A: Allocator + Copy> Node<S, A> {
         self.showing()
     }
 
-    /// Takes up the item that is shown, and takes its bytes away. The answer is true exactly where its message was taken.
+    /// Handles the item shown, and removes its bytes. Returns true exactly if its message was taken.
     pub fn take_found(&mut self) -> Result<bool, AllocError>
         requires shown { 0 < item_size (node_of self.old) }
         ensures taken { IfOk result (λ took. TakesShown (S.holdings (spool_of self.old))
@@ -142,7 +141,7 @@ impl<S: Spool, A: Allocator + Copy> Node<S, A> {
         }
     }
 
-    /// Takes up the text that is shown.
+    /// Handles the text shown.
     fn take_text(&mut self, greeting: Greeting) -> Result<(), AllocError>
         requires hailing { (node_of self.old).engine.stage ≡ hailing greeting }
         requires shown { 0 < (node_of self.old).texts.shown_size }
@@ -167,7 +166,7 @@ impl<S: Spool, A: Allocator + Copy> Node<S, A> {
         Ok(())
     }
 
-    /// Takes up the packet or the broken one that is shown.
+    /// Handles the packet or the broken one shown.
     fn take_packet(&mut self) -> Result<bool, AllocError>
         requires linked { (node_of self.old).engine.stage ≡ linked }
         requires shown { 0 < (node_of self.old).packets.shown_size }
@@ -199,8 +198,8 @@ impl<S: Spool, A: Allocator + Copy> Node<S, A> {
         }
     }
 
-    /// A timeout. Memory is needed only where the link has begun and emits something: in the
-    /// greeting, and after the session's end, the answer is always Ok.
+    /// Handles a timeout. It needs memory only if the link has begun and emits something. In the greeting, and after
+    /// the session's end, it always returns Ok.
     pub fn on_timeout(&mut self) -> Result<(), AllocError>
         ensures ok { OnOk result (Does (stage_late (node_of self.old).engine.number
             (node_of self.old).engine.identity
@@ -221,7 +220,7 @@ impl<S: Spool, A: Allocator + Copy> Node<S, A> {
         self.engine.on_timeout()
     }
 
-    /// The line is gone: the session is over. Nothing is emitted.
+    /// Handles the loss of the line: the session is over. Nothing is emitted.
     pub fn hang_up(&mut self)
         ensures stage { (node_of self.new).engine
             ≡ with_stage (hung_up (dialogue_has_parted (node_of self.old).engine.dialogue)
@@ -233,7 +232,7 @@ impl<S: Spool, A: Allocator + Copy> Node<S, A> {
         self.engine.hang_up();
     }
 
-    /// How far the session has come.
+    /// Returns the phase of the session.
     pub fn phase(&self) -> Phase
         ensures { result
             ≡ phase_at (node_of self.now).engine.stage (node_of self.now).engine.link.phase }
@@ -241,7 +240,8 @@ impl<S: Spool, A: Allocator + Copy> Node<S, A> {
         self.engine.phase()
     }
 
-    /// How many messages were sent and not acknowledged, at most `WINDOW_MAX`. In the greeting there is none.
+    /// Returns the number of messages that were sent and not acknowledged, at most `WINDOW_MAX`. It is 0 in the
+    /// greeting.
     pub fn unacked(&self) -> usize
         ensures count { result ≡ length (node_of self.now).engine.link.unacked }
         ensures most { result ≤ WINDOW_MAX }
@@ -250,23 +250,23 @@ impl<S: Spool, A: Allocator + Copy> Node<S, A> {
         self.engine.unacked()
     }
 
-    /// The number of the oldest message that was sent and not acknowledged, or of the next to be sent: it moves on where one
-    /// is acknowledged.
+    /// Returns the number of the oldest message that was sent and not acknowledged, or of the next one to be sent. It
+    /// moves on when a message is acknowledged.
     pub fn oldest(&self) -> u8
         ensures { result ≡ (node_of self.now).engine.link.oldest }
     {
         self.engine.oldest()
     }
 
-    /// The number of the data packet that is to be taken next: it moves on where one is taken.
+    /// Returns the number of the data packet to be taken next. It moves on when one is taken.
     pub fn expected(&self) -> u8
         ensures { result ≡ (node_of self.now).engine.link.expected }
     {
         self.engine.expected()
     }
 
-    /// How many timeouts have passed in a row without progress at an end that talks, at most `TIMEOUTS_MAX`. At any other it
-    /// is 0.
+    /// Returns the number of timeouts in a row without progress, for an end that talks, at most `TIMEOUTS_MAX`. For
+    /// any other it is 0.
     pub fn timeouts(&self) -> u8
         ensures count { result ≡ timeouts_in (phase_at (node_of self.now).engine.stage
             (node_of self.now).engine.link.phase) (node_of self.now).engine.link.timeouts }
@@ -275,21 +275,21 @@ impl<S: Spool, A: Allocator + Copy> Node<S, A> {
         self.engine.timeouts()
     }
 
-    /// Whether it is quiet on repeats.
+    /// Returns whether it is quiet on repeats.
     pub fn is_quiet(&self) -> bool
         ensures { result ≡ (node_of self.now).engine.link.own.quiet }
     {
         self.engine.is_quiet()
     }
 
-    /// What was emitted and not yet cleared.
+    /// Returns the entries that were emitted and not yet cleared.
     pub fn outbox(&self) -> &Outbox<A>
         ensures { result.now ≡ (node_of self.now).engine.outbox }
     {
         self.engine.outbox()
     }
 
-    /// Takes all that was emitted away. What it takes without memory gets no less.
+    /// Removes everything that was emitted. The room that the outbox has without more memory does not shrink.
     pub fn clear_outbox(&mut self)
         ensures entries { (node_of self.new).engine.outbox.entries ≡ [] }
         ensures spare { (node_of self.old).engine.outbox.spare
@@ -303,14 +303,14 @@ impl<S: Spool, A: Allocator + Copy> Node<S, A> {
         self.engine.clear_outbox();
     }
 
-    /// The number of the next conversation with the other end, where one is kept.
+    /// Returns the number of the next conversation with the other end, if one is kept.
     pub fn number(&self) -> Option<u32>
         ensures { result ≡ (node_of self.now).engine.number }
     {
         self.engine.number()
     }
 
-    /// From now on this number is kept, of an end whose session is over. All else stays.
+    /// Sets the number of the next conversation, at an end whose session is over. All else stays.
     pub fn set_number(&mut self, number: u32)
         requires ended { IsEnded (node_of self.old).engine.stage }
         ensures number { (node_of self.new).engine
@@ -322,7 +322,7 @@ impl<S: Spool, A: Allocator + Copy> Node<S, A> {
         self.engine.set_number(number);
     }
 
-    /// The jobs. The names of those that are pending are names.
+    /// Returns the jobs. The names of the pending ones are names.
     pub fn queue(&self) -> &Queue<A>
         ensures jobs { result.now ≡ (node_of self.now).engine.dialogue.machine.lists }
         ensures names { All HasNames
@@ -331,7 +331,7 @@ impl<S: Spool, A: Allocator + Copy> Node<S, A> {
         self.engine.queue()
     }
 
-    /// The files.
+    /// Returns the files.
     pub fn spool(&self) -> &S
         ensures { result.now ≡ spool_of self.now }
     {

@@ -16,7 +16,7 @@ ghost use Rattle.uug_conversation.specs.Sharing.{HaveSameJobs, OnlyMoves, all_jo
 ghost use Rattle.uug_conversation.specs.DialogueState.{unopened};
 ghost use Rattle.uug_conversation.specs.DialogueValue.{dialogue_has_parted, dialogue_of};
 
-/// What is told of a call without the spool is the end's step beside it.
+/// States that a call described without the spool is the end's step with the spool beside it.
 pub fn calls_are_steps()
     ensures late { (h : Holdings) (kept : List Kept) (before after : EngineState)
         → Does (stage_late before.number before.identity
@@ -33,8 +33,8 @@ pub fn calls_are_steps()
         → end_of h kept after ≡ (begins_session id own number (unopened l kept)).state }
 {}
 
-/// Whatever a node is called with, and however many sessions it has, the jobs of the three lists stay the same together,
-/// each as often as it was given.
+/// States that the jobs of the three lists together stay the same, each as often as it was given. This holds whatever
+/// calls are made to a node, and however many sessions it has.
 pub fn jobs_stay_together()
     // An event only moves some from one list to another.
     ensures event { (h : Holdings) (kept : List Kept) (event : EndEvent) (e : EngineState)
@@ -55,8 +55,8 @@ pub fn jobs_stay_together()
     ensures again { (l : Lists) → all_jobs (all_ahead l) ≡ all_jobs l }
 {}
 
-/// Whatever the other end is and does: what an end has kept stays in front, and each Request job that it strikes has an
-/// entry of its own in what it has kept since.
+/// States that the files an end has kept stay in front, whatever the other end is and does. Each Request job that it
+/// strikes has an entry of its own in the files kept since.
 pub fn struck_requests_were_kept()
     // Each event that happens to an end.
     ensures event { (h : Holdings) (kept : List Kept) (event : EndEvent) (e : EngineState)
@@ -87,8 +87,8 @@ pub fn struck_requests_were_kept()
     ensures again { (l : Lists) → (all_ahead l).struck ≡ l.struck }
 {}
 
-/// Whatever comes to a node, each message that it takes is so: what is kept of a file of which a digest was told has that digest,
-/// and what the node tells itself is told of the file that its spool gives.
+/// States that each message that a node takes keeps digests true, whatever comes. If a file's digest was announced,
+/// the kept file has that digest. A digest that the node announces is that of the file that its spool gives.
 pub fn kept_files_fit()
     // Each event that happens to an end.
     ensures event { (h : Holdings) (kept : List Kept) (event : EndEvent) (e : EngineState)
@@ -103,8 +103,9 @@ pub fn kept_files_fit()
         (dialogue_of h kept_after after.engine.dialogue) }
 {}
 
-/// Whatever an end is called with: from the start of its session its number is as it was, until the caller is let in, or hears
-/// that it is; then it is the next one. Where the call was refused it is as it was when the session is over.
+/// States that, from the start of its session, an end's number stays until the caller is let in, or hears that it is.
+/// Then it is the next number. This holds whatever calls are made. If the call was refused, the number at the
+/// session's end is the old one.
 pub fn a_number_stands_as_the_session_does()
     ensures begins { (id : Identity) (own : Announced) (number : Option ℕ) (l : Lists)
         (entries : List EntryValue) (after : EngineState)

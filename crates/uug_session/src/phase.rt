@@ -3,7 +3,7 @@ ghost use Rattle.uug_session.specs.Phases.{is_done, is_over};
 
 use crate::end::End;
 
-/// How far a session has come at an end.
+/// The phase of a session at an end.
 #[derive(Clone, Copy, Debug, PartialEq, Eq)]
 pub enum Phase {
     /// The two ends greet each other.
@@ -19,14 +19,14 @@ pub enum Phase {
 }
 
 impl Phase {
-    /// Whether the session is over.
+    /// Returns whether the session is over.
     pub fn is_over(self) -> bool
         ensures { result ≡ is_over self }
     {
         matches!(self, Phase::Ended(_))
     }
 
-    /// Whether the session is over, with all done.
+    /// Returns whether the session is over, with all done.
     pub fn is_done(self) -> bool
         ensures { result ≡ is_done self }
     {

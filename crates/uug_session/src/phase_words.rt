@@ -1,4 +1,4 @@
-//! The words in which a person is told how far the session of an end is.
+//! The words that describe the state of an end's session to a person.
 ghost use Rattle.std.specs.Prelude.{◌≡◌};
 ghost use Rattle.uug_session.specs.PhaseWords.{end_word, phase_word, side_word};
 
@@ -6,7 +6,7 @@ use crate::end::End;
 use crate::phase::Phase;
 use uug_conversation::Side;
 
-/// The word of an end: `caller` or `called`.
+/// Returns the word for an end: `caller` or `called`.
 pub fn side_word(side: Side) -> &'static str
     ensures { result.now ≡ side_word side }
 {
@@ -16,7 +16,7 @@ pub fn side_word(side: Side) -> &'static str
     }
 }
 
-/// The word of how a session ended, as `done`.
+/// Returns the word for the way a session ended, such as `done`.
 fn end_word(end: End) -> &'static str
     ensures { result.now ≡ end_word end }
 {
@@ -34,7 +34,8 @@ fn end_word(end: End) -> &'static str
     }
 }
 
-/// The word of where a session stands; one that has ended stands for how it ended, as `done`.
+/// Returns the word for the phase of a session. For one that has ended it is the word for the way it ended, such as
+/// `done`.
 pub fn phase_word(phase: Phase) -> &'static str
     ensures { result.now ≡ phase_word phase }
 {

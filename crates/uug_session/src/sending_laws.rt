@@ -1,4 +1,4 @@
-//! That an end sends while there is room, and closes where all is over. The functions do nothing.
+//! Laws that an end sends while there is room, and closes if all is over. The functions do nothing.
 ghost use Rattle.std.specs.Prelude.{◌≤◌, ℕ, List, Option};
 ghost use Rattle.uug_link.specs.Announced.{Announced};
 ghost use Rattle.uug_link.specs.declared.limits.TheConstants.{WINDOW_MAX};
@@ -9,8 +9,8 @@ ghost use Rattle.uug_conversation.specs.Keeper.{Keeper};
 ghost use Rattle.uug_session.specs.Node.{effect_of};
 ghost use Rattle.uug_session.specs.Sending.{HasClosedWhereItIsOver, HasSaidWhatItCan, NodeHasSaidWhatItCan};
 
-/// After each event, on a link that is up, the window lets no message more out or none waits to be sent: whatever keeps the
-/// conversation, and for each window that can be announced, 1 to 7.
+/// States that, after each event on a link that is up, the window lets no more messages out or none waits to be sent.
+/// This holds whatever keeps the conversation, and for each window that can be announced, 1 to 7.
 pub fn an_end_sends_while_there_is_room<C>()
     ensures first { (k : Keeper C) (id : Identity) (own : Announced) (number : Option ℕ) (c : C)
         → HasSaidWhatItCan k (begins_session id own number c).state }
@@ -19,7 +19,8 @@ pub fn an_end_sends_while_there_is_room<C>()
         → HasSaidWhatItCan k e → HasSaidWhatItCan k (end_step k id event e).state }
 {}
 
-/// After each event an end whose link is up has something to say or to take yet: where all is over it has closed.
+/// States that, after each event, an end whose link is up still has something to say or to take. If all is over, it
+/// has closed the link.
 pub fn an_end_closes_where_all_is_over<C>()
     ensures first { (k : Keeper C) (id : Identity) (own : Announced) (number : Option ℕ) (c : C)
         → HasClosedWhereItIsOver k (begins_session id own number c).state }
@@ -27,7 +28,8 @@ pub fn an_end_closes_where_all_is_over<C>()
         → HasClosedWhereItIsOver k e → HasClosedWhereItIsOver k (end_step k id event e).state }
 {}
 
-/// A node sends while there is room: what its calls say of a step (`Does`), whether it takes up an item or has waited too long, is such an event.
+/// States that a node sends while there is room. The step that its calls describe (`Does`), for an item it handles or
+/// for too long a wait, is such an event.
 pub fn a_node_sends_while_there_is_room()
     ensures { (h : Holdings) (kept kept_after : List Kept) (event : EndEvent)
         (before after : EngineState)

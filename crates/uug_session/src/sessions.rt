@@ -19,11 +19,11 @@ use uug_conversation::{Queue, Side, Spool};
 use uug_link::Outbox;
 use uug_reader::Reader;
 
-/// There is no memory for a node. All that was handed in for it is given back as it was.
+/// The error of a node for which there was no memory. It returns all that was handed in, unchanged.
 #[derive(Drop, Error)]
 #[error("out of memory for a node")]
 pub struct NotMade<S: Spool, A: Allocator> {
-    /// Where the end was to stand.
+    /// The end's configuration.
     pub place: Place,
     /// Its jobs.
     pub queue: Queue<A>,
@@ -32,7 +32,7 @@ pub struct NotMade<S: Spool, A: Allocator> {
 }
 
 impl<S: Spool, A: Allocator> fmt::Debug for NotMade<S, A> {
-    /// Shows where the end was to stand, since neither jobs nor files can be shown.
+    /// Shows the end's configuration. Neither jobs nor files can be shown.
     fn fmt<W: fmt::Write>(&self, f: &mut fmt::Formatter<W>) -> fmt::Result {
         f.debug_struct("NotMade")
             .field("place", &self.place)
@@ -41,8 +41,8 @@ impl<S: Spool, A: Allocator> fmt::Debug for NotMade<S, A> {
 }
 
 impl<S: Spool, A: Allocator + Copy> Node<S, A> {
-    /// The end that calls, whose first session begins. It waits for the called end's name, and all pending jobs are to be
-    /// offered.
+    /// Makes the calling end, whose first session begins. It waits for the called end's name. All pending jobs are to
+    /// be offered.
     pub fn caller(alloc: A, place: Place, queue: Queue<A>, spool: S) -> Result<Self, NotMade<S, A>>
         ensures session { IfOk result (λ node. BeginsSession
             (record { side = Caller; me = place.me; peer = place.peer })
@@ -56,7 +56,7 @@ impl<S: Spool, A: Allocator + Copy> Node<S, A> {
         Node::begin(alloc, Side::Caller, place, queue, spool)
     }
 
-    /// The end that is called, whose first session begins. It says its name, and all pending jobs are to be offered.
+    /// Makes the called end, whose first session begins. It says its name. All pending jobs are to be offered.
     pub fn called(alloc: A, place: Place, queue: Queue<A>, spool: S) -> Result<Self, NotMade<S, A>>
         ensures session { IfOk result (λ node. BeginsSession
             (record { side = Called; me = place.me; peer = place.peer })
@@ -70,9 +70,9 @@ impl<S: Spool, A: Allocator + Copy> Node<S, A> {
         Node::begin(alloc, Side::Called, place, queue, spool)
     }
 
-    /// The next session begins, on a new call, of an end whose session is over. All that are pending still are to be
-    /// offered; no byte of the last session is read any more, and what the outbox holds stays in front of what the end
-    /// says. The number of its conversations stays. Without memory for that nothing has changed.
+    /// Begins the next session, on a new call, of an end whose session is over. All pending jobs are to be offered. No
+    /// byte of the last session is read any more. The outbox's entries stay in front of what the end says. The number
+    /// of its conversations stays. Without memory for the end's first words nothing has changed.
     pub fn call_again(&mut self) -> Result<(), AllocError>
         requires ended { IsEnded (node_of self.old).engine.stage }
         ensures session { OnOk result (BeginsSession (node_of self.old).engine.identity
@@ -94,7 +94,7 @@ impl<S: Spool, A: Allocator + Copy> Node<S, A> {
         Ok(())
     }
 
-    /// An end on this side, whose first session begins.
+    /// Makes an end on this side, whose first session begins.
     fn begin(
         alloc: A,
         side: Side,
@@ -134,7 +134,7 @@ impl<S: Spool, A: Allocator + Copy> Node<S, A> {
     }
 }
 
-/// What a node holds of bytes: those that are not read yet, and those that go out.
+/// A node's byte buffers: those for bytes not read yet, and the outbox.
 #[derive(Drop)]
 struct Buffers<A: Allocator> {
     texts: Texts<A>,
@@ -143,7 +143,7 @@ struct Buffers<A: Allocator> {
 }
 
 impl<A: Allocator + Copy> Buffers<A> {
-    /// They hold nothing, and there is room for what an end says first.
+    /// Makes empty buffers, with room for what an end says first.
     fn new(alloc: A) -> Result<Self, AllocError>
         ensures texts { IfOk result (λ buffers. buffers.texts ≡ nothing_held) }
         ensures packets { IfOk result (λ buffers. buffers.packets ≡ fresh) }

@@ -1,7 +1,7 @@
 use crate::end::End;
 use crate::greeting::Greeting;
 
-/// How far a session has come at an end.
+/// The stage of a session at an end.
 #[derive(Clone, Copy)]
 pub(crate) enum Stage {
     /// The two ends greet each other.

@@ -6,8 +6,8 @@ ghost use Rattle.uug_session.specs.TextsHeld.{TextsHeld, nothing_held, text_wait
 ghost use Rattle.uug_talk.specs.StreamTexts.{Rest, TooLong, StandBefore, no_text, texts_of};
 ghost use Rattle.uug_talk.specs.Texts.{IsFirstText};
 
-/// A search of some bytes finds their first text, or that none is whole, or that the first is too long: just as the bytes
-/// say. What it leaves goes on as the bytes do.
+/// States that a search of some bytes finds their first text, or that none is whole, or that the first is too long,
+/// exactly as the bytes say. The bytes that it leaves go on as the searched bytes do.
 pub fn text_search_finds_the_first()
     ensures stands { (stream text others : List ℕ) → search_text stream ≡ text_stands text others
         → FindsText stream text others }
@@ -25,9 +25,9 @@ pub fn text_search_finds_the_first()
         → search_text stream ≡ text_too_long }
 {}
 
-/// Whatever was called since `new` or `clear`, with no text that is too long: the texts that were dropped are the first of
-/// all bytes that were accepted, and the others are those of what is held. Right behind a drop exactly the bytes behind the
-/// text are held. Where a search then finds a text too long, there are no others.
+/// States that the dropped texts are the first of all accepted bytes, and that the others are those of the held bytes.
+/// This holds whatever was called since `new` or `clear`, if no text was too long. Right after a drop, exactly the
+/// bytes after the text are held. If a search then finds a text too long, there are no others.
 pub fn taken_texts_are_first()
     ensures texts { (calls : List TextCall) (now : TextsHeld) → Make calls nothing_held now
         → ReadsAs (texts_of (all_accepted calls))
@@ -44,8 +44,8 @@ pub fn taken_texts_are_first()
         → texts_of (all_accepted calls) ≡ record { texts = all_dropped calls; end = TooLong } }
 {}
 
-/// Texts are taken one after the other, each found by a search of what is held: behind those that were taken of all bytes
-/// that were accepted the next one stands, or there is none, or it is too long.
+/// States that texts are taken one after the other, each found by a search of the held bytes. In all accepted bytes,
+/// the next text follows those that were taken, or there is none, or it is too long.
 pub fn texts_are_taken_in_order()
     ensures begins { Taken [] [] [] }
     ensures more { (texts : List (List ℕ)) (accepted held more : List ℕ) → Taken texts accepted held
@@ -69,8 +69,8 @@ pub fn texts_are_taken_in_order()
         → ReadsAs (texts_of accepted) (with_texts texts (texts_of held)) }
 {}
 
-/// A text that is shown is the one that stands first. It stays shown, whatever is pushed, searched and shown, until it is
-/// dropped; a further search, with more bytes behind, skips nothing and finds it again.
+/// States that a text shown is the first one. It stays shown, whatever is pushed, searched and shown, until it is
+/// dropped. A further search, with more bytes after it, skips nothing and finds it again.
 pub fn a_shown_text_stays()
     ensures is { (text : List ℕ) (held : TextsHeld) → ShowsText text held → text ≡ shown_text held }
     ensures again { (text more : List ℕ) (held : TextsHeld) → ShowsText text held

@@ -8,15 +8,15 @@ use std::marker::Model;
 use uug_reader::READER_SIZE;
 use uug_talk::{Hail, TextTooLong};
 
-/// The bytes that a text takes beside its own: its start byte and its end byte.
+/// The number of bytes that a text takes beside its own: its start byte and its end byte.
 const FRAME_SIZE: usize = 2;
 
-/// The bytes of the greeting that were not read yet, and the first text in them, while it is shown. So many are held as a
-/// `Reader` holds, to which they go when the link begins.
+/// The bytes of the greeting that were not read yet, and the first text in them, while it is shown. It holds as many
+/// bytes as a `Reader`, which receives them when the link begins.
 #[derive(Drop)]
 pub(crate) struct Texts<A: Allocator> {
     bytes: Vec<u8, A>,
-    /// How long the text is that is shown. It stands first, behind its start byte.
+    /// The length of the text shown. It is the first one, after its start byte.
     shown: Option<usize>,
 }
 
@@ -31,17 +31,17 @@ impl<A: Allocator> Model for Texts<A> {
     ghost invariant = { λ t. KeepsTexts t.bytes.items (vec_capacity t.bytes) t.shown };
 }
 
-/// What a search finds.
+/// The result of a search.
 #[derive(Clone, Copy)]
 struct Search {
-    /// How many bytes stand in front that are skipped.
+    /// The number of skipped bytes at the front.
     passed: usize,
-    /// How long the text behind them is, or `None` where none is whole.
+    /// The length of the text after them, or `None` if none is whole.
     shown: Option<usize>,
 }
 
 impl<A: Allocator> Texts<A> {
-    /// Nothing is held. No other call takes memory.
+    /// Makes an empty buffer. No other call takes memory.
     pub(crate) fn new(alloc: A) -> Result<Self, AllocError>
         ensures { IfOk result (λ texts. texts ≡ nothing_held) }
     {
@@ -51,7 +51,7 @@ impl<A: Allocator> Texts<A> {
         })
     }
 
-    /// Appends the first bytes that fit, and says how many. The text shown stays.
+    /// Appends the first bytes that fit, and returns their number. The text shown stays.
     pub(crate) fn push(&mut self, piece: &[u8]) -> usize
         ensures count { result ≡ min (READER_SIZE - length self.old.bytes) (length piece.now) }
         ensures bytes { self.new.bytes ≡ self.old.bytes ++ take result piece.now }
@@ -62,8 +62,8 @@ impl<A: Allocator> Texts<A> {
         count
     }
 
-    /// Drops what is skipped from the front, up to the first text, and says whether one is whole. That text is shown
-    /// until it is dropped. Where there is none, at least one byte fits. After `TextTooLong` nothing is held.
+    /// Drops the skipped bytes from the front, up to the first text, and returns whether one is whole. That text is
+    /// shown until it is dropped. If there is none, at least one byte fits. After `TextTooLong` nothing is held.
     pub(crate) fn search(&mut self) -> Result<bool, TextTooLong>
         ensures exact { self.new ≡ after_text_search (search_text self.old.bytes) }
         ensures outcome { MatchResult result (λ found.
@@ -82,7 +82,7 @@ impl<A: Allocator> Texts<A> {
         Ok(found.shown.is_some())
     }
 
-    /// The text shown, without its start byte and its end byte.
+    /// Returns the text shown, without its start byte and its end byte.
     pub(crate) fn showing(&self) -> Option<&[u8]>
         ensures shows { MatchOption result (self.now.shown_size ≡ 0) (λ text.
             ShowsText text.now self.now) }
@@ -92,7 +92,7 @@ impl<A: Allocator> Texts<A> {
         Some(&self.bytes[1..1 + len])
     }
 
-    /// Takes away the text that is shown, with its start byte and its end byte.
+    /// Removes the text shown, with its start byte and its end byte.
     pub(crate) fn drop_found(&mut self)
         requires { 0 < self.old.shown_size }
         ensures text { ShowsText (shown_text self.old) self.old }
@@ -104,7 +104,7 @@ impl<A: Allocator> Texts<A> {
         }
     }
 
-    /// All bytes that are held.
+    /// Returns all held bytes.
     pub(crate) fn bytes(&self) -> &[u8]
         ensures bytes { result.now ≡ self.now.bytes }
         ensures most { length result.now ≤ READER_SIZE }
@@ -112,7 +112,7 @@ impl<A: Allocator> Texts<A> {
         self.bytes.as_slice()
     }
 
-    /// How many bytes are held.
+    /// Returns the number of held bytes.
     pub(crate) fn waiting(&self) -> usize
         ensures len { result ≡ length self.now.bytes }
         ensures most { result ≤ READER_SIZE }
@@ -120,7 +120,7 @@ impl<A: Allocator> Texts<A> {
         self.bytes.len()
     }
 
-    /// Takes all bytes away.
+    /// Removes all bytes.
     pub(crate) fn clear(&mut self)
         ensures { self.new ≡ nothing_held }
     {
@@ -129,7 +129,7 @@ impl<A: Allocator> Texts<A> {
     }
 }
 
-/// Passes over what stands in front of the first text.
+/// Skips the bytes before the first text.
 fn search_in(bytes: &[u8]) -> Result<Search, TextTooLong>
     ensures within { IfOk result (λ search. search.passed ≤ length bytes.now) }
     ensures exact { MatchResult result

@@ -1,4 +1,4 @@
-//! Laws of how an end of a conversation is described by two numbers. The functions do nothing.
+//! Laws that two numbers describe an end of a conversation. The functions do nothing.
 ghost use Rattle.std.specs.Prelude.{◌≡◌, ℕ, List, [], false};
 ghost use Rattle.uug_conversation.specs.declared.job.Job.{Job};
 ghost use Rattle.uug_conversation.specs.Count.{count_keeper};
@@ -12,7 +12,8 @@ ghost use Rattle.uug_conversation.specs.declared.side.Side.{Side};
 ghost use Rattle.uug_session.specs.TwoEnds.{IsTold, Talker, after_act, first_talker, sends, takes};
 ghost use Rattle.uug_conversation.specs.View.{conversation_view, party};
 
-/// What an end keeps of a conversation moves as the end does, whatever it has brought from earlier sessions.
+/// States that the record that an end keeps of a conversation moves as the end does, whatever it has brought from
+/// earlier sessions.
 pub fn an_end_keeps_what_it_brought()
     ensures opens { (me : Side) (p : Party) (struck failed : List Job) (kept : List Kept)
         → opened_with me p.holdings p.measure
@@ -27,8 +28,9 @@ pub fn an_end_keeps_what_it_brought()
         ≡ talk_behind struck failed kept p.measure (after_act sends p t) }
 {}
 
-/// An end of a conversation is described by two numbers: how many messages it has sent and taken say what it says next, whether
-/// all is over, and whether HY was sent or taken; and what it has taken fitted its turn.
+/// States that two numbers describe an end of a conversation: how many messages it has sent and taken. They say what
+/// it says next, whether all is over, and whether HY was sent or taken. The messages that it has taken fitted their
+/// turns.
 pub fn an_end_is_told_by_two_numbers()
     ensures next { (me : Side) (a b : Party) (own others : Talker) (struck failed : List Job)
         (kept : List Kept)

@@ -4,20 +4,20 @@ ghost use Rattle.uug_stream.specs.Streams.{Moves, CountsFault};
 
 use thiserror::Error;
 
-/// The device behind an input refused a read.
+/// The error that an input's device refused a read.
 #[derive(Clone, Copy, Debug, PartialEq, Eq, Error)]
 #[error("device fault")]
 pub struct ReadFailed;
 
 /// A source of bytes.
 pub trait Input {
-    /// The bytes still to come, where the input tells them.
+    /// The bytes still to come, if the input gives them.
     ghost to_come: { Self → Option (List ℕ) };
 
-    /// How many faults its device had.
+    /// The number of faults its device had.
     ghost fault_count: { Self → ℕ };
 
-    /// Moves bytes to the front of `buffer`, and says how many. It is 0 at the end of the input.
+    /// Moves bytes to the front of `buffer`, and returns their number. It is 0 at the end of the input.
     fn read(&mut self, buffer: &mut [u8]) -> Result<usize, ReadFailed>
         requires { 0 < length buffer.old }
         ensures within { IfOk result (λ n. n ≤ length buffer.old) }
@@ -28,7 +28,7 @@ pub trait Input {
         ensures fault { OnErr result (CountsFault (fault_count self.old) (fault_count self.new)) }
         ensures grows { fault_count self.old ≤ fault_count self.new };
 
-    /// How many faults the device had, up to the greatest number that fits.
+    /// Returns the number of faults the device had, up to the greatest number that fits.
     fn faults(&self) -> u64
         ensures { result ≡ fault_count self.now };
 }

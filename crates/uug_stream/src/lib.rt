@@ -1,5 +1,5 @@
-//! Inputs and outputs of bytes, over devices or in memory, and the faults of the program's tools, which read the one and
-//! write the other.
+//! Inputs and outputs of bytes, over devices or in memory. It also has the faults of the program's tools, which read
+//! inputs and write outputs.
 #![tactic(auto)]
 
 mod fault;

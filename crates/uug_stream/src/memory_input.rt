@@ -3,7 +3,7 @@ ghost use Rattle.std.specs.Prelude.{◌≡◌, ℕ, List, Some};
 use crate::input::{Input, ReadFailed};
 use std::marker::Model;
 
-/// Bytes in memory as an input. It has no faults.
+/// An input of bytes in memory. It has no faults.
 #[derive(Drop)]
 pub struct MemoryInput<'a> {
     bytes: &'a [u8],
@@ -16,14 +16,14 @@ impl<'a> Model for MemoryInput<'a> {
 }
 
 impl<'a> MemoryInput<'a> {
-    /// An input of these bytes.
+    /// Makes an input of these bytes.
     pub fn new(bytes: &'a [u8]) -> Self
         ensures { result ≡ bytes.now }
     {
         MemoryInput { bytes }
     }
 
-    /// The bytes still to come.
+    /// Returns the bytes still to come.
     pub fn bytes(&self) -> &'a [u8]
         ensures { result.now ≡ self.now }
     {

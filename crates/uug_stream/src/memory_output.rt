@@ -17,7 +17,7 @@ impl<A: Allocator> Model for MemoryOutput<A> {
 }
 
 impl<A: Allocator> MemoryOutput<A> {
-    /// An output to which nothing was written. Only `write` takes memory, of `alloc`.
+    /// Makes an output to which nothing was written. Only `write` takes memory, from `alloc`.
     pub fn new(alloc: A) -> Self
         ensures { result ≡ [] }
     {
@@ -26,7 +26,7 @@ impl<A: Allocator> MemoryOutput<A> {
         }
     }
 
-    /// What was written.
+    /// Returns the bytes that were written.
     pub fn bytes(&self) -> &[u8]
         ensures { result.now ≡ self.now }
     {

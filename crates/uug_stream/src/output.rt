@@ -6,26 +6,26 @@ ghost use Rattle.uug_stream.specs.Streams.{Appends, AppendsFront, CountsFault};
 use crate::fault::ToolFault;
 use thiserror::Error;
 
-/// Why an output refused a write.
+/// The reason why an output refused a write.
 #[derive(Clone, Copy, Debug, PartialEq, Eq, Error)]
 pub enum WriteFailed {
-    /// The device behind it failed.
+    /// The output's device failed.
     #[error("device fault")]
     Device,
-    /// Memory ran out. An output that can fail both ways finds this first.
+    /// Memory ran out. An output that can fail both ways checks this first.
     #[error("out of memory")]
     Memory,
 }
 
 /// A sink of bytes.
 pub trait Output {
-    /// What was appended so far, where the output tells it.
+    /// The bytes appended until now, if the output gives them.
     ghost written: { Self → Option (List ℕ) };
 
-    /// How many faults its device had.
+    /// The number of faults its device had.
     ghost fault_count: { Self → ℕ };
 
-    /// Appends the first bytes of `piece`, at least one, and says how many.
+    /// Appends the first bytes of `piece`, at least one, and returns their number.
     fn write(&mut self, piece: &[u8]) -> Result<usize, WriteFailed>
         requires { 0 < length piece.now }
         ensures within { IfOk result (λ n. (0 < n) × (n ≤ length piece.now)) }
@@ -40,12 +40,12 @@ pub trait Output {
             → fault_count self.new ≡ fault_count self.old }
         ensures grows { fault_count self.old ≤ fault_count self.new };
 
-    /// How many faults the device had, up to the greatest number that fits.
+    /// Returns the number of faults the device had, up to the greatest number that fits.
     fn faults(&self) -> u64
         ensures { result ≡ fault_count self.now };
 }
 
-/// Appends the whole piece, in as many writes as it takes; where one is refused, a front of the piece.
+/// Appends the whole piece, in as many writes as it takes. If one is refused, it has appended a front of the piece.
 pub fn write_all<O: Output>(output: &mut O, piece: &[u8]) -> Result<(), ToolFault>
     ensures appends { OnOk result
         (Appends piece.now (O.written output.old) (O.written output.new)) }

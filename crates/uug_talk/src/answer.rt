@@ -55,11 +55,11 @@ impl Answer {
     }
 }
 
-/// Reads an answer, without its zero byte. Its first word decides by its first letters; what follows
-/// is read past, but for the mode behind `RY`.
+/// Reads an answer, without its zero byte. The first letters of its first word decide. The rest is ignored, except for
+/// the mode after `RY`.
 ///
-/// A text that is too long is refused as `TooLong`, then other letters as `Unknown`, then a mode that
-/// is none as `Mode`.
+/// A text that is too long is refused as `TooLong`, then other letters as `Unknown`, then a word that is no mode as
+/// `Mode`.
 pub fn read_answer(text: &[u8]) -> Result<Answer, BadText>
     // What is read is written so.
     ensures found { IfOk result (λ answer. ReadsAnswer text.now answer) }
@@ -97,7 +97,7 @@ fn read_letters(text: &[u8]) -> Result<Answer, BadText>
     }
 }
 
-// The mode behind `RY`, or the default where there is none.
+// Returns the mode after `RY`, or the default if there is none.
 fn given_mode(rest: &[u8]) -> Result<u16, BadText>
     ensures { result ≡ given_mode (words rest.now) }
 {
@@ -107,7 +107,7 @@ fn given_mode(rest: &[u8]) -> Result<u16, BadText>
     }
 }
 
-/// Returns the text of an answer, without its zero byte. `DoneYesMaster` is only read; `is_writable` tells.
+/// Returns the text of an answer, without its zero byte. `DoneYesMaster` is only read: see `is_writable`.
 pub fn write_answer(answer: &Answer) -> ArrayVec<u8, WRITTEN_MAX>
     requires { IsWritten answer.now }
     ensures text { result.items ≡ answer_text answer.now }

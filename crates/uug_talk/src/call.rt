@@ -15,9 +15,9 @@ pub const NUMBER_DIGITS_MAX: usize = 10;
 /// The greatest number of a conversation.
 pub const NUMBER_MAX: u32 = u32::MAX;
 
-/// The text in which a caller says its name, without its 0x10 and its end byte: `S` and the name, and
-/// where it keeps a number of its conversations, ` -Q` and the number in decimal (Taylor UUCP manual,
-/// "UUCP Protocol").
+/// Returns the text in which a caller says its name, without its 0x10 and its end byte. It is `S` and the name. If the
+/// caller keeps a number of its conversations, ` -Q` and the number in decimal follow (Taylor UUCP manual, "UUCP
+/// Protocol").
 pub fn write_call(name: &Name, number: Option<u32>) -> ArrayVec<u8, HAIL_MAX>
     ensures text { result.items ≡ call_text name.now number }
     // The number is read as the one given.
@@ -51,9 +51,9 @@ fn push_all(text: &mut ArrayVec<u8, HAIL_MAX>, bytes: &[u8])
     };
 }
 
-/// The number of a conversation in a caller's text, as a called end reads it: that of the first word
-/// behind the name which is `-Q` and one to `NUMBER_DIGITS_MAX` decimal digits of at most `NUMBER_MAX`.
-/// `None` where no word is such.
+/// Returns the number of a conversation in a caller's text, as a called end reads it. It is in the first word after
+/// the name that is `-Q` and one to `NUMBER_DIGITS_MAX` decimal digits, at most `NUMBER_MAX`. Returns `None` if there
+/// is no such word.
 pub fn caller_number(text: &[u8]) -> Option<u32>
     ensures { result ≡ number_in_call text.now }
 {

@@ -15,7 +15,7 @@ pub const HAIL_WRITTEN_MAX: usize = HAIL_MAX + 2;
 /// The byte with which a handshake text begins. Inside a text it restarts it.
 pub const TEXT_START: u8 = 0x10;
 
-/// More bytes than a handshake text may have came behind a 0x10.
+/// The error that more bytes came after a 0x10 than a handshake text may have.
 #[derive(Clone, Copy, Debug, PartialEq, Eq, Error)]
 #[error("handshake text too long")]
 pub struct TextTooLong;
@@ -27,9 +27,9 @@ enum Stage {
     Whole,
 }
 
-/// Finds the handshake texts in a stream that comes in pieces: what stands between a 0x10 and the
-/// next zero byte or line feed, with no 0x10 between. A clause sees what was heard since the last
-/// text: nothing of a text, the front of one, or a whole one.
+/// A finder of handshake texts in a stream that comes in pieces. A text is the bytes between a 0x10 and the next zero
+/// byte or line feed, with no 0x10 between. A clause sees what was heard since the last text: nothing of a text, the
+/// front of one, or a whole one.
 #[derive(Drop)]
 pub struct Hail {
     stage: Stage,
@@ -47,7 +47,7 @@ impl Model for Hail {
 }
 
 impl Hail {
-    /// Nothing heard yet.
+    /// Makes a finder that has heard nothing.
     pub fn new() -> Self
         ensures { result ≡ Passing }
     {
@@ -64,14 +64,14 @@ impl Hail {
         self.stage = Stage::Passing;
     }
 
-    /// Whether a text is whole, which `text` then shows.
+    /// Returns whether a text is whole, which `text` then shows.
     pub fn is_whole(&self) -> bool
         ensures { result ≡ is_whole self.now }
     {
         self.stage == Stage::Whole
     }
 
-    /// How many bytes of a text that is not whole are held, its 0x10 among them; 0 where there is none.
+    /// Returns the number of held bytes of a text that is not whole, including its 0x10. It is 0 if there is none.
     pub fn waiting(&self) -> usize
         ensures { result ≡ waiting_of self.now }
     {
@@ -82,7 +82,7 @@ impl Hail {
         }
     }
 
-    /// The whole text, without its 0x10 and its end byte. `is_whole` tells whether there is one.
+    /// Returns the whole text, without its 0x10 and its end byte. There must be one: see `is_whole`.
     pub fn text(&self) -> &[u8]
         requires { IsWhole self.now }
         ensures { self.now ≡ Whole result.now }
@@ -90,8 +90,8 @@ impl Hail {
         self.text.as_slice()
     }
 
-    /// Takes bytes of the next piece, up to a text's end byte: how many, and whether a text is whole.
-    /// While a text is whole nothing is used. After `TextTooLong` nothing is heard, as after `clear`.
+    /// Takes bytes of the next piece, up to a text's end byte. Returns their number, and whether a text is whole.
+    /// While a text is whole it takes nothing. After `TextTooLong` nothing is heard, as after `clear`.
     pub fn push(&mut self, piece: &[u8]) -> Result<(usize, bool), TextTooLong>
         // What is heard is what the stream says, however it was cut into pieces.
         ensures ok { IfOk result (λ found. Hears self.old piece.now found.0 self.new) }
@@ -146,8 +146,8 @@ impl Hail {
     }
 }
 
-/// Whether a text may be written as a handshake text: at most `HAIL_MAX` bytes, none of them 0x10, zero or
-/// a line feed.
+/// Returns whether a text may be written as a handshake text: at most `HAIL_MAX` bytes, none of them 0x10, zero or a
+/// line feed.
 pub fn is_hail_text(text: &[u8]) -> bool
     ensures { IsTrue result ↔ IsHailText text.now }
 {
@@ -157,7 +157,7 @@ pub fn is_hail_text(text: &[u8]) -> bool
             .all(|b| *b != TEXT_START && *b != 0 && *b != b'\n')
 }
 
-/// A handshake text as it goes out: 0x10, the text, a zero byte. `is_hail_text` tells whether it may.
+/// Returns a handshake text as it goes out: 0x10, the text, a zero byte. The text must be one: see `is_hail_text`.
 pub fn write_hail(text: &[u8]) -> ArrayVec<u8, HAIL_WRITTEN_MAX>
     requires { IsHailText text.now }
     ensures spelled { result.items ≡ written_text text.now }

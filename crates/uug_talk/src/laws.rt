@@ -18,9 +18,9 @@ ghost use Rattle.uug_talk.specs.HailCalls.{HailCall, Lead, FindsTooLong, all_use
 ghost use Rattle.uug_talk.specs.StreamTexts.{StreamTexts, HasTexts, Rest, TooLong, texts_of, continued, with_text, no_text};
 ghost use Rattle.uug_talk.specs.Texts.{IsFirstText, IsTooLong, Heard, Passing, Whole, Holds, is_whole, left_to_hear, used_before, hear};
 
-/// Each limit is this number: of the bytes of a name, a command, a handshake text, a message, a file and a line; of the
-/// limit of a file; of a mode, of the octal digits in which one is read, and the mode of a file that is given without one. So is the byte
-/// with which a handshake text begins.
+/// States each limit as a number: the most bytes of a name, a command, a handshake text, a message, a file and a line.
+/// Also stated are the greatest limit of a file, the limit of a mode, the most octal digits in which one is read, and the mode of a file that is
+/// given without one. The byte at the start of a handshake text is stated too.
 pub fn limits()
     ensures name { NAME_MAX ≡ 200 }
     ensures command { COMMAND_MAX ≡ 4096 }
@@ -35,26 +35,26 @@ pub fn limits()
     ensures line { LINE_MAX ≡ 65536 }
 {}
 
-/// What is written of a command is read as the command.
+/// States that the text written for a command is read as that command.
 pub fn written_orders_are_read()
     ensures { (order : Order) → HasNames order → HasMode order
         → order_of (order_text order) ≡ Ok order }
 {}
 
-/// What is written of an answer is read as the answer.
+/// States that the text written for an answer is read as that answer.
 pub fn written_answers_are_read()
     ensures { (answer : Answer) → IsWritten answer → answer_of (answer_text answer) ≡ Ok answer }
 {}
 
-/// What is written of a command and of an answer may be cut into messages.
+/// States that the text written for a command or an answer may be cut into messages.
 pub fn written_texts_are_commands()
     ensures order { (order : Order) → HasNames order → HasMode order
         → IsCommandText (order_text order) }
     ensures answer { (answer : Answer) → IsWritten answer → IsCommandText (answer_text answer) }
 {}
 
-/// Where commands are not short, a command goes with zeros up to a multiple of the size. Where they are, it goes in as
-/// many messages, all the same but the last, which lacks zeros at its end.
+/// States how short commands differ. A command that is not short goes with zeros up to a multiple of the size. A short
+/// one goes in as many messages, all the same except the last, which lacks zeros at its end.
 pub fn short_commands()
     ensures filled { (size : ℕ) (text : List ℕ)
         → command_messages (record { size = size; short = false }) text
@@ -64,8 +64,8 @@ pub fn short_commands()
         (command_messages (record { size = size; short = false }) text) }
 {}
 
-/// The messages of a command from an offset on are the message there, then those from behind it, up to
-/// the one with the zero byte. What is left of the text may be cut into messages, too.
+/// States that the messages of a command from an offset on are the message there, then those after it, up to the one
+/// with the zero byte. The rest of the text may be cut into messages too.
 pub fn command_goes_on()
     ensures more { (m : Measure) (offset : ℕ) (text : List ℕ) → 0 < m.size
         → offset + m.size ≤ length text
@@ -79,8 +79,8 @@ pub fn command_goes_on()
         → IsCommandText (drop offset text) }
 {}
 
-/// The messages of a file from an offset on are the message there, then those from behind it, up to the
-/// empty one.
+/// States that the messages of a file from an offset on are the message there, then those after it, up to the empty
+/// one.
 pub fn file_goes_on()
     ensures more { (size offset : ℕ) (bytes : List ℕ) → 0 < size → offset < length bytes
         → file_messages size (drop offset bytes)
@@ -89,7 +89,7 @@ pub fn file_goes_on()
         → file_messages size (drop offset bytes) ≡ [] ∷ [] }
 {}
 
-/// No message is longer than the size.
+/// States that no message is longer than the size.
 pub fn messages_fit()
     ensures command { (m : Measure) (text : List ℕ)
         → All (λ message. length message ≤ m.size) (command_messages m text) }
@@ -97,20 +97,20 @@ pub fn messages_fit()
         → All (λ message. length message ≤ size) (file_messages size bytes) }
 {}
 
-/// What messages say together, with one message more, where they are not whole before it.
+/// States what messages say together with one message more, if they are not whole before it.
 pub fn gathering_goes_on()
     ensures { (kind : Kind) (messages : List (List ℕ)) (message : List ℕ)
         → (gathered kind messages).whole ≡ false
         → gathered kind (messages ++ message ∷ []) ≡ with_message (gathered kind messages) message }
 {}
 
-/// A command's messages are whole with the last one, hold the command then, and pass no limit before.
+/// States that a command's messages are whole with the last one, then hold the command, and pass no limit before.
 pub fn command_is_gathered()
     ensures { (m : Measure) (text : List ℕ) → 0 < m.size → IsCommandText text
         → GathersBack OfCommand (command_messages m text) text }
 {}
 
-/// A file's messages are whole with the last one, hold the file then, and pass no limit before.
+/// States that a file's messages are whole with the last one, then hold the file, and pass no limit before.
 pub fn file_is_gathered()
     ensures { (size limit : ℕ) (bytes : List ℕ) → 0 < size
         → GathersBack (OfFile limit) (file_messages size bytes) bytes }
@@ -128,7 +128,7 @@ pub fn file_goes_on_behind_its_front()
         ≡ record { kind = OfFile limit; bytes = bytes; whole = true } }
 {}
 
-/// A stream has one first text, which ends at one place, or one place at which it is too long.
+/// States that a stream has one first text, which ends at one place, or one place at which it is too long.
 pub fn one_first_text()
     ensures texts { (front text rest other_front other_text other_rest : List ℕ)
         → IsFirstText front text → IsFirstText other_front other_text
@@ -141,15 +141,15 @@ pub fn one_first_text()
         → front ++ rest ≡ other_front ++ other_rest → ⊥ }
 {}
 
-/// Each stream has its texts in exactly one way: those that a function gives.
+/// States that each stream has its texts in exactly one way: those that a function gives.
 pub fn one_reading_of_texts()
     ensures some { (stream : List ℕ) → HasTexts stream (texts_of stream) }
     ensures only { (stream : List ℕ) (found : StreamTexts) → HasTexts stream found
         → found ≡ texts_of stream }
 {}
 
-/// The texts of a stream do not depend on the pieces in which it comes: what more brings are the texts of
-/// the rest with it behind. Where one is too long, more brings none.
+/// States that the texts of a stream do not depend on the pieces in which it comes. More bytes add the texts of the
+/// rest with these bytes after it. If a text is too long, more bytes add none.
 pub fn texts_in_pieces()
     ensures rest { (stream more : List ℕ) (texts : List (List ℕ)) (rest : List ℕ)
         (found : StreamTexts)
@@ -165,7 +165,7 @@ pub fn texts_in_pieces()
         → texts_of (stream ++ more) ≡ continued (texts_of stream) more }
 {}
 
-/// What is heard of a piece with more behind it: what is heard of the piece, and then of what is behind.
+/// States that hearing a piece with more after it is hearing the piece, and then what is after it.
 pub fn hearing_in_pieces()
     ensures goes_on { (heard next : Heard) (piece more : List ℕ) (used : ℕ)
         → hear heard piece ≡ Some (used, next) → is_whole next ≡ false
@@ -177,8 +177,8 @@ pub fn hearing_in_pieces()
         → hear heard (piece ++ more) ≡ None }
 {}
 
-/// What is heard of a piece is what the stream says with the bytes behind it that are used: no more than the piece has,
-/// and all of them while no text is whole.
+/// States that the text heard from a piece is what the stream says with the used bytes of the piece. The used bytes
+/// are no more than the piece has, and all of them while no text is whole.
 pub fn hearing_says_what_came()
     ensures holds { (heard next : Heard) (before piece : List ℕ) (used : ℕ) → Holds heard before
         → hear heard piece ≡ Some (used, next) → Holds next (before ++ take used piece) }
@@ -187,7 +187,7 @@ pub fn hearing_says_what_came()
         → (used ≤ length piece) × (is_whole next ≡ false → used ≡ length piece) }
 {}
 
-/// What is heard of a piece says how the texts of the stream go on.
+/// States that hearing a piece shows how the texts of the stream go on.
 pub fn hearing_finds_the_texts()
     ensures whole { (heard : Heard) (before piece text : List ℕ) (used : ℕ) → Holds heard before
         → hear heard piece ≡ Some (used, Whole text)
@@ -199,8 +199,8 @@ pub fn hearing_finds_the_texts()
         → hear heard piece ≡ None → texts_of (before ++ piece) ≡ no_text TooLong }
 {}
 
-/// Whatever calls a `Hail` had since it was made, with a `clear` behind each whole text alone: the texts that
-/// it showed are those of all bytes that it used.
+/// States that the texts that a `Hail` showed are those of all bytes that it used. This holds for any calls since it
+/// was made, with a `clear` after each whole text and nowhere else.
 pub fn shown_are_the_texts()
     ensures rest { (calls : List HailCall) (heard : Heard) → Lead Passing calls heard
         → is_whole heard ≡ false
@@ -216,8 +216,8 @@ pub fn shown_are_the_texts()
         → HasTexts (all_used calls ++ piece) (record { texts = all_shown calls; end = TooLong }) }
 {}
 
-/// Hearing with a `clear` behind each whole text comes to an end: the bytes left, and one more where a text is
-/// whole, fall.
+/// States that hearing with a `clear` after each whole text comes to an end. The number of bytes left, plus one if a
+/// text is whole, falls.
 pub fn hearing_comes_to_an_end()
     ensures { (heard next : Heard) (bytes : List ℕ) (used : ℕ)
         → hear heard bytes ≡ Some (used, next)

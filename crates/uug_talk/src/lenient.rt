@@ -22,8 +22,8 @@ pub fn is_held(text: &[u8]) -> bool
     }
 }
 
-/// Reads the mode of `RY 0644M`, by which the giving end says that it wants to be master. Another second word is refused as
-/// `Mode`, and so is a text with none.
+/// Reads the mode of `RY 0644M`, by which the giving end says that it wants to be master. Another second word is
+/// refused as `Mode`, and so is a text with none.
 pub fn read_wished(text: &[u8]) -> Result<Answer, BadText>
     ensures exact { result ≡ wished_words (words text.now) }
     ensures written { IfOk result (λ answer. IsWritten answer) }
@@ -43,7 +43,8 @@ fn without_wish(word: &[u8]) -> &[u8]
     }
 }
 
-/// Returns the letter of a command that can be refused in its own letter: its first word is one capital letter other than H.
+/// Returns the letter of a command that can be refused in its own letter: its first word is one capital letter other
+/// than H.
 pub fn refused_letter(text: &[u8]) -> Option<u8>
     ensures exact { result ≡ refused_letter_of text.now }
     ensures refusable { IfSome result (λ letter. is_refusable letter ≡ true) }

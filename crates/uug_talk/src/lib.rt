@@ -1,5 +1,5 @@
-//! The texts of a UUCP session: names, commands and their answers, handshake texts, and the
-//! messages in which commands and files travel.
+//! The texts of a UUCP session: names, commands and their answers, handshake texts, and the messages in which commands
+//! and files travel.
 #![tactic(auto)]
 
 mod answer;

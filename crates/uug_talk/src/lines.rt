@@ -6,7 +6,7 @@ ghost use Rattle.uug_talk.specs.Lines.{is_line_feed, lines};
 /// The longest line of a text that a person writes, in bytes, its spaces included and its line feed not.
 pub const LINE_MAX: usize = 65_536;
 
-/// The first line of a text, without its line feed, and what stands after it, or `None` where the text is empty.
+/// Splits the first line, without its line feed, from the text after it. Returns `None` if the text is empty.
 pub fn split_line(text: &[u8]) -> Option<(&[u8], &[u8])>
     ensures lines { MatchOption result (lines text.now ≡ [])
         (λ found. lines text.now ≡ found.0.now ∷ lines found.1.now) }

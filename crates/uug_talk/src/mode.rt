@@ -17,7 +17,7 @@ fn is_mode_word(word: &[u8]) -> bool
         && word.iter().all(|b| matches!(*b, b'0'..=b'7'))
 }
 
-// The value of octal digits, with what passes a mode cut off.
+// Returns the value of octal digits, without the bits above those of a mode.
 fn octal(word: &[u8]) -> u16
     requires { IsModeWord word.now }
     ensures { result ≡ mode_of word.now }
@@ -29,7 +29,7 @@ fn octal(word: &[u8]) -> u16
     mode
 }
 
-/// The mode that a word spells, one to seven octal digits. Another word is refused as `Mode`.
+/// Reads the mode that a word spells in one to seven octal digits. Another word is refused as `Mode`.
 pub fn read_mode(word: &[u8]) -> Result<u16, BadText>
     ensures exact { result ≡ mode_read word.now }
     ensures within { IfOk result (λ mode. mode ≤ MODE_MAX) }
@@ -41,7 +41,7 @@ pub fn read_mode(word: &[u8]) -> Result<u16, BadText>
     }
 }
 
-/// A mode as it is written: four octal digits.
+/// Returns a mode as written: four octal digits.
 pub fn mode_digits(mode: u16) -> [u8; 4]
     requires { mode ≤ MODE_MAX }
     ensures { result ≡ mode_digits mode }

@@ -43,7 +43,7 @@ fn is_name(bytes: &[u8]) -> bool
     !bytes.is_empty() && bytes.len() <= NAME_MAX && bytes.iter().all(|b| b.is_ascii_graphic())
 }
 
-// The bytes, and zeros up to the end.
+// Returns the bytes, followed by zeros up to the end.
 fn padded(bytes: &[u8]) -> [u8; NAME_MAX]
     requires { length bytes.now ≤ NAME_MAX }
     ensures { result ≡ bytes.now ++ replicate (NAME_MAX - length bytes.now) 0 }
@@ -54,7 +54,7 @@ fn padded(bytes: &[u8]) -> [u8; NAME_MAX]
 }
 
 impl Name {
-    /// The name of these bytes. Bytes that are no name are refused as `Name`.
+    /// Makes the name of these bytes. Bytes that are no name are refused as `Name`.
     pub fn new(bytes: &[u8]) -> Result<Self, BadText>
         ensures variant { IsOk result ↔ IsName bytes.now }
         ensures bytes { IfOk result (λ name. name ≡ bytes.now) }
@@ -70,7 +70,7 @@ impl Name {
         })
     }
 
-    /// The bytes of the name.
+    /// Returns the bytes of the name.
     pub fn as_bytes(&self) -> &[u8]
         ensures value { result.now ≡ self.now }
         ensures name { IsName result.now }
@@ -78,7 +78,7 @@ impl Name {
         &self.bytes[..self.len]
     }
 
-    /// The name as a text, of as many characters as the name has bytes.
+    /// Returns the name as a text, with as many characters as the name has bytes.
     pub fn as_str(&self) -> &str
         ensures { result.now ≡ self.now }
     {

@@ -9,15 +9,15 @@ fn are_digits(word: &[u8]) -> bool
     word.iter().all(|b| b.is_ascii_digit())
 }
 
-/// Whether a word is one or more decimal digits.
+/// Returns whether a word is one or more decimal digits.
 fn is_numeral(word: &[u8]) -> bool
     ensures { result ≡ is_numeral word.now }
 {
     !word.is_empty() && are_digits(word)
 }
 
-/// The number that a word of decimal digits writes, if it is at most `most`. Zeros in front are read,
-/// a sign is not.
+/// Reads the number that a word of decimal digits writes, if it is at most `most`. Leading zeros are accepted, a sign
+/// is not.
 pub fn read_number(word: &[u8], most: u32) -> Option<u32>
     ensures exact { result ≡ number_of most word.now }
     ensures within { IfSome result (λ n. n ≤ most) }

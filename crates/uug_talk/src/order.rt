@@ -21,7 +21,7 @@ pub enum Order {
         source: Name,
         /// The file's name at the slave.
         target: Name,
-        /// Whom the file belongs to.
+        /// The user to whom the file belongs.
         user: Name,
         /// The name of the copy that was made of the file, with option `C`.
         temp: Option<Name>,
@@ -34,7 +34,7 @@ pub enum Order {
         source: Name,
         /// The file's name at the master.
         target: Name,
-        /// Whom the file belongs to.
+        /// The user to whom the file belongs.
         user: Name,
     },
     /// `H`: the master has no more jobs.
@@ -42,7 +42,7 @@ pub enum Order {
 }
 
 impl Order {
-    /// Whether it can be written: its mode is at most `MODE_MAX`.
+    /// Returns whether it can be written: its mode is at most `MODE_MAX`.
     pub fn is_writable(&self) -> bool
         ensures { IsTrue result ↔ HasMode self.now }
     {
@@ -53,11 +53,11 @@ impl Order {
     }
 }
 
-/// Reads a command, without its zero byte. Words that follow the last one needed are read past.
+/// Reads a command, without its zero byte. Words after the last one needed are ignored.
 ///
-/// A text that is too long is refused as `TooLong`, then another first word as `Unknown`, then too few
-/// words, or options without a dash, as `Fields`, then a word that is no name as `Name`, and last a
-/// mode that is none as `Mode`.
+/// A text that is too long is refused as `TooLong`, then another first word as `Unknown`. Then too few words, or
+/// options without a dash, are refused as `Fields`, then a word that is no name as `Name`, and last a word that is no
+/// mode as `Mode`.
 pub fn read_order(text: &[u8]) -> Result<Order, BadText>
     // What is read is written so.
     ensures found { IfOk result (λ order. ReadsOrder text.now order) }
@@ -120,7 +120,7 @@ fn send_from(
     })
 }
 
-// The name of the copy, where option C says that there is one.
+// Reads the name of the copy, if option C says that there is one.
 fn read_temp(options: &[u8], word: &[u8]) -> Result<Option<Name>, BadText>
     ensures { result ≡ temp_read options.now word.now }
 {
@@ -154,7 +154,7 @@ fn request_from(source: &[u8], target: &[u8], user: &[u8], options: &[u8]) -> Re
     })
 }
 
-/// The text of a command, without its zero byte. `is_writable` tells whether there is one.
+/// Returns the text of a command, without its zero byte. There must be one: see `is_writable`.
 pub fn write_order(order: &Order) -> ArrayVec<u8, WRITTEN_MAX>
     requires { HasMode order.now }
     ensures text { result.items ≡ order_text order.now }
@@ -213,7 +213,7 @@ fn request_text(source: &Name, target: &Name, user: &Name) -> Text
     text
 }
 
-// The letter of a command and the names that follow it.
+// Returns the letter of a command, followed by its names.
 fn names_text(letter: u8, source: &Name, target: &Name, user: &Name) -> Text
     ensures text { result.items ≡ joined ((letter ∷ []) ∷ source.now ∷ target.now ∷ user.now ∷ []) }
     ensures len { length result.items ≤ 1 + 3 * (1 + NAME_MAX) }
@@ -227,7 +227,7 @@ fn names_text(letter: u8, source: &Name, target: &Name, user: &Name) -> Text
     text
 }
 
-// The options, and the name of the copy or what stands in its place.
+// Writes the options, and the name of the copy or the text in its place.
 fn push_copy(text: &mut Text, temp: &Option<Name>)
     requires { length text.old.items + 10 + NAME_MAX ≤ WRITTEN_MAX }
     ensures text { text.new.items ≡ text.old.items ++ copy_text temp.now }

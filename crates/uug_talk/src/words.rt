@@ -7,13 +7,13 @@ use arrayvec::ArrayVec;
 /// The longest text of a command or an answer, without its zero byte.
 pub const COMMAND_MAX: usize = 4096;
 
-/// The room for a text that is written. It is more than the longest one needs.
+/// The room for a written text. It is more than the longest one needs.
 pub const WRITTEN_MAX: usize = 1024;
 
-/// A text that is written.
+/// A written text.
 pub(crate) type Text = ArrayVec<u8, WRITTEN_MAX>;
 
-/// The first word of a text and what stands behind it, or `None` where the text has no word.
+/// Splits the first word of a text from the rest after it. Returns `None` if the text has no word.
 pub fn split_word(text: &[u8]) -> Option<(&[u8], &[u8])>
     ensures { MatchOption result (words text.now ≡ [])
         (λ found. words text.now ≡ found.0.now ∷ words found.1.now) }
@@ -25,7 +25,7 @@ pub fn split_word(text: &[u8]) -> Option<(&[u8], &[u8])>
     Some(text.split_at(word_len(text)))
 }
 
-/// The word of a text that has one.
+/// Returns the word of a text that has one.
 pub fn one_word(text: &[u8]) -> Option<&[u8]>
     ensures { MatchOption result (length (words text.now) ≢ 1)
         (λ word. words text.now ≡ word.now ∷ []) }
@@ -37,7 +37,7 @@ pub fn one_word(text: &[u8]) -> Option<&[u8]>
     Some(word)
 }
 
-/// The words of a text that has two.
+/// Returns the words of a text that has two.
 pub fn two_words(text: &[u8]) -> Option<(&[u8], &[u8])>
     ensures { MatchOption result (length (words text.now) ≢ 2)
         (λ found. words text.now ≡ found.0.now ∷ found.1.now ∷ []) }
@@ -47,7 +47,7 @@ pub fn two_words(text: &[u8]) -> Option<(&[u8], &[u8])>
     Some((first, second))
 }
 
-/// The words of a text that has three.
+/// Returns the words of a text that has three.
 pub fn three_words(text: &[u8]) -> Option<(&[u8], &[u8], &[u8])>
     ensures { MatchOption result (length (words text.now) ≢ 3)
         (λ found. words text.now ≡ found.0.now ∷ found.1.now ∷ found.2.now ∷ []) }
@@ -57,7 +57,7 @@ pub fn three_words(text: &[u8]) -> Option<(&[u8], &[u8], &[u8])>
     Some((first, second, third))
 }
 
-/// The words of a text that has four.
+/// Returns the words of a text that has four.
 pub fn four_words(text: &[u8]) -> Option<(&[u8], &[u8], &[u8], &[u8])>
     ensures { MatchOption result (length (words text.now) ≢ 4)
         (λ found. words text.now ≡ found.0.now ∷ found.1.now ∷ found.2.now ∷ found.3.now ∷ []) }

@@ -1,4 +1,4 @@
-//! Digests of files and the texts that tell them, with values of `sha256sum`.
+//! Digests of files and the texts that announce them, with values of `sha256sum`.
 
 use crate::assertions::{assert_same, assert_so};
 use std::alloc::AllocGlobal;
@@ -9,7 +9,7 @@ use uug_digest::{
 };
 use uug_talk::{Name, Order};
 
-/// Commands that tell a size and the digest of the file `abc`, or of none, and whether that is so.
+/// Commands, and whether each announces the size and the digest of the file `abc`.
 const COMMANDS: &[(&[u8], bool)] = &[
     (
         b"S x y u - D.0 0644 \"\" 0x00000003 sha256:ba7816bf8f01cfea414140de5dae2223b00361a396177a9cb410ff61f20015ad",
@@ -41,7 +41,7 @@ const COMMANDS: &[(&[u8], bool)] = &[
     (b"", false),
 ];
 
-/// Whether the command tells what is that of a file with these bytes.
+/// Returns whether the command announces the size and digest of a file with these bytes.
 fn tells_of(command: &[u8], bytes: &[u8]) -> bool {
     match told_by_order(command) {
         Some(told) => told.is_of(bytes),
@@ -56,7 +56,7 @@ fn a_command_tells_the_digest_of_a_file(rt: HostRuntime) {
     }
 }
 
-/// Commands and answers as they are written.
+/// Asserts that commands and answers are written correctly and read back.
 fn write_and_read(rt: &impl Abort) {
     let name = Name::new(b"x").expect(rt, "a name");
     let order = Order::Send {
@@ -120,7 +120,7 @@ fn an_answer_tells_from_where_on_a_file_is_sent(rt: HostRuntime) {
     }
 }
 
-/// The largest file, all of whose bytes are `a`.
+/// Asserts that the largest file, whose bytes are all `a`, has its digest.
 #[test]
 fn the_largest_file_has_its_digest(rt: HostRuntime) {
     let command =

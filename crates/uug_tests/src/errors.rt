@@ -91,7 +91,7 @@ fn errors_say_what_they_are(rt: HostRuntime) {
     }
 }
 
-/// What is said where an end's first request for memory is refused.
+/// Returns the text of the error if an end's first request for memory is refused.
 fn text_of_a_refused_node(rt: &impl Abort, alloc: Global) -> Option<String> {
     let heap = Refusing::new(alloc, 1);
     let (queue, spool) = (Queue::new(&heap), MemorySpool::new(&heap));

@@ -1,5 +1,5 @@
-//! An end in a program of your own: a whole session of it, over what comes in pieces and what is written in memory. A
-//! program over a real line does the same with its reads and writes.
+//! An end in a program of your own: a whole session, over input in pieces and output in memory. A program over a real
+//! line does the same with its reads and writes.
 ghost use Rattle.std.specs.Prelude.{OnOk};
 ghost use Rattle.uug_session.specs.Engine.{IsEnded};
 ghost use Rattle.uug_session.specs.Node.{node_of};
@@ -10,10 +10,10 @@ mod sessions;
 use std::alloc::{AllocError, Allocator};
 use uug_session::{Node, Phase, Spool};
 
-/// Runs the session of an end to its end. What it emits is written behind what was written before; the pieces are what
-/// comes, one after the other, and an empty piece is a silence as long as its timer. Behind the last piece the line is
-/// gone. An end needs its timer in every phase but `Ended`. When out of memory the session is where it was: it can be
-/// gone on with, or hung up.
+/// Runs the session of an end to its end. It appends everything emitted to `written`. The pieces are the input, one
+/// after the other. An empty piece is a silence as long as the end's timer. The line is gone after the last piece. An
+/// end needs its timer in every phase but `Ended`. After an error for lack of memory the session is where it was. It
+/// can be continued or hung up.
 pub fn talk<S: Spool, A: Allocator + Copy>(
     node: &mut Node<S, A>,
     pieces: &[&[u8]],
@@ -37,7 +37,7 @@ pub fn talk<S: Spool, A: Allocator + Copy>(
     Ok(())
 }
 
-/// Writes all that was emitted, and takes it out of the outbox.
+/// Writes everything that was emitted, and clears the outbox.
 fn write_out<S: Spool, A: Allocator + Copy>(
     node: &mut Node<S, A>,
     written: &mut Vec<u8, A>,

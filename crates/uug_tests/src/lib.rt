@@ -1,5 +1,6 @@
-//! Tests of the calls of the crates up to `uug_session`, all in one crate: a crate with tests of its own is proved once
-//! more for them. And the example of an end in a program of your own, `example_end`, which they try too.
+//! Tests of the calls of the crates up to `uug_session`, all in one crate, because a crate with tests of its own is
+//! proved once more for them. The crate also has the example of an end in a program of your own, `example_end`, and
+//! its tests.
 #![tactic(auto)]
 
 #[cfg(test)]

@@ -1,7 +1,7 @@
-//! Links and their outboxes: scenarios as tables, and the small player that follows them. What a link does on each event
-//! is computed by the theorems of `uug_link`, and the clauses say that the code does it. Here each call is made with
-//! ample memory and with each of its requests refused. This catches a call that says that it is out of memory where none was
-//! refused, one that changes something when it is refused, and one that cannot be made again.
+//! Links and their outboxes: scenarios as tables, and the small player that follows them. The theorems of `uug_link`
+//! compute what a link does on each event, and the clauses say that the code does it. Here each call is made with
+//! ample memory and with each of its requests refused. This catches a call that reports lack of memory although none
+//! was refused. It also catches a call that changes something when it is refused, and one that cannot be made again.
 
 mod fields;
 mod outboxes;
@@ -17,7 +17,7 @@ use uug_link::{Announce, Entry, Link, LinkFault, Outbox, Outcome};
 use uug_packet::{Control, Packet, decode};
 use uug_refusal::Refusing;
 
-/// A packet, as a table writes it.
+/// A packet, as written in a table.
 #[derive(Clone, Copy)]
 enum Wire<'a> {
     InitA(u8),
@@ -29,13 +29,13 @@ enum Wire<'a> {
     Srj(u8),
     /// A data packet in a field of 32 bytes: its number, the number that it acknowledges, and its message.
     Data(u8, u8, &'a [u8]),
-    /// The same in a field of 64 bytes.
+    /// A data packet in a field of 64 bytes, with the same contents.
     Padded(u8, u8, &'a [u8]),
-    /// The same in a field of 4,096 bytes.
+    /// A data packet in a field of 4,096 bytes, with the same contents.
     Wide(u8, u8, &'a [u8]),
 }
 
-/// What is done to a link.
+/// A call on a link.
 #[derive(Clone, Copy)]
 enum Call<'a> {
     Hear(Wire<'a>),
@@ -52,7 +52,7 @@ const SILENCE: &[Wire<'static>] = &[];
 
 const NOTHING: Answer = Ok(Outcome::Nothing);
 
-/// A call, the packets that it emits, its answer, and how many messages are then unacknowledged.
+/// A call, the packets that it emits, its answer, and the number of messages that are then unacknowledged.
 type Row<'a> = (Call<'a>, &'a [Wire<'a>], Answer, usize);
 
 fn packet_of(wire: Wire<'_>) -> Packet<'_> {
@@ -79,7 +79,7 @@ fn carrying(k: u8, value: u8, ack: u8, message: &[u8]) -> Packet<'_> {
     }
 }
 
-/// Makes the call. One whose condition does not hold is answered as on a link that has ended.
+/// Makes the call. If its condition does not hold, returns the answer of a link that has ended.
 fn make<A: Allocator>(call: Call<'_>, link: &mut Link, out: &mut Outbox<A>) -> Answer {
     let done = match call {
         Call::Hear(wire) => return link.on_packet(&packet_of(wire), out),
@@ -97,8 +97,8 @@ fn make<A: Allocator>(call: Call<'_>, link: &mut Link, out: &mut Outbox<A>) -> A
     }
 }
 
-/// Makes the call into an empty outbox, each of its requests for memory refused in turn before it gets them all. A
-/// refused call changes nothing. The last answer, and how many requests were refused.
+/// Makes the call into an empty outbox. Each of its requests for memory is refused in turn before it gets them all.
+/// Asserts that a refused call changes nothing. Returns the last answer, and the number of refused requests.
 fn insist(
     rt: &impl Abort,
     heap: &Refusing<Global>,
@@ -119,7 +119,7 @@ fn insist(
     (Err(LinkFault::Memory), 9)
 }
 
-/// Whether the entry is that packet, a data packet as sent for the first time or not.
+/// Returns whether the entry is this packet. `is_first` says whether it is a data packet sent for the first time.
 fn is_packet(entry: &Entry<'_>, wire: Wire<'_>, is_first: bool) -> bool {
     match entry {
         Entry::Packet { bytes, first } => {
@@ -129,7 +129,7 @@ fn is_packet(entry: &Entry<'_>, wire: Wire<'_>, is_first: bool) -> bool {
     }
 }
 
-/// The outbox holds just these packets.
+/// Asserts that the outbox holds exactly these packets.
 fn assert_holds<A: Allocator>(
     rt: &impl Abort,
     out: &Outbox<A>,
@@ -145,8 +145,8 @@ fn assert_holds<A: Allocator>(
     }
 }
 
-/// Does what one row says, into an outbox of its own. A call that emits asks for memory for bytes and for entries, and one
-/// that does not for none.
+/// Follows one row, with an outbox of its own. A call that emits makes two requests for memory, for bytes and for
+/// entries. A call that emits nothing makes none.
 fn follow_row(rt: &impl Abort, heap: &Refusing<Global>, link: &mut Link, row: Row<'_>) {
     let (call, emits, answer, unacked) = row;
     let mut out = Outbox::new(heap);
@@ -159,7 +159,7 @@ fn follow_row(rt: &impl Abort, heap: &Refusing<Global>, link: &mut Link, row: Ro
     assert_holds(rt, &out, emits, matches!(call, Call::Send(_)));
 }
 
-/// Does to the link what a table says, each request for memory of each call refused once.
+/// Follows a table with the link. Each request for memory of each call is refused once.
 fn follow(rt: &impl Abort, alloc: Global, link: &mut Link, rows: &[Row<'_>]) {
     let heap = Refusing::new(alloc, 0);
     for row in rows {
@@ -167,7 +167,7 @@ fn follow(rt: &impl Abort, alloc: Global, link: &mut Link, rows: &[Row<'_>]) {
     }
 }
 
-/// Does to a called end's link what two tables say.
+/// Follows two tables with a called end's link.
 fn follow_called(
     rt: &impl Abort,
     alloc: Global,

@@ -1,7 +1,7 @@
-//! Sessions as tables, and the two players that follow them: one of two ends that hand each other their bytes, and one of
-//! an end over whose line a script speaks. The clauses say that an end does what the definitions say. These tests catch a
-//! call that says that it is out of memory where none was refused, a refused call that can't be made again, and a rule that the
-//! definitions state wrongly: above each test stands which.
+//! Sessions as tables, and the two players that follow them. One plays two ends that hand each other their bytes. The
+//! other plays an end over whose line a script speaks. The clauses say that an end does what the definitions say.
+//! These tests catch a call that reports lack of memory although none was refused, a refused call that can't be made
+//! again, and a wrong rule in the definitions. The comment above each test says which.
 
 mod answers;
 mod faulty;
@@ -27,42 +27,42 @@ use uug_talk::Name;
 /// An end whose files are in memory.
 type MemoryNode<A> = Node<MemorySpool<A>, A>;
 
-/// The end `a` that calls `b`, or the end `b` that is called by it.
+/// The side of an end: `a`, which calls `b`, or `b`, which is called by it.
 #[derive(Clone, Copy)]
 enum Side {
     Caller,
     Called,
 }
 
-/// A job of the user `u`: the file's names where it is and where it goes.
+/// A job of the user `u`: the file's name where it is and its name where it goes.
 #[derive(Clone, Copy)]
 enum Task<'a> {
     Send(&'a [u8], &'a [u8]),
     Request(&'a [u8], &'a [u8]),
 }
 
-/// What an end has before its first session.
+/// An item that an end has before its first session.
 #[derive(Clone, Copy)]
 enum Given<'a> {
-    /// A file of this name and of mode 0644, with these bytes.
+    /// A file with this name, mode 0644 and these bytes.
     File(&'a [u8], &'a [u8]),
     Deny(&'a [u8]),
     Later(&'a [u8]),
     Immovable(&'a [u8]),
     Job(Task<'a>),
-    /// It refuses what it can't read, and goes on.
+    /// The setting to refuse what it can't read, and to go on.
     Lenient,
-    /// It tells digests, and compares those that it is told.
+    /// The setting to announce digests, and to compare those it receives.
     Digests,
 }
 
-/// What an end has when all is over, each kind in order.
+/// An item that an end has when all is over. Each kind is in order.
 #[derive(Clone, Copy)]
 enum Left<'a> {
     Pending(Task<'a>),
     Struck(Task<'a>),
     Failed(Task<'a>),
-    /// A file that it stored under this name and of mode 0644, with these bytes.
+    /// A file that it stored under this name, with mode 0644 and these bytes.
     Stored(&'a [u8], &'a [u8]),
 }
 
@@ -73,7 +73,7 @@ const NOTHING: &[Left<'static>] = &[];
 /// Sends `x` as `y`.
 const SEND: Task<'static> = Task::Send(b"x", b"y");
 
-/// What the end has that does so, the file being empty.
+/// The items of an end that does so, with an empty file.
 const SENDER: &[Given<'static>] = &[Given::File(b"x", b""), Given::Job(SEND)];
 
 fn name(rt: &impl Abort, text: &[u8]) -> Name {
@@ -97,7 +97,7 @@ fn job(rt: &impl Abort, task: Task<'_>) -> Job {
     }
 }
 
-/// Where an end of window 2 stands.
+/// Makes the configuration of an end with window 2.
 fn place(rt: &impl Abort, side: Side, size: usize) -> Place {
     let (a, b) = (name(rt, b"a"), name(rt, b"b"));
     let (me, peer) = match side {
@@ -174,7 +174,7 @@ fn end<A: Allocator + Copy>(
     make(alloc, side, place, queue, spool).expect(rt, "an end")
 }
 
-/// The session has ended so, and just this is left.
+/// Asserts that the session has ended this way, and that exactly this is left.
 fn assert_ended<S: Spool, A: Allocator + Copy>(
     rt: &impl Abort,
     node: &Node<S, A>,
@@ -186,7 +186,7 @@ fn assert_ended<S: Spool, A: Allocator + Copy>(
     assert_lists(rt, node.queue(), stored, left);
 }
 
-/// The lists hold just what is left.
+/// Asserts that the lists hold exactly what is left.
 fn assert_lists<A: Allocator>(
     rt: &impl Abort,
     queue: &Queue<A>,

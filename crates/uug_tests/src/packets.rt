@@ -1,4 +1,4 @@
-//! The calls of `uug_packet`: each once, and the texts of its refusals.
+//! Tests of the calls of `uug_packet`, each made once, and of the texts of its errors.
 
 use crate::assertions::{assert_same, assert_so};
 use arrayvec::ArrayVec;
@@ -9,7 +9,7 @@ use uug_packet::{
     field_size, is_written, message_in, message_start, re_ack,
 };
 
-/// The number of a packet: all that are written here are below eight.
+/// Makes the number of a packet. All values written here are below eight.
 pub fn number(value: u8) -> Seq {
     match Seq::new(value % 8) {
         Some(number) => number,
@@ -25,7 +25,7 @@ fn counts_and_checks(rt: HostRuntime) {
     assert_same(&rt, field_size(1), 32);
 }
 
-// The bytes of a message, and the code of the smallest field that holds it.
+// the number of bytes of a message, and the code of the smallest field that holds it
 #[test]
 fn finds_the_smallest_field(rt: HostRuntime) {
     for (len, code) in [
@@ -61,7 +61,7 @@ fn writes_and_reads_packets(rt: HostRuntime) {
     assert_same(&rt, control_packet(Control::InitA(number(3))), init);
 }
 
-/// Holds the code of a field's size, how many of its bytes are missing, and the bytes before the message that say so.
+/// The code of a field's size, the number of its missing bytes, and the bytes before the message that say so.
 const FIELDS: &[(u8, usize, &[u8])] = &[
     (1, 0, b""),
     (1, 1, b"\x01"),
@@ -107,7 +107,8 @@ const FIELDS: &[(u8, usize, &[u8])] = &[
     (8, 4096, b"\x80\x20"),
 ];
 
-/// Writes a packet with so many bytes missing in its field, and reads it: it begins so, and is the same packet.
+/// Writes a packet with this many bytes missing in its field, and reads it. Asserts that it begins with `front`, and
+/// that the same packet is read.
 fn assert_read_back(rt: &impl Abort, (k, missing, front): (u8, usize, &[u8])) {
     let k = k.max(1).min(8);
     let size = field_size(k);
@@ -132,8 +133,8 @@ fn reads_what_it_writes_in_each_field(rt: HostRuntime) {
     }
 }
 
-/// A packet in a field of 32 bytes, which is written with the acknowledgement `old` and then gets `ack`: it is then these
-/// bytes.
+/// Asserts that these are the bytes of a packet in a field of 32 bytes, written with the acknowledgement `old` and
+/// then changed to `ack`.
 fn assert_acknowledged(
     rt: &impl Abort,
     seq: u8,
@@ -164,7 +165,7 @@ fn acknowledges_again(rt: HostRuntime) {
     assert_acknowledged(&rt, 2, &[], (1, 3), &empty);
 }
 
-/// Bytes, why they are no packet, and what is said of it.
+/// Bytes, the reason why they are no packet, and its text.
 const REFUSED: &[(&[u8], NoPacket, &str)] = &[
     (b"\x10\x0a\0\0\0", NoPacket::Short, "more bytes are needed"),
     (b"\x11", NoPacket::BadStart, "no packet begins here"),

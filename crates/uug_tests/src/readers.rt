@@ -1,4 +1,5 @@
-//! What no clause says of a reader: that it does its work on bytes from outside, and running out of memory.
+//! Tests of what no clause says about a reader: that it does its work on bytes from outside, and running out of
+//! memory.
 
 use crate::assertions::{assert_same, assert_so};
 use crate::packets::number;
@@ -11,22 +12,22 @@ use uug_refusal::Refusing;
 /// Two bytes of noise, INITA 3, and the front of RR 1.
 const FRONT: [u8; 10] = [0x10, 0x11, 0x10, 0x09, 0x6f, 0xaa, 0x3b, 0xf7, 0x10, 0x09];
 
-/// The rest of it, and the header of a data packet: number 1, acknowledging 0, and 32 zeros as the message.
+/// The rest of RR 1, and the header of a data packet: number 1, acknowledging 0, with 32 zeros as the message.
 const HEADER: [u8; 10] = [0x89, 0xaa, 0x21, 0x0b, 0x10, 0x01, 0x0d, 0x3a, 0x88, 0xbe];
 
-/// That data packet, whole.
+/// The whole of that data packet.
 const PACKET: [u8; 38] = [
     0x10, 0x01, 0x0d, 0x3a, 0x88, 0xbe, 0, 0, 0, 0, 0, 0, 0, 0, 0, 0, 0, 0, 0, 0, 0, 0, 0, 0, 0, 0,
     0, 0, 0, 0, 0, 0, 0, 0, 0, 0, 0, 0,
 ];
 
-/// A data packet whose checksum is one too high, and in its field what reads as RR 1.
+/// A data packet whose checksum is one too high. Its field has bytes that read as RR 1.
 const BROKEN: [u8; 38] = [
     0x10, 0x01, 0x96, 0x6a, 0x88, 0x75, 0x10, 0x09, 0x89, 0xaa, 0x21, 0x0b, 0, 0, 0, 0, 0, 0, 0, 0,
     0, 0, 0, 0, 0, 0, 0, 0, 0, 0, 0, 0, 0, 0, 0, 0, 0, 0,
 ];
 
-/// What a reader finds in it.
+/// Returns the item that a reader finds in `PACKET`.
 fn zeros() -> Found<'static> {
     Found::Packet(Packet::Carry {
         seq: number(1),
@@ -36,7 +37,7 @@ fn zeros() -> Found<'static> {
     })
 }
 
-/// Pushes a piece, and drops what is then found: just these items. So many bytes wait then.
+/// Pushes a piece, and drops the items found. Asserts that they are exactly these, and how many bytes then wait.
 fn take_piece<A: Allocator>(
     rt: &impl Abort,
     reader: &mut Reader<A>,
@@ -56,7 +57,7 @@ fn take_piece<A: Allocator>(
     assert_same(rt, reader.waiting(), waiting);
 }
 
-/// A reader, with memory for it.
+/// Makes a reader, with memory for it.
 fn reader(rt: &impl Abort, alloc: Global) -> Reader<Global> {
     Reader::new(alloc).expect(rt, "memory")
 }
@@ -76,7 +77,7 @@ fn take_pieces(rt: &impl Abort, reader: &mut Reader<Global>) {
     take_piece(rt, reader, &[0; 26], &[Found::Bad, ready], 0);
 }
 
-/// Pushes a byte, after which nothing is found and so many bytes wait.
+/// Pushes a byte. Asserts that nothing is found, and how many bytes then wait.
 fn take_byte<A: Allocator>(
     rt: &impl Abort,
     reader: &mut Reader<A>,
@@ -86,7 +87,7 @@ fn take_byte<A: Allocator>(
     take_piece(rt, reader, &[byte], &[], waiting);
 }
 
-/// Pushes these bytes one by one. With the last one, and not before, the items are found.
+/// Pushes these bytes one by one. Asserts that the items are found with the last one, and not before.
 fn take_bytes<A: Allocator>(
     rt: &impl Abort,
     reader: &mut Reader<A>,
@@ -99,14 +100,14 @@ fn take_bytes<A: Allocator>(
     take_piece(rt, reader, &bytes[37..], items, 0);
 }
 
-/// Pushes the packet in two pieces, the first of which has so many bytes.
+/// Pushes the packet in two pieces, the first of which has `cut` bytes.
 fn take_cut<A: Allocator>(rt: &impl Abort, reader: &mut Reader<A>, cut: usize) {
     let (front, rest) = PACKET.split_at(cut.min(38));
     take_piece(rt, reader, front, &[], cut);
     take_piece(rt, reader, rest, &[zeros()], 0);
 }
 
-/// Pushes the packet in two pieces, which it is cut into at each of its places.
+/// Pushes the packet in two pieces, cut at each of its places in turn.
 fn take_cuts<A: Allocator>(rt: &impl Abort, reader: &mut Reader<A>) {
     for cut in 1..38 {
         take_cut(rt, reader, cut);
@@ -129,7 +130,7 @@ fn finds_what_comes_in_pieces(rt: HostRuntime) {
     take_pieces(&rt, &mut reader);
 }
 
-/// As many bytes are accepted as there is room for, and those that are noise give room again.
+/// Asserts that as many bytes are accepted as there is room for, and that noise bytes give room again.
 fn fill<A: Allocator>(rt: &impl Abort, reader: &mut Reader<A>) {
     assert_same(rt, reader.push(&[0x10; READER_SIZE]), READER_SIZE);
     assert_same(rt, reader.push(&[0x10]), 0);
@@ -139,7 +140,7 @@ fn fill<A: Allocator>(rt: &impl Abort, reader: &mut Reader<A>) {
     assert_same(rt, reader.waiting(), 0);
 }
 
-/// 107 packets, and the front of one more, are as much as a reader holds.
+/// Fills a reader with 107 packets and the front of one more, and asserts that it holds no more.
 fn fill_with_packets<A: Allocator>(rt: &impl Abort, reader: &mut Reader<A>) {
     for _ in 0..107 {
         assert_same(rt, reader.push(&PACKET), 38);
@@ -147,7 +148,7 @@ fn fill_with_packets<A: Allocator>(rt: &impl Abort, reader: &mut Reader<A>) {
     assert_same(rt, reader.push(&PACKET), 36);
 }
 
-/// Of these the packets that are whole are dropped.
+/// Drops the whole ones of these packets.
 fn drop_packets<A: Allocator>(rt: &impl Abort, reader: &mut Reader<A>) {
     for _ in 0..107 {
         assert_so(rt, reader.search());

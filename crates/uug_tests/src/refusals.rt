@@ -1,5 +1,5 @@
-//! The allocator that refuses: which request it refuses, that it can be made again, and that blocks go back. No clause
-//! says so.
+//! Tests of the allocator that refuses: which request it refuses, that a refused request can be made again, and that
+//! blocks go back. No clause says so.
 
 use crate::assertions::{assert_same, assert_so};
 use linked_list_allocator::LocalHeap;
@@ -7,7 +7,7 @@ use std::alloc::Global;
 use std::process::Abort;
 use uug_refusal::Refusing;
 
-/// Asks four times for a block: which requests are refused, how many came, and whether one was refused.
+/// Asks four times for a block. Returns which requests are refused, how many came, and whether one was refused.
 fn ask_four_times(heap: &Refusing<Global>) -> ([bool; 4], u64, bool) {
     let mut refused = [false; 4];
     for is_refused in &mut refused {
@@ -16,7 +16,7 @@ fn ask_four_times(heap: &Refusing<Global>) -> ([bool; 4], u64, bool) {
     (refused, heap.requests(), heap.was_refused())
 }
 
-/// Which request is to be refused, which of four then are, and whether one was.
+/// The request to refuse, which of four are then refused, and whether one was.
 const ASKED: &[(u64, [bool; 4], bool)] = &[
     (0, [false; 4], false),
     (1, [true, false, false, false], true),
@@ -37,7 +37,7 @@ fn only_the_nth_request_is_refused(rt: HostRuntime) {
     }
 }
 
-/// Makes a block in this room and has it grow, which is refused at first.
+/// Makes a block in this room and grows it. The first growth is refused.
 fn grow(rt: &impl Abort, room: &LocalHeap) {
     let heap = Refusing::new(room, 2);
     let mut items = Vec::<u8, &Refusing<&LocalHeap>>::new(&heap);

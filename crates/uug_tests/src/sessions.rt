@@ -14,7 +14,7 @@ fn name(rt: &impl Abort, text: &[u8]) -> Name {
     Name::new(text).expect(rt, "a name")
 }
 
-/// An end of this name, whose other end has that name, and which keeps no number.
+/// Makes the configuration of an end with this name, whose other end has that name, and which keeps no number.
 pub fn place(rt: &impl Abort, me: &[u8], peer: &[u8]) -> Place {
     Place {
         me: name(rt, me),
@@ -24,7 +24,7 @@ pub fn place(rt: &impl Abort, me: &[u8], peer: &[u8]) -> Place {
     }
 }
 
-/// A job that sends `x`, to be kept under the same name.
+/// Makes a job that sends `x`, to be kept under the same name.
 fn send_job(x: Name) -> Job {
     Job::Send {
         source: x,

@@ -1,5 +1,5 @@
-//! The texts of a session, each call once with ample memory: no clause says that a file finds its memory. What is read,
-//! written and heard is computed by the theorems of `uug_talk` on worked texts.
+//! Tests of the texts of a session, each call made once with ample memory, because no clause says that a file finds
+//! its memory. The theorems of `uug_talk` compute on worked texts what is read, written and heard.
 
 use crate::assertions::{assert_same, assert_so};
 use std::alloc::{Allocator, Global};
@@ -40,7 +40,7 @@ fn a_file_that_is_given_without_a_mode_gets_one(rt: HostRuntime) {
     }
 }
 
-/// Numbers that the caller `a` keeps, and what it says.
+/// Numbers that the caller `a` keeps, and the text that it says.
 const SAID: &[(Option<u32>, &[u8])] = &[
     (None, b"Sa"),
     (Some(0), b"Sa -Q0"),
@@ -82,7 +82,7 @@ fn a_caller_writes_its_number_and_a_called_end_reads_it(rt: HostRuntime) {
     assert_same(&rt, read_number(b"007", 6), None);
 }
 
-/// Pieces of a stream, how many bytes of each are used, how many wait then, and whether a text is whole.
+/// Pieces of a stream, the number of bytes used of each, the number that then wait, and whether a text is whole.
 const HEARD: &[(&[u8], usize, usize, bool)] = &[
     (b"login:\x10S\x10S", 10, 2, false),
     (b"a\nzz", 2, 0, true),
@@ -115,7 +115,7 @@ fn push<A: Allocator>(gather: &mut Gather<A>, message: &[u8]) -> Option<Result<P
     Some(gather.push(message))
 }
 
-/// Pushes all the messages. The last one makes the whole.
+/// Pushes all the messages. Asserts that the last one makes the whole.
 fn gather_all<A: Allocator>(rt: &impl Abort, gather: &mut Gather<A>, chunks: Chunks<'_>) {
     for message in chunks {
         assert_so(rt, matches!(push(gather, message.as_slice()), Some(Ok(_))));
@@ -212,7 +212,7 @@ fn a_command_is_no_file(rt: HostRuntime) {
     assert_so(&rt, Gather::<Global>::command().into_file().is_none());
 }
 
-/// A text as long as a command may be, in messages of 32 bytes, and the message behind them.
+/// Pushes a text as long as a command may be, in messages of 32 bytes, and then this message. Returns its answer.
 fn longest_and(message: &[u8]) -> Option<Result<Progress, BadText>> {
     let mut command = Gather::<Global>::command();
     for _ in 0..128 {
@@ -227,8 +227,8 @@ fn a_command_has_at_most_4096_bytes(rt: HostRuntime) {
     assert_same(&rt, longest_and(&[b'x'; 32]), Some(Err(BadText::TooLong)));
 }
 
-/// A file's message makes one request. Refused, it changes nothing, and pushed again it is taken. The end of a file
-/// makes none.
+/// Asserts that a file's message makes one request. If it is refused, nothing changes, and the message is taken when
+/// it is pushed again. The end of a file makes no request.
 fn refuse_a_message(
     rt: &impl Abort,
     heap: &Refusing<Global>,

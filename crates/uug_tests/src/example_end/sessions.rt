@@ -7,7 +7,7 @@ use uug_link::Announce;
 use uug_session::{End, MemorySpool, Node, Phase, Place, Queue};
 use uug_talk::Name;
 
-/// What comes in pieces, what is written, and how the session ends.
+/// The input in pieces, the expected output, and the way the session ends.
 const SESSIONS: [(&[&[u8]], &[u8], End); 3] = [
     // the link begins with the caller's INITA, of window 2, and the line is gone
     (
@@ -28,7 +28,7 @@ fn place() -> Result<Place, Fail> {
     })
 }
 
-/// What the caller writes, and how far it is then.
+/// Runs the session. Returns what the caller writes, and its phase afterwards.
 fn session(alloc: Global, pieces: &[&[u8]]) -> Result<(Vec<u8, Global>, Phase), Fail> {
     let (queue, spool) = (Queue::new(alloc), MemorySpool::new(alloc));
     let node = Node::caller(alloc, place()?, queue, spool);

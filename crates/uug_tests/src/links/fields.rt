@@ -1,4 +1,4 @@
-//! The fields in which messages go out, byte by byte, where the other end has announced the greatest size.
+//! The fields in which messages go out, byte by byte, if the other end has announced the greatest size.
 
 use super::{Call, NOTHING, Row, Wire, announce, follow, make};
 use crate::assertions::assert_same;
@@ -6,7 +6,7 @@ use std::alloc::Global;
 use std::process::Abort;
 use uug_link::{Link, Outbox, Outcome};
 
-/// A called end comes up.
+/// The start-up of a called end.
 const COMES_UP: &[Row<'static>] = &[
     (Call::Hear(Wire::InitA(7)), &[Wire::InitA(2)], NOTHING, 0),
     (Call::Hear(Wire::InitB(7)), &[Wire::InitB(0)], NOTHING, 0),
@@ -18,7 +18,8 @@ const COMES_UP: &[Row<'static>] = &[
     ),
 ];
 
-/// How many zeros a message has; its packet's first eight bytes, the header and two of the field; and how many it has.
+/// The number of zeros in a message, the first eight bytes of its packet, and the packet's size. The eight bytes are
+/// the header and two bytes of the field.
 type Field = (usize, [u8; 8], usize);
 
 const FIELDS: &[Field] = &[
@@ -30,7 +31,8 @@ const FIELDS: &[Field] = &[
     (2049, [0x10, 8, 0xd4, 0x01, 0xc8, 0x15, 0xff, 0x0f], 4102),
 ];
 
-/// The first message of a link goes out so, and again so at a timeout. What else stands in its field is zeros.
+/// Asserts that the first message of a link goes out with these bytes, and again at a timeout. The rest of its field
+/// is zeros.
 fn assert_goes_out(rt: &impl Abort, alloc: Global, link: &mut Link, field: &Field) {
     let (len, front, size) = *field;
     let mut bytes = [0; 4102];
@@ -41,7 +43,7 @@ fn assert_goes_out(rt: &impl Abort, alloc: Global, link: &mut Link, field: &Fiel
     assert_emits(rt, alloc, link, Call::Timeout, bytes);
 }
 
-/// The call emits one packet, of these bytes.
+/// Asserts that the call emits one packet, with these bytes.
 fn assert_emits(rt: &impl Abort, alloc: Global, link: &mut Link, call: Call<'_>, bytes: &[u8]) {
     let mut out = Outbox::new(alloc);
     assert_same(rt, make(call, link, &mut out), NOTHING);

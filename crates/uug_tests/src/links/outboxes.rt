@@ -1,4 +1,4 @@
-//! What an outbox has room for. How it is refused memory stands beside the other calls that take some.
+//! The room of an outbox. Refusals of its memory are tested beside the other calls that take some.
 
 use super::{Wire, announce, is_packet};
 use crate::assertions::{assert_same, assert_so};
@@ -7,7 +7,7 @@ use std::process::Abort;
 use uug_link::{Announce, Entry, Link, Outbox};
 use uug_refusal::Refusing;
 
-/// A text and a packet, with no memory.
+/// Adds a text and a packet, and asserts that both are there. This takes no memory.
 fn fill(rt: &impl Abort, own: Announce, out: &mut Outbox<&Refusing<Global>>) {
     assert_so(rt, out.add_text(b"abc").is_ok());
     assert_so(rt, Link::caller(own).begin(out).is_ok());
@@ -16,7 +16,7 @@ fn fill(rt: &impl Abort, own: Announce, out: &mut Outbox<&Refusing<Global>>) {
     assert_so(rt, is_packet(&out.entry(1), Wire::InitA(3), false));
 }
 
-/// Makes room for both, and fills it though the next request is refused.
+/// Makes room for both, and fills it although the next request is refused.
 fn reserve_and_fill(
     rt: &impl Abort,
     heap: &Refusing<Global>,

@@ -16,7 +16,8 @@ const TAKES_TWO: &[Row<'static>] = &[
     (Call::Hear(Wire::Data(2, 0, b"b")), &[Wire::Rr(2)], TAKEN, 0),
 ];
 
-/// The last packet comes twice, and what the other end repeats for that is passed until one more than the window was taken.
+/// The rows of a quiet link. The last packet comes twice. What the other end repeats for that is ignored until one
+/// packet more than the window was taken.
 const IS_QUIET: &[Row<'static>] = &[
     (
         Call::Hear(Wire::Data(2, 0, b"b")),
@@ -51,7 +52,8 @@ const IS_QUIET: &[Row<'static>] = &[
     ),
 ];
 
-/// The same of a link that is not: it rejects one repeat after each packet that it takes, and answers each other.
+/// The same rows for a link that is not quiet. It rejects one repeat after each packet that it takes, and answers each
+/// other one.
 const IS_PLAIN: &[Row<'static>] = &[
     (
         Call::Hear(Wire::Data(2, 0, b"b")),

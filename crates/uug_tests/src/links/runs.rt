@@ -32,21 +32,22 @@ fn announces_windows_and_sizes(rt: HostRuntime) {
     assert_same(&rt, (greatest.window(), greatest.size()), (7, 4096));
 }
 
-/// A caller that has begun comes up. The other end's INITC tells a smaller window than its INITA.
+/// The start-up of a caller that has begun. The other end's INITC announces a smaller window than its INITA.
 const COMES_UP: &[Row<'static>] = &[
     (Call::Hear(Wire::InitA(7)), &[Wire::InitB(0)], NOTHING, 0),
     (Call::Hear(Wire::InitB(1)), &[Wire::InitC(3)], NOTHING, 0),
     (Call::Hear(Wire::InitC(3)), SILENCE, UP, 0),
 ];
 
-/// A whole window goes out.
+/// The rows in which a whole window goes out.
 const FILLS: &[Row<'static>] = &[
     (Call::Send(b"a"), &[Wire::Data(1, 0, b"a")], NOTHING, 1),
     (Call::Send(b"b"), &[Wire::Data(2, 0, b"b")], NOTHING, 2),
     (Call::Send(b"c"), &[Wire::Data(3, 0, b"c")], NOTHING, 3),
 ];
 
-/// Packets are asked for again, one and several; one is taken; what is left is repeated; the link closes.
+/// The rows in which packets are asked for again, one and several. Then one is taken, what is left is repeated, and
+/// the link closes.
 const GOES_ON: &[Row<'static>] = &[
     (
         Call::Hear(Wire::Srj(3)),
@@ -80,20 +81,20 @@ const CLOSES: &[Row<'static>] = &[
     (Call::Hear(Wire::Close), SILENCE, HALTED, 1),
 ];
 
-/// A called end comes up.
+/// The start-up of a called end.
 const COMES_UP_CALLED: &[Row<'static>] = &[
     (Call::Hear(Wire::InitA(3)), &[Wire::InitA(2)], NOTHING, 0),
     (Call::Hear(Wire::InitB(1)), &[Wire::InitB(0)], NOTHING, 0),
     (Call::Hear(Wire::InitC(3)), &[Wire::InitC(2)], UP, 0),
 ];
 
-/// The other end closes it.
+/// The rows in which the other end closes the link.
 const IS_CLOSED: &[Row<'static>] = &[
     (Call::Hear(Wire::Close), &[Wire::Close], CLOSED, 0),
     (Call::Bad, SILENCE, HALTED, 0),
 ];
 
-/// A timeout of a caller of which nothing is heard, and the last ones.
+/// A timeout of a caller that hears nothing. `GIVES_UP` has the last ones.
 const LATE: Row<'static> = (Call::Timeout, &[Wire::InitA(3)], NOTHING, 0);
 
 const GIVES_UP: &[Row<'static>] = &[
@@ -101,7 +102,7 @@ const GIVES_UP: &[Row<'static>] = &[
     (Call::Timeout, SILENCE, HALTED, 0),
 ];
 
-/// A caller's link that has begun, each request for memory refused once.
+/// Begins a caller's link. Each request for memory is refused once.
 fn begin(
     rt: &impl Abort,
     heap: &Refusing<Global>,
@@ -125,7 +126,7 @@ fn begun(rt: &impl Abort, alloc: Global) -> Link {
     begin(rt, &heap, &mut out, announce(rt, 3, 32))
 }
 
-/// The link is up, with that window and size.
+/// Asserts that the link is up, with this window and size.
 fn assert_up(rt: &impl Abort, link: &Link, window: usize, size: usize) {
     assert_so(rt, link.is_up());
     assert_same(rt, (link.window(), link.size()), (window, size));

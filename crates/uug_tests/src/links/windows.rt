@@ -5,7 +5,7 @@ use uug_link::Outcome;
 
 const UP: Answer = Ok(Outcome::Up);
 
-/// A called end comes up whose peer announces the greatest window and the greatest size.
+/// The start-up of a called end whose peer announces the greatest window and the greatest size.
 const COMES_UP: &[Row<'static>] = &[
     (Call::Hear(Wire::InitA(7)), &[Wire::InitA(2)], NOTHING, 0),
     (Call::Hear(Wire::InitB(7)), &[Wire::InitB(0)], NOTHING, 0),
@@ -22,7 +22,7 @@ const SHORT: &[Wire<'static>] = &[
     Wire::Data(7, 0, b"g"),
 ];
 
-/// Messages as long as one may be.
+/// The longest messages.
 const FULL_A: &[u8] = &[b'a'; 4096];
 
 const FULL_B: &[u8] = &[b'b'; 4096];
@@ -37,7 +37,8 @@ const FULL: &[Wire<'static>] = &[
     Wire::Wide(6, 0, FULL_A),
 ];
 
-/// The window is filled, twice, and each time all of it goes out again at a timeout and where it is asked for.
+/// The rows in which the window is filled, twice. Each time all of it goes out again at a timeout and when it is asked
+/// for.
 const REPEATS: &[Row<'static>] = &[
     (Call::Send(b"a"), &[Wire::Data(1, 0, b"a")], NOTHING, 1),
     (Call::Send(b"b"), &[Wire::Data(2, 0, b"b")], NOTHING, 2),

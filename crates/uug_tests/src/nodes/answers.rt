@@ -13,7 +13,7 @@ const TWO_JOBS: &[Given<'static>] = &[Given::File(b"x", b""), Given::Job(SEND), 
 
 const OFFER: Wire<'static> = Command(1, 0, b"S x y u - D.0 0644");
 
-/// The link is up, and the first job is offered.
+/// The link comes up, and the first job is offered.
 const OFFERS_Y: Row<'static> = (Hear(&[InitC(2)]), &[OFFER]);
 
 /// The file of the first job, which is empty, goes out.
@@ -98,8 +98,8 @@ const SCRIPTS: &[Script<'static>] = &[
     },
 ];
 
-// a command that is not repeated; a job that is struck or failed though it was to stay, or that stays though it was done; a job that is offered twice in a
-// session, or never again; an answer out of turn that ends the session
+// a command that is not repeated; a job that is struck or failed though it was to stay, or that stays though it was
+// done; a job that is offered twice in a session, or never again; an answer out of turn that ends the session
 #[test]
 fn understands_other_answers(rt: HostRuntime) {
     play_all(&rt, rt.alloc(), SCRIPTS);

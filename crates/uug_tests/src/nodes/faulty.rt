@@ -13,8 +13,8 @@ use std::process::Abort;
 use uug_session::{End, FileView, KeepFault, Node, Queue, Spool, Stored, Verdict};
 use uug_talk::Name;
 
-/// A spool with no file to give, that takes every file, and keeps it under its own name, wherever it is sent. Its device fails at
-/// the first.
+/// A spool with no file to give. It takes every file, and keeps it under its own name, wherever it is sent. Its device
+/// fails at the first file.
 #[derive(Drop)]
 struct FaultySpool<A: Allocator> {
     stored: Vec<Stored<A>, A>,
@@ -102,7 +102,7 @@ fn assert_called_ended(rt: &impl Abort, called: &FaultyNode, how: End, left: &[L
     assert_ended(rt, called, files, how, left);
 }
 
-/// The device fails at the file's end; the ends call again, and it does not.
+/// Plays two sessions. The device fails at the file's end in the first, and works in the second.
 fn recover(
     rt: &impl Abort,
     log: Global,
@@ -127,8 +127,8 @@ fn recover_from(rt: &impl Abort, alloc: Global, caller: &mut MemoryNode<Global>)
     drop(called);
 }
 
-// a fault after which the job is gone, or is not offered again; a file that is stored all the same, or under its target, where
-// the spool says another name
+// a fault after which the job is gone, or is not offered again; a file that is stored all the same, or under its
+// target, where the spool says another name
 #[test]
 fn recovers_from_a_fault_of_the_device(rt: HostRuntime) {
     let place = place(&rt, Side::Caller, 32);

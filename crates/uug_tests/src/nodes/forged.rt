@@ -1,4 +1,5 @@
-//! A line that changes bytes of files where their checksum doesn't tell: ends that tell digests keep no file that is wrong.
+//! A line that changes bytes of files in a way that the checksum doesn't show. Ends that announce digests keep no
+//! wrong file.
 
 use super::line::{Hand, Line};
 use super::{Given, MemoryNode, Side, Task, end, place};
@@ -8,16 +9,16 @@ use std::process::Abort;
 use uug_packet::{HEADER_SIZE, Packet, check, decode};
 use uug_session::{Phase, Stored};
 
-/// So many pairs of ends.
+/// The number of pairs of ends.
 const SEEDS: u32 = 100;
 
-/// So many sessions two ends have at most, until no job is left.
+/// The most sessions that two ends have until no job is left.
 const SESSIONS_MAX: usize = 60;
 
-/// In each session, all that one end has emitted comes to the other so many times.
+/// The number of times in each session that everything one end has emitted comes to the other.
 const TURNS: usize = 60;
 
-/// Numbers by a seed.
+/// A source of numbers, by a seed.
 #[derive(Drop)]
 struct Numbers(u32);
 
@@ -27,8 +28,8 @@ impl Numbers {
         self.0 >> 16
     }
 
-    /// Up to 159 bytes, so that two packets are filled at most, none of them a letter: so the packets of a file are told from
-    /// those of a command.
+    /// Makes a file of up to 159 bytes, which fill two packets at most. None of them is a letter, which distinguishes
+    /// the packets of a file from those of a command.
     fn file(&mut self, rt: &impl Abort, alloc: Global) -> Vec<u8, Global> {
         let mut bytes = Vec::new(alloc);
         for _ in 0..self.next() % 160 {
@@ -54,7 +55,7 @@ impl Files {
     }
 }
 
-/// Changes the first byte of a field, where another one has the same check.
+/// Changes the first byte of a field, if another one has the same check.
 fn forge(field: &mut [u8]) {
     let (Some(first), wanted) = (field.first().copied(), check_of(field)) else {
         return;
@@ -76,7 +77,7 @@ fn check_of(field: &[u8]) -> u16 {
     if field.is_empty() { 0 } else { check(field) }
 }
 
-/// A line that forges each third packet of a file.
+/// A line that forges every third packet of a file.
 #[derive(Drop)]
 struct Forger {
     line: Line,
@@ -110,7 +111,8 @@ impl Forger {
         }
     }
 
-    /// What stands here: a packet, of which the size is told, or something else, of which a byte is.
+    /// Forges the packet here, if it is a whole packet of a file and the third since the last. Returns the packet's
+    /// size, or 1 for anything else.
     fn forge_one(&mut self, bytes: &mut [u8]) -> usize {
         let (is_file, size) = match decode(bytes) {
             Ok((Packet::Carry { message, .. }, size)) => (is_whole_file(message, size), size),
@@ -129,12 +131,12 @@ impl Forger {
     }
 }
 
-/// It fills its field, and is part of a file.
+/// Returns whether the message fills its field, and is part of a file.
 fn is_whole_file(message: &[u8], size: usize) -> bool {
     message.len().saturating_add(HEADER_SIZE) == size && message.first().is_some_and(|b| *b >= 0x80)
 }
 
-/// So many files are wrong of those that were kept.
+/// Returns the number of wrong files among those that were kept.
 fn wrong(stored: &[Stored<Global>], files: &Files) -> u32 {
     let mut wrong: u32 = 0;
     for file in stored {
@@ -151,7 +153,8 @@ fn wrong(stored: &[Stored<Global>], files: &Files) -> u32 {
     wrong
 }
 
-/// Two ends hand each other their bytes until no job is left. How many files came, and how many of them are wrong.
+/// Lets two ends hand each other their bytes until no job is left. Returns how many files came, and how many of them
+/// are wrong.
 fn exchange(rt: &impl Abort, alloc: Global, seed: u32, tells_digests: bool) -> (usize, u32) {
     let mut numbers = Numbers(seed);
     let ours = Files::new(rt, alloc, &mut numbers);
@@ -215,7 +218,7 @@ fn talk(
     assert_so(rt, matches!(called.phase(), Phase::Ended(_)));
 }
 
-/// How many files came of all pairs of ends, and how many of them are wrong.
+/// Returns how many files came at all pairs of ends, and how many of them are wrong.
 fn all(rt: &impl Abort, alloc: Global, tells_digests: bool) -> (usize, u32) {
     let (mut came, mut all_wrong) = (0usize, 0u32);
     for seed in 0..SEEDS {

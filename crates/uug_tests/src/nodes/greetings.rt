@@ -1,4 +1,4 @@
-//! How an end greets another, and what becomes of it where it is not greeted so.
+//! Greetings of an end, and the outcome if it is not greeted as it should be.
 
 use super::script::Act::{Hear, Timeout};
 use super::script::Wire::{Bytes, InitA, InitB, InitC, Text};
@@ -8,7 +8,7 @@ use std::alloc::Global;
 use std::process::Abort;
 use uug_session::{End, Phase};
 
-/// A caller says its name when it has heard that of the called end.
+/// A caller says its name after it has heard that of the called end.
 const CALLER_GREETS: Row<'static> = (Hear(&[Text(b"Shere=b")]), &[Text(b"Sa")]);
 
 /// A called end says its name first.
@@ -40,10 +40,11 @@ pub(super) const CALLED_STARTS: Start<'static> = Start {
     ],
 };
 
-/// An end that has heard nothing gives up at the eighth timeout, and says nothing. It tells none of them in the greeting.
+/// A timeout in the greeting. An end that has heard nothing gives up at the eighth, and says nothing. `timeouts` is 0
+/// in the greeting.
 const LATE: Row<'static> = (Timeout(0), SILENCE);
 
-/// An end, what it hears and says, and how far it is then.
+/// An end, what it hears and says, and its phase afterwards.
 type Greeting<'a> = (Side, &'a [Row<'a>], Phase);
 
 const GREETINGS: &[Greeting<'static>] = &[

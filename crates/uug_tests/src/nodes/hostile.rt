@@ -1,4 +1,4 @@
-//! Ends that keep to no rule.
+//! Ends that break every rule.
 
 use super::greetings::{CALLED_STARTS, CALLER_STARTS};
 use super::script::Act::Hear;
@@ -7,10 +7,10 @@ use super::script::{Row, SILENCE, Script, Wire, play_all};
 use super::{Given, Left, NO_WORK, NOTHING, SEND, wide_peers};
 use uug_session::{End, Phase};
 
-/// Two messages and more.
+/// A file longer than two messages.
 const FILE: &[u8] = &[b'f'; 70];
 
-/// A packet of a right checksum whose short field says that no byte is missing.
+/// A packet with a right checksum whose short field says that no byte is missing.
 const BAD_FIELD: Wire<'static> = Bytes(
     b"\x10\x01\xcd\x39\xc8\x3d\0\0\0\0\0\0\0\0\0\0\0\0\0\0\0\0\0\0\0\0\0\0\0\0\0\0\0\0\0\0\0\0",
 );

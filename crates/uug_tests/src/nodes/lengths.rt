@@ -1,5 +1,5 @@
-//! Files of many lengths, from one end to another, with ample memory. Both announce the greatest packets, so a file goes in
-//! messages of 4,096 bytes, the last of them in the smallest field that holds it.
+//! Files of many lengths, from one end to another, with ample memory. Both announce the greatest packets. A file
+//! therefore goes in messages of 4,096 bytes, the last of them in the smallest field that holds it.
 
 use super::line::{Event, Hand, Line};
 use super::{Given, Left, MemoryNode, NO_WORK, SEND, Side, assert_ended, end, place};
@@ -7,16 +7,16 @@ use std::alloc::Global;
 use std::process::Abort;
 use uug_session::End;
 
-/// How many bytes the file has.
+/// The lengths of the file in bytes.
 const LENGTHS: &[usize] = &[
     0, 1, 33, 64, 65, 127, 128, 129, 255, 1000, 2049, 4095, 4096, 4097, 10_000, 1_048_575,
     1_048_576,
 ];
 
-/// More than 256 messages and their answers take.
+/// More rounds than 256 messages and their answers take.
 const FLOWS: &[Event] = &[Event::Flow(255), Event::Flow(255)];
 
-/// Bytes of which each differs from its neighbours.
+/// Returns bytes each of which differs from its neighbours.
 fn bytes_of(rt: &impl Abort, alloc: Global, len: usize) -> Vec<u8> {
     let mut bytes = Vec::new(alloc);
     for i in 0..len {

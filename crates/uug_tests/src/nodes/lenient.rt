@@ -1,4 +1,4 @@
-//! Ends that are lenient: what they refuse where others end the session, and go on behind it.
+//! Lenient ends: what they refuse where other ends end the session, and how they then go on.
 
 use super::greetings::CALLER_STARTS;
 use super::script::Act::Hear;
@@ -20,13 +20,13 @@ const SEND_Z: Task<'static> = Task::Send(b"x", b"z");
 
 const REQUEST: Task<'static> = Task::Request(b"q", b"y");
 
-/// Two messages and more of 32 bytes.
+/// A file longer than two messages of 32 bytes.
 const FILE: &[u8] = &[b'f'; 70];
 
 /// A command that can't be read, and the answer that refuses it.
 type Refusal<'a> = (&'a [u8], &'a [u8]);
 
-/// A name of 201 bytes stands in for the word `LONG`.
+/// Commands that can't be read. A name of 201 bytes replaces the word `LONG`.
 const UNREADABLE: &[Refusal<'static>] = &[
     (b"X a* y u -", b"XN2"),
     (b"E x y u - D.0 0644 u 3 rmail me", b"EN2"),
@@ -40,10 +40,10 @@ const UNREADABLE: &[Refusal<'static>] = &[
     (b"Q x", b"QN2"),
 ];
 
-/// Texts that no end refuses: the first word is no capital letter alone, or there is none.
+/// Texts that no end refuses. Their first word is not a single capital letter, or there is none.
 const UNKNOWN: &[&[u8]] = &[b"q x", b"SX x", b"HY", b"QN2", b""];
 
-/// A file of one byte is taken behind the message 1 of each, and all is over.
+/// The rows in which a file of one byte is taken after message 1 of each end, and the session ends.
 const TAKES_A_FILE: &[Row<'static>] = &[
     (
         Hear(&[WideCommand(2, 1, b"S x y u - D.0 0644")]),
@@ -59,7 +59,7 @@ const TAKES_A_FILE: &[Row<'static>] = &[
     (Hear(&[Close]), &[Text(b"OOOOOOO")]),
 ];
 
-/// The text, with a name of 201 bytes in place of its word `LONG`.
+/// Returns the text, with a name of 201 bytes in place of its word `LONG`.
 fn with_long_name(rt: &impl Abort, alloc: Global, text: &[u8]) -> Vec<u8> {
     let mut long = Vec::new(alloc);
     if text.len() > 6 && text[2..].starts_with(b"LONG") {
@@ -80,7 +80,7 @@ fn called(rt: &impl Abort, alloc: Global, has: &[Given<'_>]) -> MemoryNode<Globa
     end(rt, alloc, Side::Called, place(rt, Side::Called, 4096), has)
 }
 
-/// The text is the first command of the session.
+/// Starts the session, with the text as its first command.
 fn hear_first(
     rt: &impl Abort,
     log: Global,
@@ -99,7 +99,7 @@ fn hear_first(
     );
 }
 
-/// The command is refused so, and a file is taken behind it.
+/// Asserts that the command is refused with this answer, and that a file is taken after it.
 fn refuse(rt: &impl Abort, log: Global, node: &mut MemoryNode<Global>, refusal: Refusal<'_>) {
     let (text, answer) = refusal;
     hear_first(
@@ -114,7 +114,7 @@ fn refuse(rt: &impl Abort, log: Global, node: &mut MemoryNode<Global>, refusal: 
     assert_ended(rt, node, node.spool().stored(), End::Done, left);
 }
 
-/// The session ends with the command.
+/// Asserts that the session ends with the command.
 fn end_with(rt: &impl Abort, log: Global, node: &mut MemoryNode<Global>, text: &[u8]) {
     hear_first(rt, log, node, text, (Hear(SILENCE), &[Rr(1), Close]));
     assert_ended(rt, node, node.spool().stored(), End::BadTalk, NOTHING);
@@ -217,10 +217,10 @@ fn refuses_a_file_past_the_limit(rt: HostRuntime) {
     play_all(&rt, rt.alloc(), LONG_FILES);
 }
 
-/// The link is up, and the first job is offered.
+/// The link comes up, and the first job is offered.
 const OFFERS_Y: Row<'static> = (Hear(&[InitC(2)]), &[Command(1, 0, b"S x y u - D.0 0644")]);
 
-/// The other end has the file, and the second job is offered.
+/// The other end already has the file, and the second job is offered.
 const HELD: Row<'static> = (
     Hear(&[Command(1, 1, b"SN8")]),
     &[Rr(1), Command(2, 1, b"S x z u - D.0 0644")],
@@ -262,7 +262,7 @@ fn takes_a_job_as_done_whose_file_is_there(rt: HostRuntime) {
     play_all(&rt, rt.alloc(), HELD_FILES);
 }
 
-/// Gives the file, and asks for the turn.
+/// The other end gives the file, and asks for the turn.
 const WISHED: Row<'static> = (Hear(&[WideCommand(1, 1, b"RY 0644M 0x1")]), &[Rr(1)]);
 
 const WISHES: &[Script<'static>] = &[
@@ -299,7 +299,7 @@ fn takes_a_file_whose_giver_wants_to_be_master(rt: HostRuntime) {
     play_all(&rt, rt.alloc(), WISHES);
 }
 
-/// What becomes of its file is said while most of it waits.
+/// The result for the file is given while most of it is still to be sent.
 const EARLY: &[Row<'static>] = &[
     OFFERS_Y,
     (

@@ -4,10 +4,10 @@ use std::alloc::{Allocator, Global};
 use std::process::Abort;
 use uug_session::{Node, Spool};
 
-/// What happens to two ends.
+/// An event at two ends.
 #[derive(Clone, Copy)]
 pub(super) enum Event {
-    /// So many times, all that the caller has emitted comes to the called end, and then the other way round.
+    /// Everything that the caller has emitted comes to the called end, and then the other way round, this many times.
     Flow(u8),
     ToCalled,
     ToCaller,
@@ -17,12 +17,12 @@ pub(super) enum Event {
     Call,
 }
 
-/// How an end takes up what comes.
+/// The way in which an end takes its input.
 #[derive(Clone, Copy)]
 pub(super) enum Hand {
     /// All by one call.
     Whole,
-    /// Item by item, in pieces of at most so many bytes.
+    /// Item by item, in pieces of at most this many bytes.
     Pieces(usize),
 }
 
@@ -30,12 +30,12 @@ pub(super) enum Hand {
 #[derive(Drop)]
 pub(super) struct Line {
     pub(super) hand: Hand,
-    /// All that has gone out on it.
+    /// Everything that has gone out on it.
     pub(super) said: Vec<u8, Global>,
     pub(super) refused: Refused,
 }
 
-/// How many calls of each kind were refused memory.
+/// The number of calls of each kind that were refused memory.
 #[derive(Clone, Copy, Default)]
 pub(super) struct Refused {
     pub(super) items: usize,
@@ -87,7 +87,7 @@ impl Line {
         }
     }
 
-    /// All that one end has emitted comes to the other.
+    /// Hands everything that one end has emitted to the other.
     fn carry<S: Spool, T: Spool, A: Allocator + Copy>(
         &mut self,
         rt: &impl Abort,
@@ -98,14 +98,14 @@ impl Line {
         self.lose(rt, from);
     }
 
-    /// All that an end has emitted is taken away.
+    /// Clears what an end has emitted, and records it in `said`.
     fn lose<S: Spool, A: Allocator + Copy>(&mut self, rt: &impl Abort, from: &mut Node<S, A>) {
         let bytes = from.outbox().bytes();
         self.said.extend_from_slice(bytes).expect(rt, "memory");
         from.clear_outbox();
     }
 
-    /// The end takes up all of these bytes.
+    /// Lets the end take all of these bytes.
     pub(super) fn bring<S: Spool, A: Allocator + Copy>(
         &mut self,
         rt: &impl Abort,
@@ -149,7 +149,7 @@ impl Line {
         panic!(rt; "no end of the items");
     }
 
-    /// The end takes up the next item, if there is one. Whether there is.
+    /// Lets the end take the next item, if there is one. Returns whether there is.
     fn take_up<S: Spool, A: Allocator + Copy>(
         &mut self,
         rt: &impl Abort,
@@ -165,7 +165,7 @@ impl Line {
         false
     }
 
-    /// A timeout.
+    /// Lets a timeout happen.
     pub(super) fn time_out<S: Spool, A: Allocator + Copy>(
         &mut self,
         rt: &impl Abort,
@@ -177,7 +177,7 @@ impl Line {
         }
     }
 
-    /// The line is gone, and a session begins.
+    /// Hangs up, and begins a session.
     pub(super) fn call_again<S: Spool, A: Allocator + Copy>(
         &mut self,
         rt: &impl Abort,
@@ -191,7 +191,7 @@ impl Line {
     }
 }
 
-/// Offers a piece of at most so many bytes. What is left of them.
+/// Offers a piece of at most `size` bytes. Returns the bytes that are left.
 fn offer<'a, S: Spool, A: Allocator + Copy>(
     to: &mut Node<S, A>,
     bytes: &'a [u8],

@@ -10,10 +10,10 @@ use std::alloc::Global;
 use std::process::Abort;
 use uug_session::{End, Phase};
 
-/// An end, the number that it keeps, what it hears and says, how far it is then, and its number.
+/// An end, the number that it keeps, what it hears and says, its phase afterwards, and its number.
 type Conversation<'a> = (Side, Option<u32>, &'a [Row<'a>], Phase, Option<u32>);
 
-/// A caller that keeps 7 says its name when it has heard that of the called end.
+/// A caller that keeps 7 says its name after it has heard that of the called end.
 const CALLER_SAYS_7: Row<'static> = (Hear(&[Text(b"Shere=b")]), &[Text(b"Sa -Q7")]);
 
 const CONVERSATIONS: &[Conversation<'static>] = &[

@@ -10,13 +10,13 @@ use uug_talk::Name;
 
 const JOBS: u16 = 500;
 
-/// The first session comes to its end, or is broken off at its tenth round.
+/// The first session, if it comes to its end. `BROKEN_OFF` breaks it off at its tenth round.
 const WHOLE: &[Event] = &[Event::Flow(255); 6];
 
 const BROKEN_OFF: &[Event] = &[Event::Flow(10)];
 
-/// What the called end has, what happens before the second session, which comes to its end, and how many jobs are pending
-/// and struck then.
+/// The called end's items, the events before the second session, and the numbers of jobs then pending and struck. The
+/// second session comes to its end.
 const QUEUES: &[(&[Given<'static>], &[Event], u16, u16)] = &[
     (NO_WORK, BROKEN_OFF, 0, JOBS),
     (NO_WORK, WHOLE, 0, JOBS),
@@ -24,7 +24,7 @@ const QUEUES: &[(&[Given<'static>], &[Event], u16, u16)] = &[
     (&[Given::Later(b"y")], WHOLE, JOBS, 0),
 ];
 
-/// The user of a job is its number, in three digits.
+/// Makes the user of a job: its number, in three digits.
 fn user(rt: &impl Abort, number: u16) -> Name {
     let digit = |power: u16| b'0' + (number / power % 10) as u8;
     name(rt, &[digit(100), digit(10), digit(1)])
@@ -56,7 +56,7 @@ fn called(rt: &impl Abort, alloc: Global, given: &[Given<'_>]) -> MemoryNode<Glo
     end(rt, alloc, Side::Called, place(rt, Side::Called, 32), given)
 }
 
-/// There are so many jobs, in the order in which they were given.
+/// Asserts that there are this many jobs, in the order in which they were given.
 fn assert_jobs(rt: &impl Abort, jobs: &[Job], count: u16) {
     assert_same(rt, jobs.len(), count as usize);
     for (number, seen) in (0..count).zip(jobs) {
@@ -86,8 +86,8 @@ fn play(
     assert_same(rt, called.phase(), Phase::Ended(End::Done));
 }
 
-// a queue, or a session's start, that says that it is out of memory with many jobs; one that loses the order of those that were
-// skipped
+// a queue, or a session's start, that says that it is out of memory with many jobs; one that loses the order of those
+// that were skipped
 #[test]
 fn works_off_500_jobs(rt: HostRuntime) {
     for (has, first, pending, struck) in QUEUES {

@@ -10,7 +10,7 @@ use std::process::Abort;
 use uug_packet::{Control, FIELD_CODE_MAX, Packet, Seq, encode, field_size};
 use uug_session::{Node, Phase, Spool};
 
-/// What goes over the line.
+/// An item that goes over the line.
 #[derive(Clone, Copy)]
 pub(super) enum Wire<'a> {
     Bytes(&'a [u8]),
@@ -25,30 +25,30 @@ pub(super) enum Wire<'a> {
     Data(u8, u8, &'a [u8]),
     /// A command or an answer of less than 32 bytes, in a field of 32.
     Command(u8, u8, &'a [u8]),
-    /// Both with a field of 4,096 bytes.
+    /// `Data` with a field of 4,096 bytes. `WideCommand` is `Command` with one.
     Wide(u8, u8, &'a [u8]),
     WideCommand(u8, u8, &'a [u8]),
-    /// So many full messages, with the code of their size, the number of the first, and what they acknowledge.
+    /// The number of full messages, the code of their size, the number of the first, and what they acknowledge.
     Flood(u16, u8, u8, u8),
-    /// So many acknowledgements, from this number on.
+    /// The number of acknowledgements, and the number of the first.
     RrFlood(u16, u8),
 }
 
 pub(super) const SILENCE: &[Wire<'static>] = &[];
 
-/// What comes to an end.
+/// An event at an end.
 #[derive(Clone, Copy)]
 pub(super) enum Act<'a> {
     Hear(&'a [Wire<'a>]),
-    /// Nothing for some time; the end then tells so many timeouts in a row.
+    /// Nothing comes for some time. The end then counts this many timeouts in a row.
     Timeout(u8),
     CallAgain,
 }
 
-/// What comes, and what the end then emits.
+/// An event, and what the end then emits.
 pub(super) type Row<'a> = (Act<'a>, &'a [Wire<'a>]);
 
-/// An end, and how its session begins.
+/// An end, and the beginning of its session.
 #[derive(Clone, Copy)]
 pub(super) struct Start<'a> {
     pub(super) side: Side,
@@ -56,7 +56,7 @@ pub(super) struct Start<'a> {
     pub(super) rows: &'a [Row<'a>],
 }
 
-/// How a session begins, what the end has, what happens then, how far the end is after it, and what is left.
+/// The beginning of a session, the end's items, what then happens, the end's phase after it, and what is left.
 #[derive(Clone, Copy)]
 pub(super) struct Script<'a> {
     pub(super) start: Start<'a>,
@@ -66,7 +66,7 @@ pub(super) struct Script<'a> {
     pub(super) left: &'a [Left<'a>],
 }
 
-/// A number counts modulo eight.
+/// Makes a packet number, modulo eight.
 fn number(value: u8) -> Seq {
     match Seq::new(value % 8) {
         Some(number) => number,
@@ -117,10 +117,10 @@ fn spell_text(rt: &impl Abort, text: &[u8], line: &mut Vec<u8>) {
     add(rt, &[0], line);
 }
 
-/// What stands before a message: the code of its field's size, its number, and the number that it acknowledges.
+/// The values before a message: the code of its field's size, its number, and the number that it acknowledges.
 type Front = (u8, u8, u8);
 
-/// The size of a field of this code.
+/// Returns the size of a field of this code.
 fn size_of(rt: &impl Abort, k: u8) -> usize
     ensures most { result ≤ 4096 }
 {
@@ -130,7 +130,7 @@ fn size_of(rt: &impl Abort, k: u8) -> usize
     field_size(k)
 }
 
-/// A text, and zeros behind it that fill the field.
+/// Writes a text, followed by zeros that fill the field.
 fn spell_command(rt: &impl Abort, front: Front, text: &[u8], line: &mut Vec<u8>) {
     let size = size_of(rt, front.0);
     assert_so(rt, text.len() < size);
@@ -171,7 +171,7 @@ fn spelled(rt: &impl Abort, log: Global, wires: &[Wire<'_>]) -> Vec<u8> {
     line
 }
 
-/// The end has emitted just this.
+/// Asserts that the end has emitted exactly this.
 pub(super) fn assert_says<S: Spool, A: Allocator + Copy>(
     rt: &impl Abort,
     log: Global,
@@ -193,7 +193,7 @@ fn hear(
     line.bring(rt, bytes.as_slice(), node);
 }
 
-/// Does what the rows say, and takes away what the end says in each.
+/// Follows the rows, and clears what the end says in each.
 fn follow_on(
     rt: &impl Abort,
     log: Global,

@@ -13,8 +13,8 @@ use uug_session::{End, MemorySpool, NotMade, Place};
 
 type HeapNode<'a> = MemoryNode<&'a Refusing<Global>>;
 
-/// What the caller and the called end have, what happens, and what they then have. Both keep the same number or none, which
-/// is told as it is before and after.
+/// The items of the caller and the called end, the events, and the items they then have. Both keep the same number or
+/// none, given as it is before and after.
 #[derive(Clone, Copy)]
 struct Session<'a> {
     numbers: (Option<u32>, Option<u32>),
@@ -46,7 +46,7 @@ const REQUEST: Task<'static> = Task::Request(b"q", b"y");
 
 const SEND_BACK: Task<'static> = Task::Send(b"x", b"z");
 
-/// An image of a packet, and more than a message of zeros.
+/// The image of a packet, and more zeros than a message has.
 const LONG: &[u8] =
     b"\x10\x09\x89\xaa\x21\x0b0123456789abcdefghijklmnop\0\0\0\0\0\0\0\0\0\0\0\0\0\0\0\0\0\0\0\0\0\0\0\0\0\0\0\0\0\0\0\0\0\0-+-";
 
@@ -149,7 +149,7 @@ const SESSIONS: &[Session<'static>] = &[
     },
 ];
 
-/// An end whose nth request for memory is refused. It is made again of all that was given back.
+/// Makes an end whose nth request for memory is refused. It is made again from everything that was given back.
 fn insist<'a>(
     rt: &impl Abort,
     heap: &'a Refusing<Global>,
@@ -187,7 +187,7 @@ fn place_of(rt: &impl Abort, side: Side, session: &Session<'_>) -> Place {
     place
 }
 
-/// Plays the session, in which the nth request for memory of each end, and then of both, is refused. Whether there was
+/// Plays the session. The nth request for memory of each end, and then of both, is refused. Returns whether there was
 /// such a request of both.
 fn follow(
     rt: &impl Abort,
@@ -218,7 +218,7 @@ fn follow_from<'a>(
     drop(called);
 }
 
-/// Plays the session with bytes handed over in pieces of this size. This is then said.
+/// Plays the session with bytes handed over in pieces of the line's size. Asserts that this is then said.
 fn assert_says_in_pieces(
     rt: &impl Abort,
     heap: &Refusing<Global>,
@@ -249,7 +249,7 @@ fn hands_over_in_any_pieces(rt: HostRuntime) {
     }
 }
 
-/// Plays the session with each request for memory refused in turn. This is said each time.
+/// Plays the session with each request for memory refused in turn. Asserts that this is said each time.
 fn refuse_each(
     rt: &impl Abort,
     heap: &Refusing<Global>,
@@ -285,8 +285,8 @@ fn refuse_each_of_all(rt: &impl Abort, alloc: Global, line: &mut Line) {
     assert_so(rt, line.refused.calls > 0);
 }
 
-// a call that says that it is out of memory where none was refused; a refused call that leaves something behind, or that can't be
-// made again; one that tells wrongly how much of a piece it has used
+// a call that says that it is out of memory where none was refused; a refused call that leaves something behind, or
+// that can't be made again; one that tells wrongly how much of a piece it has used
 #[test]
 fn makes_refused_calls_good(rt: HostRuntime) {
     let alloc = rt.alloc();

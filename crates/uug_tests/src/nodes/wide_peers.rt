@@ -23,7 +23,7 @@ pub(super) const CALLER_STARTS: Start<'static> = Start {
     ],
 };
 
-/// A called end that announces it, and whose link is up.
+/// A called end that announces the greatest size, and whose link is up.
 pub(super) const CALLED_STARTS: Start<'static> = Start {
     side: Side::Called,
     size: 4096,

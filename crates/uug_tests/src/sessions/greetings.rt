@@ -1,5 +1,5 @@
-//! Greetings of an end `a` that calls `b`, text by text as they stand in what comes over the line. What this catches
-//! beyond the clauses: an end that always says that it is out of memory.
+//! Greetings of an end `a` that calls `b`, text by text as they come over the line. Beyond the clauses this catches an
+//! end that always reports lack of memory.
 
 use super::place;
 use crate::assertions::assert_same;
@@ -9,7 +9,7 @@ use uug_link::Outbox;
 use uug_session::{End, Greeted, Greeting, Place};
 use uug_talk::Hail;
 
-/// Takes up the texts of a stream of at most eight.
+/// Handles the texts of a stream, at most eight.
 fn hear<A: Allocator>(
     rt: &impl Abort,
     mut greeting: Greeting,
@@ -36,7 +36,7 @@ fn hear<A: Allocator>(
     Greeted::GoesOn(greeting)
 }
 
-/// What an end hears, what it says, and what becomes of it.
+/// The input of an end, what it says, and the result.
 type Row<'a> = (&'a [u8], &'a [u8], Greeted);
 
 const CALLER_GREETS: Row<'static> = (

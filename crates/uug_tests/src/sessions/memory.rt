@@ -1,5 +1,5 @@
-//! Each request for memory of each call, refused in turn. What this catches beyond the clauses: a call that answers want
-//! of memory where none was refused, or that cannot be made again.
+//! Each request for memory of each call, refused in turn. Beyond the clauses this catches a call that reports lack of
+//! memory although none was refused, or that cannot be made again.
 
 use super::{place, send_job};
 use crate::assertions::assert_same;
@@ -40,7 +40,7 @@ impl<A: Allocator + Copy> Stores<A> {
         }
     }
 
-    /// Makes the call, with the name of an end at this place. Whether it was done.
+    /// Makes the call, with the name of an end with this configuration. Returns whether it was done.
     fn make(&mut self, call: Call<'_>, place: &Place) -> bool {
         let x = &place.me;
         match call {
@@ -63,7 +63,7 @@ impl<A: Allocator + Copy> Stores<A> {
         }
     }
 
-    /// No job, file or text is there, and a file of the name is taken.
+    /// Returns whether no job, file or text is there, and a file of the name is taken.
     fn is_empty(&self, x: &Name) -> bool {
         self.queue.pending().is_empty()
             && self.spool.stored().is_empty()
@@ -73,8 +73,8 @@ impl<A: Allocator + Copy> Stores<A> {
     }
 }
 
-/// Makes a call of which a request may be refused. Whether one was, and whether all is well: the refused call leaves
-/// nothing behind, and is done when it is made again; one that is not refused is done.
+/// Makes a call of which a request may be refused. Returns whether one was, and whether all is well. A refused call
+/// must leave nothing behind, and be done when it is made again. A call that is not refused must be done.
 fn make_twice<'a>(
     heap: &'a Refusing<Global>,
     call: Call<'_>,
@@ -98,7 +98,7 @@ fn refuse(heap: &Refusing<Global>, call: Call<'_>, place: &Place, nth: u64) -> (
     seen
 }
 
-/// Calls with their names, and how many requests each makes.
+/// Calls with their names, and the number of requests of each.
 const CALLS: &[(&str, Call<'static>, u64)] = &[
     ("add", Call::Add, 3),
     ("add a file", Call::AddFile, 2),

@@ -1,4 +1,4 @@
-//! A queue and a spool in memory. What this catches beyond the clauses: a call that always says that it is out of memory.
+//! A queue and a spool in memory. Beyond the clauses this catches a call that always reports lack of memory.
 
 use super::{name, send_job};
 use crate::assertions::{assert_same, assert_so};
@@ -25,7 +25,7 @@ fn takes_jobs_up_to_the_limit(rt: HostRuntime) {
     fill_up(&rt, &mut queue, &job);
 }
 
-/// Two files of the first name, and for the others each its own verdict.
+/// Adds two files of the first name, and a verdict of its own for each other name.
 fn fill(spool: &mut MemorySpool<Global>, names: &[Name; 4]) -> Result<(), AllocError> {
     let [free, later, never, fixed] = *names;
     spool.add_file(free, 0o644, b"")?;
