@@ -1,4 +1,4 @@
-//! Laws of two ends that are told each by the events that happen to it. The functions do nothing.
+//! Laws of two ends, each described by the events that happen to it. The functions do nothing.
 ghost use Rattle.std.specs.Prelude.{◌≡◌, List, []};
 ghost use Rattle.uug_conversation.specs.Holdings.{Kept};
 ghost use Rattle.uug_conversation.specs.OwnEntries.{HasOwnEntries};
@@ -12,16 +12,17 @@ ghost use Rattle.uug_ends.specs.TwoCourses.{EventAt, KeepsPromises, NoneIsFooled
 ghost use Rattle.uug_ends.specs.TwoNodes.{HaveRun, Stands, holdings_at, kept_at, kept_by_both, lists_of, struck_at};
 ghost use Rattle.uug_session.specs.Node.{NodeState};
 
-/// Whatever happens at two ends, each with whatever line, device and spool: where in some order of it neither was fooled, each
-/// has taken the first messages that the other has sent, no job was struck before its file was stored, whole, and no end has
-/// had more unacknowledged packets than the other announced.
+/// States what two ends promise, each at any line, with any device and spool, whatever happens. If in some order of the
+/// events neither was fooled, then each has taken the first messages that the other has sent, no job was struck before
+/// its file was stored, complete, and no end had more unacknowledged packets than the other announced.
 pub fn two_ends_keep_their_promises()
     ensures { (ends : AtBoth EndBeginning) (order : List EventAt) → AreSound ends
         → NoneIsFooled ends order → KeepsPromises ends order }
 {}
 
-/// Two nodes that some events led, each beside its spool, are two ends that are told by these events; so where in some order of
-/// them neither was fooled, no job of theirs was struck before its file was stored, whole, at the end to which it went.
+/// States that two nodes led by some events, each with its spool, are the two ends that these events describe. If in
+/// some order of the events neither was fooled, no job of theirs was struck before its file was stored, complete, at
+/// the end to which it went.
 pub fn two_nodes_keep_their_promises()
     ensures stand { (ends : AtBoth EndBeginning) (order : List EventAt) (kept : AtBoth (List Kept))
         (nodes : AtBoth NodeState) → HaveRun ends order kept nodes → (side : Side)
@@ -34,9 +35,10 @@ pub fn two_nodes_keep_their_promises()
         (kept_at ends kept (other giver)) }
 {}
 
-/// A job that is gone from an end's pending jobs, and did not fail, has its file, whole, among those that the other end's spool
-/// has kept in the session, and a Request its own, under the name where it lands there: where none of its jobs was struck
-/// before, and in some order of what happened at both ends neither was fooled.
+/// States that the file of a job was kept, complete, if the job is gone from an end's pending jobs and did not fail.
+/// The other end's spool has kept it in the session, or for a Request the end's own, under the name where it lands
+/// there. None of the end's jobs may have been struck before, and in some order of what happened at both ends neither
+/// may have been fooled.
 pub fn the_file_of_a_job_that_is_gone_was_kept()
     ensures { (ends : AtBoth EndBeginning) (order : List EventAt) (kept : AtBoth (List Kept))
         (nodes : AtBoth NodeState) → AreSound ends → NoneIsFooled ends order

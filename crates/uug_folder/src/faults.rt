@@ -1,4 +1,4 @@
-//! What a fault of a folder is to the program.
+//! Converts a fault of a folder into an error of the program.
 ghost use Rattle.std.specs.Prelude.{◌≡◌};
 ghost use Rattle.uug_stream.specs.declared.fault.ToolFault.TheVariants.{Device as device};
 

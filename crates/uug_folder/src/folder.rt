@@ -5,25 +5,24 @@ ghost use Rattle.uug_folder.specs.Folders.{Placed, also_placed, placed_file};
 use thiserror::Error;
 use uug_talk::Name;
 
-/// The device behind a folder failed.
+/// The error of a folder whose device failed.
 #[derive(Clone, Copy, Debug, PartialEq, Eq, Error)]
 #[error("device fault")]
 pub struct FolderFailed;
 
 /// A folder that takes whole files.
 pub trait Folder {
-    /// The files that were put in it and seen on its device, in the order in which they were, where the folder tells
-    /// them.
+    /// The files that were put in it and synced to disk, in that order, if the folder reports them.
     ghost placed: { Self → Option (List Placed) };
 
-    /// How many faults its device had.
+    /// The number of faults of its device.
     ghost fault_count: { Self → ℕ };
 
-    /// Whether a name is barred: no file can be put in the folder under it.
+    /// True for a name that is barred: no file can be put in the folder under it.
     ghost barred: { Self → List ℕ → Bool };
 
-    /// Puts a whole file in the folder under this name, in the place of one that had it, and sees both on the device.
-    /// After a fault the name has the old file or this one as a whole, but this one does not count as put.
+    /// Puts a whole file in the folder under this name, replacing any file of that name, and syncs both to disk. After
+    /// a fault the name has the old file or this one as a whole, but this one does not count as put.
     fn put(&mut self, name: &Name, bytes: &[u8]) -> Result<(), FolderFailed>
         ensures ok { OnOk result (placed self.new
             ≡ also_placed (placed_file name.now bytes.now) (placed self.old)) }
@@ -34,11 +33,11 @@ pub trait Folder {
         ensures grows { fault_count self.old ≤ fault_count self.new }
         ensures barred { barred self.new ≡ barred self.old };
 
-    /// Whether a name is barred, as far as the folder knows before it is tried.
+    /// Returns whether a name is barred, as far as the folder knows before it is tried.
     fn is_barred(&self, name: &Name) -> bool
         ensures { result ≡ barred self.now name.now };
 
-    /// How many faults the device had, up to the greatest number that fits.
+    /// Returns the number of faults of the device, up to the greatest number that fits.
     fn faults(&self) -> u64
         ensures { result ≡ fault_count self.now };
 }

@@ -12,12 +12,12 @@ use std::snapshot::Snapshot;
 use uug_session::{FileView, KeepFault, Spool, Stored, Verdict};
 use uug_talk::{MODE_MAX, Name};
 
-/// A spool that puts what it keeps in a folder. A clause sees the files that it has to give, those that it has kept, and
-/// the folder.
+/// A spool that puts the files that it keeps in a folder. Clauses see the files that it has to give, those that it has
+/// kept, and the folder.
 #[derive(Drop)]
 pub struct FolderSpool<F: Folder, A: Allocator> {
     files: Vec<Stored<A>, A>,
-    /// What was kept, for clauses alone: the bytes are in the folder, and no longer in memory.
+    /// The files that were kept, for clauses alone: the bytes are in the folder, and no longer in memory.
     stored: Vec<Snapshot<Stored<A>>, A>,
     folder: F,
     alloc: A,
@@ -41,7 +41,7 @@ impl<F: Folder, A: Allocator> Model for FolderSpool<F, A> {
 }
 
 impl<F: Folder, A: Allocator + Copy> FolderSpool<F, A> {
-    /// A spool with these files to give, that has kept none. It takes no memory.
+    /// Makes a spool with these files to give, that has kept none. It takes no memory.
     pub fn new(alloc: A, files: Vec<Stored<A>, A>, folder: F) -> Self
         ensures { result ≡ record { files = files.items; stored = []; folder = folder } }
     {
@@ -53,7 +53,7 @@ impl<F: Folder, A: Allocator + Copy> FolderSpool<F, A> {
         }
     }
 
-    /// The folder. Where it tells what was put in it, the files that the spool has kept are the last of these.
+    /// Returns the folder. If the folder reports the files put in it, those that the spool has kept are the last ones.
     pub fn folder(&self) -> &F
         ensures folder { result.now ≡ self.now.folder }
         ensures placed { EndsWith (F.placed result.now)
@@ -62,7 +62,7 @@ impl<F: Folder, A: Allocator + Copy> FolderSpool<F, A> {
         &self.folder
     }
 
-    /// Whether no file of this name can be put in its place.
+    /// Returns whether no file of this name can be put in its place.
     pub fn is_immovable(&self, name: &Name) -> bool
         ensures { result ≡ (folder_holdings (F.barred self.now.folder)
             (map kept_of self.now.files)).immovable name.now }
@@ -70,7 +70,7 @@ impl<F: Folder, A: Allocator + Copy> FolderSpool<F, A> {
         is_hidden(name.as_bytes()) || self.folder.is_barred(name)
     }
 
-    /// The file of the name that has these bytes, if there is one.
+    /// Returns the file whose name has these bytes, if there is one.
     pub(crate) fn fetch_by(&self, name: &[u8]) -> Option<FileView<'_>>
         ensures { shown_file result ≡ (folder_holdings (F.barred self.now.folder)
             (map kept_of self.now.files)).file name.now }
@@ -135,7 +135,7 @@ impl<F: Folder, A: Allocator + Copy> Spool for FolderSpool<F, A> {
     ghost modes = { λ s. modes_in_range s.files };
 }
 
-/// A name that would be hidden in a folder, or lead out of it.
+/// Returns whether a name would be hidden in a folder, or lead out of it.
 pub(crate) fn is_hidden(name: &[u8]) -> bool
     ensures { result ≡ is_hidden name.now }
 {
@@ -187,7 +187,7 @@ fn put_and_store<F: Folder, A: Allocator + Copy>(
     Ok(())
 }
 
-/// Makes room for one file more, and makes a file of these bytes.
+/// Makes room for one more file, and makes a file of these bytes.
 fn copy_beside_room<A: Allocator + Copy>(
     stored: &mut Vec<Snapshot<Stored<A>>, A>,
     alloc: A,
@@ -208,7 +208,7 @@ fn copy_beside_room<A: Allocator + Copy>(
     })
 }
 
-/// Adds a file to those that were kept, in room that is there.
+/// Adds a file to those that were kept, in reserved room.
 fn push_stored<A: Allocator>(stored: &mut Vec<Snapshot<Stored<A>>, A>, file: &Stored<A>)
     requires { vec_len stored.old < vec_capacity stored.old }
     ensures { map kept_of (map (λ f. f.value) stored.new.items)

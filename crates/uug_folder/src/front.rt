@@ -1,4 +1,4 @@
-//! The first of an end's jobs.
+//! The first jobs of an end.
 ghost use Rattle.std.specs.Prelude.{◌≡◌, ◌≤◌, [], take, length, IfOk, OnOk};
 ghost use Rattle.uug_conversation.specs.Jobs.{added, at_start, pending};
 ghost use Rattle.uug_conversation.specs.declared.queue.TheConstants.{JOBS_MAX};
@@ -6,7 +6,7 @@ ghost use Rattle.uug_conversation.specs.declared.queue.TheConstants.{JOBS_MAX};
 use std::alloc::{AllocError, Allocator};
 use uug_session::{JOBS_MAX, Job, Queue};
 
-/// The first jobs of a list, so many or all, as a queue: all of them are to be offered.
+/// Returns the first `count` jobs of a list, or all if there are fewer, as a queue. All of them are to be offered.
 pub fn first_jobs<A: Allocator + Copy>(
     alloc: A,
     jobs: &[Job],

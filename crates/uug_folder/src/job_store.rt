@@ -8,20 +8,20 @@ use std::alloc::Allocator;
 use uug_session::Job;
 use uug_stream::ToolFault;
 
-/// Where the jobs of an end stand between its sessions. A job is taken out as soon as it is over, so that a program that is
-/// stopped leaves just those that are not.
+/// The store of an end's jobs between its sessions. A job is removed as soon as it is over: a program that is stopped
+/// leaves just those that are not.
 pub trait JobStore {
-    /// The jobs that stand in it, where it tells them.
+    /// The jobs in it, if it reports them.
     ghost open_jobs: { Self → Option (List JobValue) };
 
-    /// What is told of those that have failed, where it tells that.
+    /// The notices of failed jobs, if it reports them.
     ghost told: { Self → Option (List ℕ) };
 
-    /// How many faults its device had.
+    /// The number of faults of its device.
     ghost fault_count: { Self → ℕ };
 
-    /// Takes these jobs out, each once: those that were done, and those that were given up. What is told of the latter stands on
-    /// the device before. All else stays as it is then. After a fault the store is as before, or without them.
+    /// Removes these jobs, each once: those that were done, and those that were given up. The notice of the latter is
+    /// on disk before. All else stays as it is then. After a fault the store is as before, or without these jobs.
     fn settle<B: Allocator + Copy>(
         &mut self,
         alloc: B,

@@ -7,19 +7,19 @@ use crate::folder::FolderFailed;
 use std::alloc::Allocator;
 use uug_stream::ToolFault;
 
-/// The files of an end's jobs: the text of those that wait, which is replaced as a whole, and one that tells of those that have
-/// failed, which only grows.
+/// The files of an end's jobs: the text of the waiting ones, which is replaced as a whole, and the notices of failed
+/// ones, which only grow.
 pub trait JobTexts {
-    /// The text of the jobs that wait, where the files tell it.
+    /// The text of the waiting jobs, if the files report it.
     ghost text: { Self → Option (List ℕ) };
 
-    /// What is told of those that have failed, where the files tell it.
+    /// The notices of failed jobs, if the files report them.
     ghost told: { Self → Option (List ℕ) };
 
-    /// How many faults their device had.
+    /// The number of faults of their device.
     ghost fault_count: { Self → ℕ };
 
-    /// The text of the jobs that wait now. A file that is not there has an empty one.
+    /// Returns the present text of the waiting jobs. A missing file has an empty text.
     fn read<B: Allocator + Copy>(&mut self, alloc: B) -> Result<Vec<u8, B>, ToolFault>
         ensures same { text self.new ≡ text self.old }
         ensures told_same { told self.new ≡ told self.old }
@@ -28,8 +28,8 @@ pub trait JobTexts {
         ensures fault { IfErr result (λ fault.
             IsReadFault fault (fault_count self.old) (fault_count self.new)) };
 
-    /// Puts this text in the place of that of the jobs that wait. After a fault it is as before, or this one, which may be gone
-    /// again with the power.
+    /// Replaces the text of the waiting jobs. After a fault it is the old text or this one, which may be lost again
+    /// with the power.
     fn replace(&mut self, bytes: &[u8]) -> Result<(), FolderFailed>
         ensures ok { OnOk result (text self.new ≡ holding bytes.now (text self.old)) }
         ensures told_same { told self.new ≡ told self.old }
@@ -39,7 +39,7 @@ pub trait JobTexts {
             (HasFailed u64.MAX (fault_count self.old) (fault_count self.new)) }
         ensures grows { fault_count self.old ≤ fault_count self.new };
 
-    /// Appends this to what is told of those that have failed, and sees it on the device. After a fault some of it may be told.
+    /// Appends to the notices of failed jobs, and syncs them to disk. After a fault some of the bytes may be there.
     fn tell(&mut self, bytes: &[u8]) -> Result<(), FolderFailed>
         ensures ok { OnOk result (told self.new ≡ also_told bytes.now (told self.old)) }
         ensures same { text self.new ≡ text self.old }

@@ -11,11 +11,11 @@ use std::alloc::Allocator;
 use uug_session::Job;
 use uug_stream::ToolFault;
 
-/// The files of an end's jobs, and what those that wait were when its session began.
+/// The files of an end's jobs, with the text of the waiting ones as it was when the session began.
 #[derive(Drop)]
 pub struct JobsFile<J, A: Allocator> {
     pub file: J,
-    /// The text that was read of it.
+    /// The text that was read from it.
     pub before: Vec<u8, A>,
 }
 
@@ -38,9 +38,9 @@ impl<J: JobTexts, A: Allocator> JobStore for JobsFile<J, A> {
     }
 }
 
-/// Takes these jobs out of the text of those that wait: for each of them the first line that says it, as the text is now. All
-/// other lines stay, in their order. Where none of them is there the text is not touched. What is told of those that have failed
-/// is told before.
+/// Removes these jobs from the text of the waiting ones: for each of them the first line that says it, as the text is
+/// now. All other lines stay, in their order. If the text stays the same, it is not written. The notices of failed jobs
+/// are appended before.
 pub fn settle_text<J: JobTexts, B: Allocator + Copy>(
     alloc: B,
     file: &mut J,
@@ -69,7 +69,7 @@ pub fn settle_text<J: JobTexts, B: Allocator + Copy>(
     }
 }
 
-/// Tells this of the jobs that have failed, if it is anything.
+/// Appends these notices of failed jobs, if there are any.
 fn tell_some<J: JobTexts>(file: &mut J, notice: &[u8]) -> Result<(), ToolFault>
     ensures ok { OnOk result (J.told file.new ≡ also_told notice.now (J.told file.old)) }
     ensures same { J.text file.new ≡ J.text file.old }

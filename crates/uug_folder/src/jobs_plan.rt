@@ -1,4 +1,4 @@
-//! What is to become of a file of jobs once its text was read again.
+//! The plan for a file of jobs once its text was read again.
 ghost use Rattle.std.specs.Prelude.{◌≡◌, ◌≤◌, IfErr, IfOk, OnErr, OnOk};
 ghost use Rattle.uug_folder.specs.TextFiles.{holding, IsReadFault};
 ghost use Rattle.uug_folder.specs.JobsFile.{settled};
@@ -12,17 +12,17 @@ use std::alloc::{AllocError, Allocator};
 use uug_session::Queue;
 use uug_stream::ToolFault;
 
-/// What is to become of a file of jobs.
+/// The plan for a file of jobs.
 #[derive(Drop)]
 pub enum JobsPlan<A: Allocator> {
     /// This text is written.
     Write(Vec<u8, A>),
-    /// It stays as it is, since its text could not be read.
+    /// It stays as it is, because its text could not be read.
     Failed,
 }
 
 impl<A: Allocator + Copy> JobsPlan<A> {
-    /// Reads the text of a file again, and plans what is to stay of it when these jobs are pending, done and given up.
+    /// Reads the text of a file again, and plans what stays of it when these jobs are pending, done and given up.
     pub fn new<J: TextFile, B: Allocator, C: Allocator>(
         alloc: A,
         jobs: &mut JobsFile<J, B>,
@@ -44,7 +44,7 @@ impl<A: Allocator + Copy> JobsPlan<A> {
 }
 
 impl<A: Allocator> JobsPlan<A> {
-    /// Does to the file what is planned.
+    /// Carries out the plan.
     pub fn carry_out<J: TextFile>(&self, file: &mut J) -> Result<(), FolderFailed>
         ensures ok { OnOk result (J.text file.new ≡ carried self.now (J.text file.old)) }
         ensures feasible { OnOk result (IsFeasible self.now) }
@@ -61,7 +61,7 @@ impl<A: Allocator> JobsPlan<A> {
         }
     }
 
-    /// What is answered where memory is refused before anything was written: the device's fault, if it came before.
+    /// Returns the error for memory that is refused before anything was written: the device's fault, if it came before.
     pub fn fault_without_memory(&self) -> ToolFault
         ensures { result ≡ fault_without_memory self.now }
     {
@@ -72,7 +72,7 @@ impl<A: Allocator> JobsPlan<A> {
     }
 }
 
-/// What is to stay of the text of a file of jobs.
+/// Returns the text that stays in a file of jobs.
 fn settled_text<J: TextFile, A: Allocator + Copy, B: Allocator>(
     alloc: A,
     file: &mut J,

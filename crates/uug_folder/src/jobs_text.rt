@@ -10,18 +10,18 @@ use thiserror::Error;
 use uug_session::{Job, Queue, QueueFault};
 use uug_talk::{LINE_MAX, Name, split_line, split_word, three_words};
 
-/// Why there are no jobs.
+/// An error of reading jobs.
 #[derive(Clone, Copy, Debug, PartialEq, Eq, Error)]
 pub enum JobsFault {
     /// The first bad line, counted from 1.
     #[error("bad jobs at line {0}")]
     Bad(usize),
-    /// There is no memory for the jobs.
+    /// Memory ran out.
     #[error("out of memory")]
     Memory,
 }
 
-/// The job of a line, by its first word and what stands after it.
+/// Returns the job of a line, by its first word and the words after it.
 fn read_job(first: &[u8], rest: &[u8]) -> Option<Job>
     ensures { result ≡ job_of first.now (words rest.now) }
 {
@@ -47,14 +47,14 @@ fn read_job(first: &[u8], rest: &[u8]) -> Option<Job>
     }
 }
 
-/// Whether a line with this first word is a comment.
+/// Returns whether a line with this first word is a comment.
 fn is_comment(first: &[u8]) -> bool
     ensures { result ≡ is_comment first.now }
 {
     first.starts_with(b"#")
 }
 
-/// The job that a line says, if it says one.
+/// Returns the job that a line says, if it says one.
 pub(crate) fn job_in(line: &[u8]) -> Option<Job>
     ensures { result ≡ job_said (says_of line.now) }
 {
@@ -106,10 +106,10 @@ fn add_line<A: Allocator>(queue: &mut Queue<A>, number: usize, line: &[u8]) -> R
     }
 }
 
-/// Reads a text of jobs, in order. A line is `send SOURCE TARGET USER` or `request SOURCE TARGET USER`; its words are
-/// separated by one or more spaces, and spaces at either end of it are dropped. Empty lines and lines that begin with
-/// `#` are skipped. The first line that is any other, that has more than `LINE_MAX` bytes, or that has one job more
-/// than may be pending, is answered as bad.
+/// Reads a text of jobs, in order. A line is `send SOURCE TARGET USER` or `request SOURCE TARGET USER`. One or more
+/// spaces separate its words; spaces at either end are dropped. Empty lines and lines that begin with `#` are skipped.
+/// The error `Bad` has the number of the first line that is any other, that has more than `LINE_MAX` bytes, or that has
+/// one job more than may be pending.
 pub fn read_jobs<A: Allocator + Copy>(alloc: A, text: &[u8]) -> Result<Queue<A>, JobsFault>
     ensures exact { IfOk result (λ queue. jobs_of text.now ≡ Ok (pending queue)) }
     // All jobs are still to be offered, and none was done or given up.
@@ -168,8 +168,8 @@ pub(crate) fn add_job_line<A: Allocator>(text: &mut String<A>, job: &Job) -> Res
     }
 }
 
-/// The text of these jobs, one line a job, as `read_jobs` reads it. The name of a copy that was made of a file, which no
-/// text of jobs has, is left out.
+/// Returns the text of these jobs, one line a job, as `read_jobs` reads it. It leaves out the name of a copy that was
+/// made of a file, which no text of jobs has.
 pub fn write_jobs<A: Allocator>(alloc: A, jobs: &[Job]) -> Result<String<A>, AllocError>
     ensures { IfOk result (λ text. string_bytes text ≡ jobs_text jobs.now) }
 {

@@ -1,5 +1,5 @@
-//! The folder of an end: its jobs as a text, the files that come, names as real systems write them, the number of its
-//! conversations, and the lines of its report. Nothing here calls the system: folders and files are traits.
+//! The folder of an end: its jobs as a text, the files that it receives, names as real systems write them, the number
+//! of its conversations, and the lines of its report. Nothing here calls the system: folders and files are traits.
 #![tactic(auto)]
 
 mod faults;

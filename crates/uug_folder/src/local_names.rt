@@ -13,10 +13,10 @@ use uug_conversation::has_name;
 use uug_session::{FileView, KeepFault, Spool, Verdict};
 use uug_talk::Name;
 
-/// The spool over a folder, for another end that names files as real systems do: `~/x` and `/x` are `x` in the folder,
-/// and no other path is taken or given, nor a name with a dot in front; a file that is sent to `~/` or `/` goes into the folder
-/// under the last part of its own name. A clause sees the files in the folder, and the names under which those that were kept
-/// came.
+/// The spool over a folder, for another end that names files as real systems do. `~/x` and `/x` are `x` in the folder.
+/// No other path is taken or given, nor a name with a dot in front. A file that is sent to `~/` or `/` goes into the
+/// folder under the last part of its own name. Clauses see the files in the folder, and the names under which those
+/// that were kept came.
 #[derive(Drop)]
 pub struct LocalNames<F: Folder, A: Allocator> {
     files: FolderSpool<F, A>,
@@ -47,8 +47,8 @@ impl<F: Folder, A: Allocator> Model for LocalNames<F, A> {
 }
 
 impl<F: Folder, A: Allocator + Copy> LocalNames<F, A> {
-    /// Returns the spool over a folder that has kept nothing, of an end that is not lenient, and tells no digests. No file is
-    /// delayed. It takes no memory.
+    /// Returns the spool over a folder that has kept nothing, of an end that is not lenient, and announces no
+    /// digests. No file is delayed. It takes no memory.
     pub fn new(alloc: A, files: FolderSpool<F, A>) -> Self
         requires { files.stored ≡ [] }
         ensures { result ≡ record { files = files; names = []; delayed = []; lenient = false; digests = false } }
@@ -69,22 +69,22 @@ impl<F: Folder, A: Allocator + Copy> LocalNames<F, A> {
         self.delayed = delayed;
     }
 
-    /// Whether its end refuses what it can't read, and goes on.
+    /// Sets whether its end refuses what it can't read, and goes on.
     pub fn set_lenient(&mut self, lenient: bool)
         ensures { self.new ≡ record self.old { lenient = lenient } }
     {
         self.lenient = lenient;
     }
 
-    /// Whether its end tells digests of its files, and compares those that it is told.
+    /// Sets whether its end announces digests of its files, and compares those that it receives.
     pub fn set_digests(&mut self, digests: bool)
         ensures { self.new ≡ record self.old { digests = digests } }
     {
         self.digests = digests;
     }
 
-    /// The files, under the names that they have in the folder: each that was kept stands there under the name that is
-    /// made of the one under which it came.
+    /// Returns the files, under the names that they have in the folder. Each that was kept is there under the name made
+    /// of the one under which it came.
     pub fn files(&self) -> &FolderSpool<F, A>
         ensures files { result.now ≡ self.now.files }
         ensures names { StandUnder self.now.names (map kept_of result.now.stored) }
@@ -155,22 +155,22 @@ impl<F: Folder, A: Allocator + Copy> Spool for LocalNames<F, A> {
         (modes_in_range s.files.files) };
 }
 
-/// The name in the folder of a file that a real system names, if there is one.
+/// Returns the name in the folder of a file that a real system names, if there is one.
 fn local_name(name: &Name) -> Option<Name>
     ensures { result ≡ local_name name.now }
 {
     Name::new(behind_root(name.as_bytes())).ok()
 }
 
-/// The name in the folder of a file that a real system asks for, if there is one. None leads out of the folder, and none is
-/// hidden there.
+/// Returns the name in the folder of a file that a real system asks for, if there is one. None leads out of the folder,
+/// and none is hidden there.
 pub fn local_source(name: &Name) -> Option<Name>
     ensures { result ≡ local_source name.now }
 {
     Name::new(source_bytes(name)?).ok()
 }
 
-/// The bytes of that name. A file is asked for again for each of its messages, so that no name is made of them.
+/// Returns the bytes of that name. A file is asked for again for each of its messages; this makes no name of the bytes.
 fn source_bytes(name: &Name) -> Option<&[u8]>
     ensures { MatchOption result (local_source name.now ≡ None)
         (λ local. local_source name.now ≡ Some local.now) }
@@ -182,8 +182,8 @@ fn source_bytes(name: &Name) -> Option<&[u8]>
     Some(local)
 }
 
-/// Returns under which name a file is kept: one that is sent to the public folder itself, or to the root, under the last part of its own
-/// name.
+/// Returns the name under which a file is kept. One that is sent to the public folder itself, or to the root, is kept
+/// under the last part of its own name.
 fn local_landing(source: &Name, target: &Name) -> Name
     ensures { result ≡ local_landing source.now target.now }
 {
@@ -193,7 +193,7 @@ fn local_landing(source: &Name, target: &Name) -> Name
     }
 }
 
-/// Returns what stands behind the last slash of a name.
+/// Returns the part of a name after the last slash.
 fn last_part(name: &str) -> &str
     ensures { result.now ≡ last_part name.now }
 {
@@ -203,7 +203,7 @@ fn last_part(name: &str) -> &str
     }
 }
 
-/// A name without what says that it is in the public folder or the root of a system.
+/// Returns a name without the prefix of the public folder or of the root of a system.
 fn behind_root(name: &[u8]) -> &[u8]
     ensures { result.now ≡ behind_root name.now }
 {
@@ -216,7 +216,7 @@ fn behind_root(name: &[u8]) -> &[u8]
     }
 }
 
-/// Adds a name, in room that is there.
+/// Adds a name, in reserved room.
 fn push_name<A: Allocator>(names: &mut Vec<Name, A>, name: Name)
     requires room { vec_len names.old < vec_capacity names.old }
     ensures { names.new.items ≡ names.old.items ++ name ∷ [] }

@@ -1,4 +1,4 @@
-//! The text of a file of jobs after a session, whatever became of it meanwhile.
+//! The text of a file of jobs after a session, whatever happened to it meanwhile.
 ghost use Rattle.std.specs.Str.{bytes_eq};
 ghost use Rattle.std.specs.Prelude.{◌≡◌, ◌&&◌, ◌++◌, ◌<◌, IfOk, OnOk, MatchOption, IfSome, None, Some, length, remove};
 ghost use Rattle.uug_conversation.specs.Jobs.{pending};
@@ -11,9 +11,9 @@ use std::alloc::{AllocError, Allocator};
 use uug_session::{Job, Queue};
 use uug_talk::{Name, split_line};
 
-/// The text in place of the one that is in a file of jobs now, when a session is over that began with the text before.
-/// Where the file only grew, what was appended stays behind the jobs that are pending. Where it was changed otherwise,
-/// each job that was struck or has failed is taken out of it once, by a line that says it, and all else stays.
+/// Returns the text that replaces the present one of a file of jobs, when a session is over that began with the text
+/// before. If the file only grew, the appended part stays after the pending jobs. If it was changed otherwise, each job
+/// that was struck or has failed is removed from it once, by a line that says it, and all else stays.
 pub fn jobs_after<A: Allocator + Copy, B: Allocator>(
     alloc: A,
     before: &[u8],
@@ -28,7 +28,7 @@ pub fn jobs_after<A: Allocator + Copy, B: Allocator>(
     }
 }
 
-/// What stands behind the first text in the second one, if that begins with it.
+/// Returns the part of the second text after the first one, if it begins with that.
 fn behind<'a>(first: &[u8], text: &'a [u8]) -> Option<&'a [u8]>
     ensures { MatchOption result (behind first.now text.now ≡ None)
         (λ rest. behind first.now text.now ≡ Some rest.now) }
@@ -36,7 +36,7 @@ fn behind<'a>(first: &[u8], text: &'a [u8]) -> Option<&'a [u8]>
     text.strip_prefix(first)
 }
 
-/// The text of these jobs, and behind it what was appended.
+/// Returns the text of these jobs, and after it what was appended.
 fn text_with<A: Allocator + Copy>(
     alloc: A,
     jobs: &[Job],
@@ -49,7 +49,7 @@ fn text_with<A: Allocator + Copy>(
     Ok(text)
 }
 
-/// What is left of a text where these jobs were struck, and those have failed.
+/// Returns what is left of a text when these jobs were struck, and those have failed.
 pub(crate) fn text_without<A: Allocator + Copy>(
     alloc: A,
     struck: &[Job],
@@ -65,7 +65,7 @@ pub(crate) fn text_without<A: Allocator + Copy>(
     Ok(text)
 }
 
-/// Appends what is left of these lines, where these jobs are over. A job is taken out of them with its line.
+/// Appends what is left of these lines when these jobs are over. A job is removed from `over` with its line.
 fn add_lines_left<A: Allocator>(
     text: &mut Vec<u8, A>,
     over: &mut Vec<Job, A>,
@@ -82,7 +82,7 @@ fn add_lines_left<A: Allocator>(
     Ok(())
 }
 
-/// Appends a line, unless it says a job that is over. Then that job is taken out.
+/// Appends a line, unless it says a job that is over. Then that job is removed from `over`.
 fn add_line_left<A: Allocator>(
     text: &mut Vec<u8, A>,
     over: &mut Vec<Job, A>,
@@ -98,7 +98,7 @@ fn add_line_left<A: Allocator>(
     text.extend_from_slice(b"\n")
 }
 
-/// Takes the job that a line says out of these, if it is among them. The answer is whether it was.
+/// Removes the job that a line says from these, if it is among them. Returns whether it was.
 fn takes_out<A: Allocator>(jobs: &mut Vec<Job, A>, line: &[u8]) -> bool
     ensures { IsTaken result (without_said (job_said (says_of line.now)) jobs.old.items)
         jobs.old.items jobs.new.items }
@@ -109,7 +109,7 @@ fn takes_out<A: Allocator>(jobs: &mut Vec<Job, A>, line: &[u8]) -> bool
     }
 }
 
-/// Takes the first job that is this one, with the same copy, out of these. The answer is whether there was one.
+/// Removes the first job that is this one, with the same copy. Returns whether there was one.
 pub fn take_first<A: Allocator>(jobs: &mut Vec<Job, A>, job: &Job) -> bool
     ensures { IsTaken result (without_first job.now jobs.old.items)
         jobs.old.items jobs.new.items }
@@ -123,7 +123,7 @@ pub fn take_first<A: Allocator>(jobs: &mut Vec<Job, A>, job: &Job) -> bool
     }
 }
 
-/// The place of the first of these jobs that is this one, if there is one.
+/// Returns the place of the first of these jobs that is this one, if there is one.
 fn place_of(jobs: &[Job], job: &Job) -> Option<usize>
     ensures within { IfSome result (λ place. place < length jobs.now) }
     ensures first { MatchOption result (without_first job.now jobs.now ≡ None)
@@ -137,7 +137,7 @@ fn place_of(jobs: &[Job], job: &Job) -> Option<usize>
     None
 }
 
-/// Whether two jobs have the same words, and the same copy.
+/// Returns whether two jobs have the same words, and the same copy.
 pub(crate) fn is_job(job: &Job, other: &Job) -> bool
     ensures { result ≡ is_job job.now other.now }
 {
@@ -175,7 +175,7 @@ pub(crate) fn is_job(job: &Job, other: &Job) -> bool
     }
 }
 
-/// Whether two copies have one name, or there is none.
+/// Returns whether two copies have one name, or there is none.
 fn is_copy(temp: &Option<Name>, copy: &Option<Name>) -> bool
     ensures { result ≡ is_copy temp.now copy.now }
 {
@@ -186,7 +186,7 @@ fn is_copy(temp: &Option<Name>, copy: &Option<Name>) -> bool
     }
 }
 
-/// Whether these words are those.
+/// Returns whether these words are those.
 fn has_words(
     source: &Name,
     target: &Name,

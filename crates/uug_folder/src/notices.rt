@@ -1,4 +1,4 @@
-//! What is told of the jobs that an end has given up.
+//! The notices of the jobs that an end has given up.
 ghost use Rattle.std.specs.Prelude.{◌≡◌, ◌++◌, IfOk, OnOk, string_bytes};
 ghost use Rattle.uug_conversation.specs.Choice.{fetched_by};
 ghost use Rattle.uug_conversation.specs.FileView.{shown_file};
@@ -10,16 +10,16 @@ use std::alloc::{AllocError, Allocator};
 use uug_session::{FileView, Job, Spool, Verdict};
 use uug_talk::{FILE_MAX, Name};
 
-/// Why an end has given up a job, as far as it knows.
+/// The reason for which an end has given up a job, as far as it knows.
 #[derive(Clone, Copy, Debug, PartialEq, Eq)]
 pub enum WhyFailed {
-    /// It has no such file to send, or that is too large.
+    /// It has no file of the name to send, or that is too large.
     NoFile,
     /// The other end never takes a file of this name, or can't put it in its place.
     Refused,
-    /// No file of the name that was asked for is taken here.
+    /// A file of the requested name is never taken here.
     NotTaken,
-    /// The other end has no such file to give, or it can't be put in its place here.
+    /// The other end has no file of the name to give, or it can't be put in its place here.
     NotGiven,
 }
 
@@ -34,7 +34,7 @@ fn why_words(why: WhyFailed) -> &'static str
     }
 }
 
-/// The file of this name that may be sent, if there is one.
+/// Returns the file of this name that may be sent, if there is one.
 fn to_give<'a, S: Spool>(spool: &'a S, name: &Name) -> Option<FileView<'a>>
     ensures { shown_file result ≡ to_give (S.holdings spool.now) name.now }
 {
@@ -46,7 +46,7 @@ fn to_give<'a, S: Spool>(spool: &'a S, name: &Name) -> Option<FileView<'a>>
     }
 }
 
-/// The name by which the file of a Send job is fetched.
+/// Returns the name by which the file of a Send job is fetched.
 fn fetched_by<'a>(source: &'a Name, temp: &'a Option<Name>) -> &'a Name
     ensures { result.now ≡ fetched_by source.now temp.now }
 {
@@ -65,7 +65,7 @@ fn why_not_got(verdict: Verdict) -> WhyFailed
     }
 }
 
-/// Why an end with this spool has given up a job.
+/// Returns the reason for which an end with this spool has given up a job.
 pub fn why_failed<S: Spool>(spool: &S, job: &Job) -> WhyFailed
     ensures { result ≡ why_failed (S.holdings spool.now) job.now }
 {
@@ -80,7 +80,7 @@ pub fn why_failed<S: Spool>(spool: &S, job: &Job) -> WhyFailed
     }
 }
 
-/// Appends what is told of a job: why it was given up, and its line.
+/// Appends the notice of a job: the reason, and its line.
 fn add_notice<S: Spool, A: Allocator>(
     text: &mut String<A>,
     spool: &S,
@@ -94,7 +94,7 @@ fn add_notice<S: Spool, A: Allocator>(
     add_job_line(text, job)
 }
 
-/// Appends what is told of each of these jobs.
+/// Appends the notice of each of these jobs.
 fn add_notices<S: Spool, A: Allocator>(
     text: &mut String<A>,
     spool: &S,
@@ -109,8 +109,8 @@ fn add_notices<S: Spool, A: Allocator>(
     Ok(())
 }
 
-/// What an end with this spool tells of the jobs that it has given up: of each a comment that says why, and its line as a text
-/// of jobs has it.
+/// Returns the notices of the jobs that an end with this spool has given up. Each has a comment with the reason, and
+/// the job's line as a text of jobs has it.
 pub fn write_notices<S: Spool, A: Allocator>(
     alloc: A,
     spool: &S,

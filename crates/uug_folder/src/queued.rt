@@ -1,4 +1,5 @@
-//! What a person queues: the job of an order, the name of a copy in `send`, and what is appended to the text of the jobs.
+//! The parts of queueing: the job of an order, the name of a copy in `send`, and the line appended to the text of the
+//! jobs.
 ghost use Rattle.std.specs.Prelude.{◌≡◌, [], IfOk, None, Some, string_bytes};
 ghost use Rattle.uug_folder.specs.JobsText.{job_said, says_of};
 ghost use Rattle.uug_folder.specs.OpenJobs.{jobs_in, with_said};
@@ -12,13 +13,13 @@ use thiserror::Error;
 use uug_session::Job;
 use uug_talk::{Name, split_line};
 
-/// Why an order says no job.
+/// An error in an order.
 #[derive(Clone, Copy, Debug, PartialEq, Eq, Error)]
 pub enum OrderFault {
-    /// What is to be done is neither `send` nor `request`.
+    /// The word is neither `send` nor `request`.
     #[error("what is queued is send or request")]
     Word,
-    /// The file has no name that it could be queued under.
+    /// The file has no name under which it could be queued.
     #[error("the file has no name of 1 to 200 printing characters without a space or a dot in front")]
     File,
     /// The target is no name, or none is given and the file has none.
@@ -29,7 +30,7 @@ pub enum OrderFault {
     User,
 }
 
-/// What stands behind the last slash of a path.
+/// Returns the part of a path after the last slash.
 fn last_part(path: &[u8]) -> &[u8]
     ensures { result.now ≡ last_part path.now }
 {
@@ -40,7 +41,7 @@ fn last_part(path: &[u8]) -> &[u8]
     rest
 }
 
-/// The name, where it has no dot in front: a file with one is hidden, and not given.
+/// Returns the name if it has no dot in front: a file with one is hidden, and not given.
 fn visible(name: Name) -> Option<Name>
     ensures { result ≡ visible (Some name) }
 {
@@ -50,14 +51,14 @@ fn visible(name: Name) -> Option<Name>
     Some(name)
 }
 
-/// The name of a file at a path, if it has one that may be given.
+/// Returns the name of a file at a path, if it has one that may be given.
 fn base_name(path: &[u8]) -> Option<Name>
     ensures { result ≡ base_name path.now }
 {
     visible(Name::new(last_part(path)).ok()?)
 }
 
-/// The target of an order for the file at this path: the one that is given, else the name of the file.
+/// Returns the target of an order for the file at this path: the one that is given, or else the name of the file.
 fn target_of(target: Option<&[u8]>, path: &[u8]) -> Option<Name>
     ensures { result ≡ target_with (shown_text target.entry) path.now }
 {
@@ -67,7 +68,7 @@ fn target_of(target: Option<&[u8]>, path: &[u8]) -> Option<Name>
     }
 }
 
-/// The user of an order: the one that is given, else this one.
+/// Returns the user of an order: the one that is given, or else the default.
 fn user_of(user: Option<&[u8]>, default: Name) -> Option<Name>
     ensures { result ≡ user_with (shown_text user.entry) default }
 {
@@ -77,8 +78,9 @@ fn user_of(user: Option<&[u8]>, default: Name) -> Option<Name>
     }
 }
 
-/// The job that is ordered by this word. The source of one that sends is the name of the file at this path, under which it
-/// is not in `send` yet. Where none is given the target is the name of the file, and the user is the default one.
+/// Returns the job that this word orders. The source of one that sends is the name of the file at this path, under
+/// which it is not in `send` yet. If no target is given, it is the name of the file; if no user is given, it is the
+/// default one.
 pub fn ordered_job(
     word: &[u8],
     path: &[u8],
@@ -100,7 +102,7 @@ pub fn ordered_job(
     }
 }
 
-/// The job that sends a file, by what is known of its words.
+/// Returns the job that sends a file, or the error for the first word that is missing.
 fn send_job(
     source: Option<Name>,
     target: Option<Name>,
@@ -125,7 +127,7 @@ fn send_job(
     })
 }
 
-/// The job that asks for a file, by what is known of its words.
+/// Returns the job that requests a file, or the error for the first word that is missing.
 fn request_job(
     source: Option<Name>,
     target: Option<Name>,
@@ -149,7 +151,7 @@ fn request_job(
     })
 }
 
-/// The user of a job where none is given: the first of these texts that is a name, else `uucp`.
+/// Returns the user of a job if none is given: the first of these texts that is a name, or else `uucp`.
 pub fn default_user(user: Option<&[u8]>, login: Option<&[u8]>) -> Name
     ensures { result ≡ user_by (name_in (shown_text user.entry)) (name_in (shown_text login.entry)) }
 {
@@ -165,14 +167,15 @@ pub fn default_user(user: Option<&[u8]>, login: Option<&[u8]>) -> Name
     name
 }
 
-/// The name that a text is, if there is one and it is one.
+/// Returns the name that a text is, if there is one and it is a name.
 fn name_of(text: Option<&[u8]>) -> Option<Name>
     ensures { result ≡ name_in (shown_text text.entry) }
 {
     Name::new(text?).ok()
 }
 
-/// The name of a copy in `send`: the name itself, or where others have that already the name, a dot and this number.
+/// Returns a name for a copy in `send`: for 0 the name itself, and otherwise the name, a dot and this number. `None` if
+/// that is no name.
 pub fn nth_name<A: Allocator>(alloc: A, base: &Name, n: u32) -> Result<Option<Name>, AllocError>
     ensures { IfOk result (λ name. name ≡ nth_name base.now n) }
 {
@@ -184,7 +187,7 @@ pub fn nth_name<A: Allocator>(alloc: A, base: &Name, n: u32) -> Result<Option<Na
     Ok(Name::new(text.as_bytes()).ok())
 }
 
-/// The job with this source, where it sends a file.
+/// Returns the job with this source if it sends a file, and otherwise the job itself.
 pub fn with_source(job: &Job, name: Name) -> Job
     ensures { result ≡ with_source name job.now }
 {
@@ -199,7 +202,7 @@ pub fn with_source(job: &Job, name: Name) -> Job
     }
 }
 
-/// Whether a job is one of these.
+/// Returns whether a job is one of these.
 pub fn is_among(jobs: &[Job], job: &Job) -> bool
     ensures { result ≡ is_among job.now jobs.now }
 {
@@ -211,7 +214,7 @@ pub fn is_among(jobs: &[Job], job: &Job) -> bool
     false
 }
 
-/// Whether one of these jobs sends the file of this name.
+/// Returns whether one of these jobs sends the file of this name.
 pub fn is_given_by(jobs: &[Job], name: &Name) -> bool
     ensures { result ≡ is_given_by name.now jobs.now }
 {
@@ -223,7 +226,7 @@ pub fn is_given_by(jobs: &[Job], name: &Name) -> bool
     false
 }
 
-/// Whether a line of this text says a job that sends the file of this name.
+/// Returns whether a line of this text says a job that sends the file of this name.
 pub fn is_given_in(text: &[u8], name: &Name) -> bool
     ensures { result ≡ is_given_by name.now (jobs_in (lines text.now)) }
 {
@@ -237,7 +240,7 @@ pub fn is_given_in(text: &[u8], name: &Name) -> bool
     false
 }
 
-/// Whether a line says a job that sends the file of this name.
+/// Returns whether a line says a job that sends the file of this name.
 fn says_giving(line: &[u8], name: &Name) -> bool
     ensures { result ≡ is_given_by name.now (with_said (job_said (says_of line.now)) []) }
 {
@@ -247,7 +250,7 @@ fn says_giving(line: &[u8], name: &Name) -> bool
     }
 }
 
-/// Whether a job sends the file of this name.
+/// Returns whether a job sends the file of this name.
 fn gives(job: &Job, name: &Name) -> bool
     ensures { result ≡ gives name.now job.now }
 {
@@ -257,14 +260,14 @@ fn gives(job: &Job, name: &Name) -> bool
     }
 }
 
-/// Whether a text is empty, or its last line has its line feed.
+/// Returns whether a text is empty, or its last line has its line feed.
 fn is_whole(text: &[u8]) -> bool
     ensures { result ≡ is_whole text.now }
 {
     text.is_empty() || text.ends_with(b"\n")
 }
 
-/// What is appended to a text of jobs for one more. Where the last line lacks its line feed it gets one.
+/// Returns the text to append to a text of jobs for one more. If the last line has no line feed, it gets one.
 pub fn appended_job<A: Allocator>(alloc: A, text: &[u8], job: &Job) -> Result<String<A>, AllocError>
     ensures { IfOk result (λ added. string_bytes added ≡ appended text.now job.now) }
 {
@@ -276,7 +279,7 @@ pub fn appended_job<A: Allocator>(alloc: A, text: &[u8], job: &Job) -> Result<St
     Ok(added)
 }
 
-/// The line that says which job was queued.
+/// Returns the line that reports the queued job.
 pub fn queued_line<A: Allocator>(alloc: A, job: &Job) -> Result<String<A>, AllocError>
     ensures { IfOk result (λ line. string_bytes line ≡ queued_line job.now) }
 {
@@ -285,7 +288,7 @@ pub fn queued_line<A: Allocator>(alloc: A, job: &Job) -> Result<String<A>, Alloc
     Ok(line)
 }
 
-/// Whether one of these jobs sends a file, so that `send` is needed.
+/// Returns whether one of these jobs sends a file, and so `send` is needed.
 pub fn sends_any(jobs: &[Job]) -> bool
     ensures { result ≡ sends_any jobs.now }
 {

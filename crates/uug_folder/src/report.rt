@@ -1,4 +1,5 @@
-//! What `pair` prints of an end: where its session stands, how many jobs it has, and those that were given up.
+//! The lines that `pair` prints for an end: the phase of its session, the numbers of its jobs, and those that were
+//! given up.
 ghost use Rattle.std.specs.Prelude.{◌≡◌, ◌++◌, OnOk, OnErr, IfOk, string_bytes};
 ghost use Rattle.uug_folder.specs.EndReport.{state_line, failed_line, failed_lines};
 
@@ -6,8 +7,8 @@ use crate::jobs_text::add_job_line;
 use std::alloc::{AllocError, Allocator};
 use uug_session::{Job, Phase, Queue, Side, phase_word, side_word};
 
-/// Appends the line of an end: where its session stands, and how many of its jobs are pending, done and given up. Out
-/// of memory leaves the text as it was.
+/// Appends the line of an end: the phase of its session, and how many of its jobs are pending, done and given up. If
+/// memory runs out, the text stays as it was.
 pub fn add_state<A: Allocator, B: Allocator + Copy, C: Allocator>(
     alloc: B,
     text: &mut String<A>,
@@ -44,7 +45,7 @@ fn add_failed_line<A: Allocator>(
     add_job_line(text, job)
 }
 
-/// The lines of jobs that were given up.
+/// Returns the lines of jobs that were given up.
 fn failed_text<A: Allocator>(alloc: A, side: Side, jobs: &[Job]) -> Result<String<A>, AllocError>
     ensures { IfOk result (λ text. string_bytes text ≡ failed_lines side jobs.now) }
 {
@@ -68,7 +69,7 @@ fn add_failed_lines<A: Allocator>(
     Ok(())
 }
 
-/// Appends a line for each job that an end has given up, in order. Out of memory leaves the text as it was.
+/// Appends a line for each job that an end has given up, in order. If memory runs out, the text stays as it was.
 pub fn add_failed<A: Allocator, B: Allocator + Copy, C: Allocator>(
     alloc: B,
     text: &mut String<A>,

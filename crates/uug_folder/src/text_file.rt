@@ -8,13 +8,13 @@ use uug_stream::ToolFault;
 
 /// A file of an end whose text is replaced as a whole: that of its jobs, or that of its number.
 pub trait TextFile {
-    /// The text that is in it, where the file tells it.
+    /// The text in the file, if it reports it.
     ghost text: { Self → Option (List ℕ) };
 
-    /// How many faults its device had.
+    /// The number of faults of its device.
     ghost fault_count: { Self → ℕ };
 
-    /// The text that is in it now. A file that is not there has an empty one.
+    /// Returns the present text of the file. A missing file has an empty text.
     fn read<B: Allocator + Copy>(&mut self, alloc: B) -> Result<Vec<u8, B>, ToolFault>
         ensures same { text self.new ≡ text self.old }
         ensures told { IfOk result (λ found. holding found.items (text self.old) ≡ text self.old) }
@@ -22,8 +22,8 @@ pub trait TextFile {
         ensures fault { IfErr result (λ fault.
             IsReadFault fault (fault_count self.old) (fault_count self.new)) };
 
-    /// Puts this text in the place of the one that is in the file. After a fault the file is as before, or has this text,
-    /// which may be gone again with the power.
+    /// Replaces the text of the file. After a fault the file is as before, or has this text, which may be lost again
+    /// with the power.
     fn replace(&mut self, bytes: &[u8]) -> Result<(), FolderFailed>
         ensures ok { OnOk result (text self.new ≡ holding bytes.now (text self.old)) }
         ensures stands { OnOk result (fault_count self.new ≡ fault_count self.old) }
@@ -32,7 +32,7 @@ pub trait TextFile {
             (HasFailed u64.MAX (fault_count self.old) (fault_count self.new)) }
         ensures grows { fault_count self.old ≤ fault_count self.new };
 
-    /// How many faults the device had, up to the greatest number that fits.
+    /// Returns the number of faults of the device, up to the greatest number that fits.
     fn faults(&self) -> u64
         ensures { result ≡ fault_count self.now };
 }

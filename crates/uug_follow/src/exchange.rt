@@ -1,4 +1,4 @@
-//! The conversation of two ends, as somebody hears it who sees the messages of both.
+//! The conversation of two ends, as heard by somebody who sees the messages of both.
 ghost use Rattle.std.specs.Prelude.{◌≡◌, length};
 ghost use Rattle.uug_follow.specs.Losses.{bytes_with};
 
@@ -7,22 +7,22 @@ use crate::way::Way;
 use uug_digest::{FileDigest, told_by_answer, told_by_order};
 use uug_talk::{Answer, BadText, FILE_MAX, Order, is_held, read_answer, read_order, read_wished};
 
-/// The job that is on, and how far its file has come.
+/// The present job, and the progress of its file.
 #[derive(Clone, Copy)]
 pub(crate) struct Exchange {
     job: Option<Transfer>,
-    /// What was told of its file.
+    /// The digest announced for its file.
     told: Option<FileDigest>,
-    /// Which way a file goes now.
+    /// The direction in which a file goes now.
     file: Option<Way>,
-    /// So many bytes of the job's file have passed, up to the greatest number that fits.
+    /// The number of bytes of the job's file that have passed, up to the greatest number that fits.
     bytes: u64,
-    /// Whether the end takes its job as done where the other end has the file already.
+    /// True if the end takes its job as done when the other end has the file already.
     is_lenient: bool,
 }
 
 impl Exchange {
-    /// Nothing was said yet.
+    /// Makes an exchange in which nothing was said yet.
     pub(crate) fn new(is_lenient: bool) -> Self {
         Exchange {
             job: None,
@@ -33,17 +33,17 @@ impl Exchange {
         }
     }
 
-    /// The job that is on, and how many bytes of its file have passed.
+    /// Returns the present job, and the number of bytes of its file that have passed.
     pub(crate) fn job(&self) -> Option<(Transfer, u64)> {
         Some((self.job?, self.bytes))
     }
 
-    /// Whether a file goes this way now, so that the next message is a part of it.
+    /// Returns whether a file goes this way now: the next message is a part of it.
     pub(crate) fn is_file(&self, way: Way) -> bool {
         self.file == Some(way)
     }
 
-    /// A message of a file has passed. An empty one ends it.
+    /// Takes a message of a file that has passed. An empty one ends the file.
     pub(crate) fn take_part(&mut self, message: &[u8])
         ensures { self.new.bytes ≡ bytes_with self.old.bytes (length message.now) }
     {
@@ -53,7 +53,7 @@ impl Exchange {
         }
     }
 
-    /// A whole text has passed this way.
+    /// Takes a complete text that has passed this way.
     pub(crate) fn take_text(&mut self, way: Way, text: &[u8]) -> Option<News> {
         match read_order(text) {
             Ok(order) => self.begin(way, &order, told_by_order(text)),
@@ -75,7 +75,7 @@ impl Exchange {
         }
     }
 
-    /// One of the ends has said this, and told this of the file.
+    /// Begins the job of an order of one of the ends, with the digest that it announced for the file.
     fn begin(&mut self, way: Way, order: &Order, told: Option<FileDigest>) -> Option<News> {
         self.job = Transfer::of(way, order);
         self.told = told;
@@ -84,8 +84,8 @@ impl Exchange {
         Some(News::Begins(job))
     }
 
-    /// Takes an answer of one of the ends, which may hold the file already. CN4 says that a file came that differs from its digest, where
-    /// one was told.
+    /// Takes an answer of one of the ends, which may hold the file already. CN4 reports a received file that differs
+    /// from its digest, if one was announced.
     fn take_answer(&mut self, answer: Answer, held: bool) -> Option<News> {
         match answer {
             Answer::SendYes | Answer::GiveYes(_) => {
@@ -102,7 +102,7 @@ impl Exchange {
         }
     }
 
-    /// Whether more was told of the file than an end takes.
+    /// Returns whether the announced size of the file is more than an end takes.
     fn is_too_large(&self) -> bool {
         match &self.told {
             Some(told) => FILE_MAX < told.size as usize,
@@ -110,7 +110,7 @@ impl Exchange {
         }
     }
 
-    /// The job that is on has ended.
+    /// Ends the present job.
     fn end(&mut self, outcome: Outcome) -> Option<News> {
         let job = self.job.take()?;
         Some(News::Ends(job, outcome, self.bytes))

@@ -1,4 +1,4 @@
-//! The lines that say what became of a job, how far its file has come, and what was lost.
+//! The lines that report a job, the progress of its file, and losses.
 ghost use Rattle.std.specs.Prelude.{◌≡◌, IfOk, string_bytes};
 ghost use Rattle.uug_follow.specs.Lines.{begin_line, counts_line, end_line, job_words, lost_words};
 ghost use Rattle.uug_follow.specs.Lines.{news_line, outcome_word, outcome_words, progress_line, whose, wish_word};
@@ -8,7 +8,7 @@ use crate::transfer::{News, Outcome, Transfer, Wish};
 use crate::way::Way;
 use std::alloc::{AllocError, Allocator};
 
-/// The line of a job that begins or ends in this second of the session. An end's job has taken so many seconds.
+/// Returns the line of a job that begins or ends in this second of the session. One that ends has taken `took` seconds.
 pub fn news_line<A: Allocator + Copy>(
     alloc: A,
     seconds: u64,
@@ -23,7 +23,7 @@ pub fn news_line<A: Allocator + Copy>(
     }
 }
 
-/// Whose job it is, and the file that it is of.
+/// Returns whose job it is, and its file.
 fn job_words<A: Allocator + Copy>(
     alloc: A,
     seconds: u64,
@@ -50,7 +50,7 @@ fn begin_line<A: Allocator + Copy>(
     Ok(line)
 }
 
-/// How a job ended, with how many bytes and after how many seconds.
+/// Returns the outcome of a job, with its bytes and its seconds.
 fn outcome_words<A: Allocator + Copy>(
     alloc: A,
     took: u64,
@@ -82,7 +82,7 @@ fn end_line<A: Allocator + Copy>(
     Ok(line)
 }
 
-/// How far the file of a job has come in this second of the session: a line with no end.
+/// Returns the progress of a job's file in this second of the session: a line without a line feed.
 pub fn progress_line<A: Allocator + Copy>(
     alloc: A,
     seconds: u64,
@@ -105,7 +105,7 @@ fn lost_words<A: Allocator + Copy>(alloc: A, counts: Counts) -> Result<String<A>
     Ok(words)
 }
 
-/// The line of all that went one way: what this end did with them, how many bytes, and what was lost.
+/// Returns the line of all that went one way: the verb for what this end did, the number of bytes, and the losses.
 pub fn counts_line<A: Allocator + Copy>(
     alloc: A,
     verb: &str,

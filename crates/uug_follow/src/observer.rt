@@ -1,5 +1,5 @@
-//! Somebody who sees the bytes of both ends, and tells of their jobs and losses. What is told of comes from the bytes
-//! alone: the ends neither know of it nor wait for it.
+//! An observer of the bytes of both ends, which reports their jobs and losses. Its reports come from the bytes alone:
+//! the ends neither know of it nor wait for it.
 ghost use Rattle.std.specs.Prelude.{◌≡◌, ◌<◌, ◌++◌, length, IfOk};
 ghost use Rattle.uug_packet.specs.Waits.{Waits};
 ghost use Rattle.uug_reader.specs.Cut.{Item};
@@ -17,9 +17,9 @@ use std::marker::Model;
 use uug_reader::Reader;
 use uug_talk::{Gather, Progress};
 
-/// Takes down what an observer tells.
+/// A journal of the reports of an observer.
 pub trait Journal {
-    /// A job has begun, or ended.
+    /// Notes that a job has begun, or ended.
     fn note(&mut self, news: &News);
 }
 
@@ -45,7 +45,7 @@ impl<A: Allocator> Stream<A> {
     }
 }
 
-/// Follows a session by the bytes that go both ways. A clause sees what has passed each way.
+/// An observer of a session, by the bytes that go both ways. Clauses see what has passed each way.
 #[derive(Drop)]
 pub struct Observer<A: Allocator> {
     outward: Stream<A>,
@@ -65,8 +65,8 @@ impl<A: Allocator> Model for Observer<A> {
 }
 
 impl<A: Allocator + Copy> Observer<A> {
-    /// One who has seen nothing of the session of an end that is lenient or not. No other call takes memory, but for a
-    /// text of a command that is longer than one packet.
+    /// Makes an observer that has seen nothing of the session, of an end that is lenient or not. No other call takes
+    /// memory, except for a text of a command that is longer than one packet.
     pub fn new(alloc: A, is_lenient: bool) -> Result<Self, AllocError>
         ensures outward { IfOk result (λ observer. observer.outward ≡ nothing_yet) }
         ensures inward { IfOk result (λ observer. observer.inward ≡ nothing_yet) }
@@ -78,7 +78,7 @@ impl<A: Allocator + Copy> Observer<A> {
         })
     }
 
-    /// These bytes go this way, after those before.
+    /// Takes the bytes that go this way, after those before.
     pub fn see<J: Journal>(&mut self, way: Way, piece: &[u8], journal: &mut J)
         ensures { Sees way piece.now self.old self.new }
     {
@@ -88,7 +88,7 @@ impl<A: Allocator + Copy> Observer<A> {
         }
     }
 
-    /// What has gone this way.
+    /// Returns the counts of what has gone this way.
     pub fn counts(&self, way: Way) -> Counts
         ensures { result ≡ (passing way self.now).passed.counts }
     {
@@ -98,13 +98,13 @@ impl<A: Allocator + Copy> Observer<A> {
         }
     }
 
-    /// The job that is on, and how many bytes of its file have passed.
+    /// Returns the present job, and the number of bytes of its file that have passed.
     pub fn job(&self) -> Option<(Transfer, u64)> {
         self.exchange.job()
     }
 }
 
-/// A piece goes one way.
+/// Takes a piece that goes one way.
 fn see_piece<A: Allocator, J: Journal>(
     stream: &mut Stream<A>,
     exchange: &mut Exchange,
@@ -125,7 +125,7 @@ fn see_piece<A: Allocator, J: Journal>(
     }
 }
 
-/// Takes up all that is found in the bytes that are held.
+/// Takes up all that is found in the held bytes.
 fn take_found<A: Allocator, J: Journal>(
     stream: &mut Stream<A>,
     exchange: &mut Exchange,
@@ -161,7 +161,7 @@ fn take_shown<A: Allocator>(
     take_message(&mut stream.text, exchange, way, message)
 }
 
-/// A message of a file, of a command or of an answer goes one way.
+/// Takes a message of a file, of a command or of an answer that goes one way.
 fn take_message<A: Allocator>(
     text: &mut Gather<A>,
     exchange: &mut Exchange,

@@ -1,4 +1,4 @@
-//! What the packets that go one way tell of losses.
+//! The losses that the packets of one direction show.
 ghost use Rattle.std.specs.Prelude.{◌≡◌, None, Some, MatchOption};
 ghost use Rattle.uug_reader.specs.Shown.{item_of};
 ghost use Rattle.uug_follow.specs.Losses.{next_message, passed_after};
@@ -7,18 +7,18 @@ ghost use Rattle.uug_follow.specs.Watched.{nothing_yet};
 use uug_packet::{Control, Packet};
 use uug_reader::Found;
 
-/// How many packets of a kind went one way, up to the greatest numbers that fit.
+/// The numbers of packets of a kind that went one way, up to the greatest numbers that fit.
 #[derive(Clone, Copy, Debug, PartialEq, Eq)]
 pub struct Counts {
     /// Rejects, selective ones too.
     pub rejects: u64,
-    /// Data packets that were not the next one: they go once more, or one in front of them was lost.
+    /// Data packets that were not the next one: they are sent once more, or one in front of them was lost.
     pub repeats: u64,
     /// Data packets with a wrong checksum or field.
     pub damaged: u64,
 }
 
-/// What has passed one way.
+/// The state of one direction.
 #[derive(Clone, Copy, Debug, PartialEq, Eq)]
 pub struct Passed {
     /// The number of the data packet that is the next one.
@@ -27,7 +27,7 @@ pub struct Passed {
 }
 
 impl Passed {
-    /// Nothing yet. The first data packet has the number 1.
+    /// Begins with nothing. The first data packet has the number 1.
     pub(crate) fn new() -> Self
         ensures { result ≡ nothing_yet.passed }
     {
@@ -41,7 +41,7 @@ impl Passed {
         }
     }
 
-    /// This has passed. The message of the next data packet is given.
+    /// Takes what has passed. Returns the message of the next data packet.
     pub(crate) fn take<'a>(&mut self, found: Found<'a>) -> Option<&'a [u8]>
         ensures passed { self.new ≡ passed_after self.old (item_of found.entry) }
         ensures message { MatchOption result

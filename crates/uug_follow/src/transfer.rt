@@ -1,7 +1,7 @@
 use crate::way::Way;
 use uug_talk::{Name, Order};
 
-/// What a job asks for.
+/// The kind of a job.
 #[derive(Clone, Copy, Debug, PartialEq, Eq)]
 pub enum Wish {
     Send,
@@ -11,7 +11,7 @@ pub enum Wish {
 /// A job of one of the two ends, as its command says.
 #[derive(Clone, Copy, Debug, PartialEq, Eq)]
 pub struct Transfer {
-    /// Which way its command went: out, where it is a job of this end.
+    /// The direction of its command: out for a job of this end.
     pub way: Way,
     pub wish: Wish,
     pub source: Name,
@@ -19,7 +19,7 @@ pub struct Transfer {
 }
 
 impl Transfer {
-    /// The job of a command that went this way. `H` is none.
+    /// Returns the job of a command that went this way, or `None` for `H`.
     pub(crate) fn of(way: Way, order: &Order) -> Option<Self> {
         let (wish, source, target) = match order {
             Order::Send { source, target, .. } => (Wish::Send, *source, *target),
@@ -34,7 +34,7 @@ impl Transfer {
         })
     }
 
-    /// Which way its file goes.
+    /// Returns the direction of its file.
     pub(crate) fn file_way(&self) -> Way {
         match self.wish {
             Wish::Send => self.way,
@@ -43,25 +43,25 @@ impl Transfer {
     }
 }
 
-/// How a job ended in this session.
+/// The outcome of a job in this session.
 #[derive(Clone, Copy, Debug, PartialEq, Eq)]
 pub enum Outcome {
     /// The file is in its place.
     Done,
     /// It will never be sent, given, or put in its place.
     Never,
-    /// It was told that its file has more bytes than an end takes, and is refused for good.
+    /// The announced size of its file is more than an end takes; it is refused for good.
     TooLarge,
     /// It may be later.
     Later,
-    /// What came is not the file that was told of: it may be later, and nothing of it was kept.
+    /// The received file is not the one that was announced: the job may be later, and nothing of the file was kept.
     Differs,
 }
 
-/// What became of a job.
+/// The beginning or the end of a job.
 #[derive(Clone, Copy, Debug, PartialEq, Eq)]
 pub enum News {
     Begins(Transfer),
-    /// So many bytes of its file have passed.
+    /// The outcome, and the number of bytes of its file that have passed.
     Ends(Transfer, Outcome, u64),
 }

@@ -1,14 +1,14 @@
-/// Which way bytes go over a line, as seen from one of its ends.
+/// The direction of bytes over a line, as seen from one of its ends.
 #[derive(Clone, Copy, Debug, PartialEq, Eq)]
 pub enum Way {
-    /// From this end to the other.
+    /// The bytes go from this end to the other.
     Out,
-    /// From the other end to this one.
+    /// The bytes go from the other end to this one.
     In,
 }
 
 impl Way {
-    /// The other way.
+    /// Returns the other direction.
     #[must_use]
     pub fn back(self) -> Self {
         match self {

@@ -1,4 +1,4 @@
-//! What an end does, drawn.
+//! Draws what an end does.
 ghost use Rattle.std.specs.Prelude.{◌≡◌, ◌==◌, drop, OnOk, Some};
 ghost use Rattle.uug_line.specs.Shown.{lists_in};
 ghost use Rattle.uug_ladder.specs.Acts.{acts, added_if, comes_to, emits, end_kept, is_hailing, is_other, new_on, notes, puts, says_texts, sends_packet, sends_packets, text_by, text_byte, without};
@@ -13,7 +13,7 @@ use std::alloc::{AllocError, Allocator};
 use uug_line::Side;
 use uug_session::{Phase, phase_word};
 
-/// An end sends something, which these are the bytes of.
+/// Draws something that an end sends, with these bytes.
 fn put<A: Allocator>(
     ladder: &mut Ladder<A>,
     end: &mut DrawnEnd<A>,
@@ -31,7 +31,7 @@ fn put<A: Allocator>(
     add_bytes(&mut end.way, place, bytes)
 }
 
-/// A text is said once it is whole.
+/// Draws a text once it is complete.
 fn say_if<A: Allocator + Copy>(
     alloc: A,
     ladder: &mut Ladder<A>,
@@ -57,7 +57,7 @@ fn say_if<A: Allocator + Copy>(
     Ok(())
 }
 
-/// A byte more of a text is said, which a zero byte ends.
+/// Draws one more byte of a text, which a zero byte ends.
 fn say_byte<A: Allocator + Copy>(
     alloc: A,
     ladder: &mut Ladder<A>,
@@ -80,7 +80,7 @@ fn say_byte<A: Allocator + Copy>(
     say_if(alloc, ladder, end, event, side, text, byte == 0)
 }
 
-/// An end says the texts that these bytes are.
+/// Draws the texts that an end sends as these bytes.
 pub(crate) fn say<A: Allocator + Copy>(
     alloc: A,
     ladder: &mut Ladder<A>,
@@ -100,7 +100,7 @@ pub(crate) fn say<A: Allocator + Copy>(
     Ok(())
 }
 
-/// An end sends a packet.
+/// Draws a packet that an end sends.
 fn send<A: Allocator + Copy>(
     alloc: A,
     ladder: &mut Ladder<A>,
@@ -122,7 +122,7 @@ fn send<A: Allocator + Copy>(
     Ok(())
 }
 
-/// An end sends these packets.
+/// Draws the packets that an end sends.
 fn send_all<A: Allocator + Copy>(
     alloc: A,
     ladder: &mut Ladder<A>,
@@ -141,7 +141,7 @@ fn send_all<A: Allocator + Copy>(
     Ok(())
 }
 
-/// The bytes without so many at their end as the packets have.
+/// Returns the bytes without the last ones, as many as the packets have.
 fn without<'a, A: Allocator>(packets: &[Vec<u8, A>], bytes: &'a [u8]) -> &'a [u8]
     ensures { result.now ≡ without (lists_in packets.now) bytes.now }
 {
@@ -152,7 +152,7 @@ fn without<'a, A: Allocator>(packets: &[Vec<u8, A>], bytes: &'a [u8]) -> &'a [u8
     rest
 }
 
-/// The bytes on the line that are not on the way yet.
+/// Returns the bytes on the line after those that are on the way already.
 fn new_on<'a, A: Allocator>(line: &'a [u8], end: &DrawnEnd<A>) -> &'a [u8]
     ensures { result.now ≡ new_on line.now end.now.way.items }
 {
@@ -165,7 +165,7 @@ fn is_hailing(phase: Phase) -> bool
     matches!(phase, Phase::Hail)
 }
 
-/// What an end sends at an event: in its greeting texts before packets, and else behind them.
+/// Draws what an end sends at an event: in its greeting texts before packets, and otherwise after them.
 fn emit<A: Allocator + Copy>(
     alloc: A,
     ladder: &mut Ladder<A>,
@@ -204,7 +204,7 @@ fn add_if<A: Allocator>(
     Ok(())
 }
 
-/// What an end has taken and stored, and which jobs of it are done and given up.
+/// Draws the counts of an end that have grown: messages taken, files stored, jobs done and jobs given up.
 fn note<A: Allocator>(
     ladder: &mut Ladder<A>,
     at: (usize, Side),
@@ -228,7 +228,7 @@ fn is_other(before: Phase, after: Phase) -> bool
     phase_word(before) != phase_word(after)
 }
 
-/// The session of an end comes from the one phase to the other.
+/// Draws the phase that the session of an end reaches, if it is another one.
 pub(crate) fn come<A: Allocator>(
     ladder: &mut Ladder<A>,
     at: (usize, Side),
@@ -241,14 +241,15 @@ pub(crate) fn come<A: Allocator>(
     add_if(ladder, is_other(before, after), at, What::Comes(after))
 }
 
-/// The packets behind the first ones, so many or all.
+/// Returns the packets after the first `count` ones, or none if there are fewer.
 fn behind<A: Allocator>(packets: &[Vec<u8, A>], count: usize) -> &[Vec<u8, A>]
     ensures { lists_in result.now ≡ drop count (lists_in packets.now) }
 {
     &packets[count.min(packets.len())..]
 }
 
-/// All that an end does at an event. These are the packets that it has sent in the session, and what is on the line from it.
+/// Draws all that an end does at an event. `packets` are those that it has sent in the session, and `line` is what is
+/// on the line from it.
 pub(crate) fn act<A: Allocator + Copy>(
     alloc: A,
     ladder: &mut Ladder<A>,

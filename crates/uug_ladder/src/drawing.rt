@@ -1,4 +1,4 @@
-//! A ladder that is being drawn.
+//! A ladder in progress.
 ghost use Rattle.std.specs.Prelude.{◌≡◌, ◌-◌, ◌==◌, map, slice_get, IfOk, MatchOption, None, OnOk, Some};
 ghost use Rattle.uug_line.specs.Shown.{session_shown};
 ghost use Rattle.uug_conversation.specs.Sides.{at as at_side};
@@ -17,7 +17,7 @@ use crate::way::{drop_next, flip_next, insert_next, pass_next};
 use std::alloc::{AllocError, Allocator};
 use uug_line::{Event, Report, SessionReport, Side};
 
-/// A ladder that is being drawn.
+/// A ladder in progress.
 #[derive(Drop)]
 pub(crate) struct Drawing<A: Allocator> {
     pub(crate) ladder: Ladder<A>,
@@ -25,7 +25,7 @@ pub(crate) struct Drawing<A: Allocator> {
     pub(crate) called: DrawnEnd<A>,
 }
 
-/// The session at this place, counted from 0.
+/// Returns the session at this place, counted from 0.
 fn session_at<A: Allocator>(
     sessions: &[SessionReport<A>],
     place: usize,
@@ -38,7 +38,7 @@ fn session_at<A: Allocator>(
     sessions.get(place)
 }
 
-/// The session before has ended.
+/// Draws the end of the session before.
 fn end_session<A: Allocator>(
     ladder: &mut Ladder<A>,
     event: usize,
@@ -59,7 +59,7 @@ fn end_session<A: Allocator>(
 }
 
 impl<A: Allocator + Copy> Drawing<A> {
-    /// The first session begins, of which this is told.
+    /// Draws the beginning of the first session, of which this is the report.
     pub(crate) fn first(alloc: A, report: &Report<A>) -> Result<Self, AllocError>
         ensures { IfOk result (λ drawing.
             drawing_shown drawing ≡ first_drawing (front_shown report.now)) }
@@ -73,7 +73,7 @@ impl<A: Allocator + Copy> Drawing<A> {
         Ok(drawing)
     }
 
-    /// A session begins, the one with this number.
+    /// Draws the beginning of the session of this number.
     fn begin(
         &mut self,
         alloc: A,
@@ -92,7 +92,7 @@ impl<A: Allocator + Copy> Drawing<A> {
         say(alloc, ladder, &mut self.called, event, Side::Called, name)
     }
 
-    /// What an event does on the line, or to an end.
+    /// Draws what an event does on the line, or to an end.
     fn happen(&mut self, event: Event, number: usize) -> Result<(), AllocError>
         ensures { OnOk result
             (drawing_shown self.new ≡ happens event number (drawing_shown self.old)) }
@@ -157,7 +157,7 @@ impl<A: Allocator + Copy> Drawing<A> {
         }
     }
 
-    /// What an end has done in the last session.
+    /// Draws what an end has done in the last session.
     fn act_at(
         &mut self,
         alloc: A,
@@ -186,7 +186,7 @@ impl<A: Allocator + Copy> Drawing<A> {
         }
     }
 
-    /// What both ends have done in the last session.
+    /// Draws what both ends have done in the last session.
     fn act_last(
         &mut self,
         alloc: A,
@@ -207,7 +207,7 @@ impl<A: Allocator + Copy> Drawing<A> {
         self.act_at(alloc, (number, Side::Called), marks, told, line)
     }
 
-    /// The next session begins.
+    /// Draws the end of a session and the beginning of the next one.
     fn call_again(
         &mut self,
         alloc: A,
@@ -223,7 +223,7 @@ impl<A: Allocator + Copy> Drawing<A> {
         self.begin(alloc, Some(number), marks.1.session, report)
     }
 
-    /// What both ends do behind an event, by whether the session is the same.
+    /// Draws what both ends do after an event, by whether the session is the same.
     fn go_on(
         &mut self,
         alloc: A,
@@ -242,7 +242,7 @@ impl<A: Allocator + Copy> Drawing<A> {
         self.act_last(alloc, number, marks, report)
     }
 
-    /// An event, by what both ends had done before it, and by what is told of the run behind it.
+    /// Draws an event, by what both ends had done before it, and by the report of the run after it.
     pub(crate) fn step(
         &mut self,
         alloc: A,

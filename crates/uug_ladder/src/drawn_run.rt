@@ -1,4 +1,4 @@
-//! The ladder of what a script says, drawn as its run goes on.
+//! The ladder of a script, drawn as its run goes on.
 ghost use Rattle.std.specs.Prelude.{◌≡◌, [], IfErr, IfOk, IfSome, IsSomeAnd, Ok, OnSome, false};
 ghost use Rattle.uug_line.specs.OfSomeRun.{IsRunOf};
 ghost use Rattle.uug_line.specs.Setup.{setup_of};
@@ -21,16 +21,16 @@ use std::alloc::Allocator;
 use uug_line::{Event, LineVerdict, Report, Setup, Simulator};
 use uug_script::{Script, ScriptFault, read_script};
 
-/// What a script says, run and drawn.
+/// The ladder and the report of a script that was run.
 #[derive(Drop)]
 pub(crate) struct DrawnRun<A: Allocator + Copy> {
-    /// What occurred in its sessions.
+    /// The ladder of its sessions.
     pub(crate) ladder: Ladder<A>,
-    /// What is told of it.
+    /// The report of the run.
     pub(crate) report: Report<A>,
 }
 
-/// The script.
+/// Reads the script.
 fn read<A: Allocator + Copy>(alloc: A, text: &[u8]) -> Result<Script<A>, LadderFault>
     ensures script { IfOk result (λ script. IsScript text.now (script_said script)) }
     ensures exact { IfOk result (λ script. script_of text.now ≡ Ok (script_said script)) }
@@ -43,7 +43,7 @@ fn read<A: Allocator + Copy>(alloc: A, text: &[u8]) -> Result<Script<A>, LadderF
     }
 }
 
-/// Whether an end was fooled.
+/// Returns whether an end was fooled.
 fn is_fooled(verdict: LineVerdict) -> bool
     ensures { result ≡ is_fooled verdict }
 {
@@ -53,7 +53,7 @@ fn is_fooled(verdict: LineVerdict) -> bool
     }
 }
 
-/// The ladder of what a script says. Out of memory is answered by `Memory`.
+/// Returns the ladder of a script, or `Memory` if memory runs out.
 pub fn draw<A: Allocator + Copy>(alloc: A, text: &[u8]) -> Result<Ladder<A>, LadderFault>
     ensures ladder { IfOk result (λ ladder. IsLadderOf text.now (ladder_shown ladder)) }
     // So nothing in it arrives, or is lost, before it was sent.
@@ -65,7 +65,7 @@ pub fn draw<A: Allocator + Copy>(alloc: A, text: &[u8]) -> Result<Ladder<A>, Lad
     Ok(ladder)
 }
 
-/// The same, and the report of the run.
+/// Returns the ladder of a script, and the report of the run.
 pub(crate) fn draw_run<A: Allocator + Copy>(
     alloc: A,
     text: &[u8],
@@ -81,14 +81,14 @@ pub(crate) fn draw_run<A: Allocator + Copy>(
     Ok(drawn)
 }
 
-/// What both ends have done by now.
+/// Returns what both ends have done by now.
 fn moment_now<A: Allocator + Copy>(run: &Simulator<A>) -> Option<Moment>
     ensures { result ≡ moment_now (report_kept run.now) }
 {
     moment_of(run.report()?)
 }
 
-/// What is drawn before the first event. None is out of memory.
+/// Draws the ladder before the first event. `None` if memory runs out.
 fn first_drawing<A: Allocator + Copy>(alloc: A, run: &Simulator<A>) -> Option<Drawing<A>>
     ensures { IfSome result (λ drawing. IsSomeAnd (report_kept run.now) (λ report.
         drawing_shown drawing ≡ first_drawing (front_shown report))) }
@@ -104,12 +104,12 @@ fn first_drawing<A: Allocator + Copy>(alloc: A, run: &Simulator<A>) -> Option<Dr
 struct Progress<A: Allocator + Copy> {
     run: Simulator<A>,
     drawing: Drawing<A>,
-    /// Whether an end was fooled: nothing more is drawn then.
+    /// True once an end was fooled: nothing more is drawn then.
     stopped: bool,
 }
 
 impl<A: Allocator + Copy> Progress<A> {
-    /// Before the first event. None is out of memory.
+    /// Begins a run, before the first event. `None` if memory runs out.
     fn new(alloc: A, setup: Setup<A>) -> Option<Self>
         ensures run { IfSome result (λ progress.
             IsSomeAnd progress.run (IsBehind (setup_of setup) [])) }
@@ -131,7 +131,7 @@ impl<A: Allocator + Copy> Progress<A> {
         })
     }
 
-    /// The event of this number, which has happened, is drawn unless an end was fooled before. None is out of memory.
+    /// Draws the event of this number, which has happened, unless an end was fooled before. `None` if memory runs out.
     fn draw(&mut self, alloc: A, number: usize, event: Event, before: Option<Moment>) -> Option<()>
         ensures run { self.new.run ≡ self.old.run }
         ensures drawn { OnSome result (IsSomeAnd (report_kept self.old.run) (λ report.
@@ -151,7 +151,7 @@ impl<A: Allocator + Copy> Progress<A> {
         Some(())
     }
 
-    /// The event of this number happens, and is drawn. None is out of memory.
+    /// Runs the event of this number, and draws it. `None` if memory runs out.
     fn advance(&mut self, alloc: A, number: usize, event: Event) -> Option<()>
         ensures run { OnSome result (Steps event self.old.run self.new.run) }
         ensures drawn { OnSome result (IsSomeAnd (report_kept self.new.run) (λ report.
@@ -168,7 +168,8 @@ impl<A: Allocator + Copy> Progress<A> {
     }
 }
 
-/// The ladder of these events between two ends that are set up so, and the report. None is out of memory.
+/// Returns the ladder of these events between two ends that are set up as given, and the report. `None` if memory runs
+/// out.
 fn draw_events<A: Allocator + Copy>(
     alloc: A,
     setup: Setup<A>,

@@ -7,17 +7,17 @@ use crate::way::WayByte;
 use std::alloc::Allocator;
 use uug_packet::{Packet, decode};
 
-/// What is kept of an end.
+/// The state of an end while its ladder is drawn.
 #[derive(Drop)]
 pub(crate) struct DrawnEnd<A: Allocator> {
     /// The number of the next data packet that it sends for the first time.
     pub(crate) next: u8,
-    /// What is on its way from it.
+    /// The bytes on their way from it.
     pub(crate) way: Vec<WayByte, A>,
 }
 
 impl<A: Allocator + Copy> DrawnEnd<A> {
-    /// A session begins.
+    /// Begins a session.
     pub(crate) fn new(alloc: A) -> Self
         ensures { end_kept result ≡ end_begins }
     {
@@ -28,7 +28,7 @@ impl<A: Allocator + Copy> DrawnEnd<A> {
     }
 }
 
-/// Whether an end that sends this packet did so before, where this is the number of its next new one.
+/// Returns whether an end has sent this packet before. `next` is the number of its next new data packet.
 pub(crate) fn is_repeat(next: u8, packet: &[u8]) -> bool
     ensures { result ≡ is_repeat next (decoded packet.now) }
 {
@@ -38,7 +38,7 @@ pub(crate) fn is_repeat(next: u8, packet: &[u8]) -> bool
     }
 }
 
-/// The number of its next new one behind it.
+/// Returns the number of the next new data packet after this packet.
 pub(crate) fn next_behind(next: u8, packet: &[u8]) -> u8
     ensures { result ≡ next_behind next (decoded packet.now) }
 {

@@ -4,13 +4,13 @@ ghost use Rattle.uug_ladder.specs.declared.fault.LadderFault.TheVariants.{Memory
 use std::alloc::AllocError;
 use thiserror::Error;
 
-/// Why no ladder is drawn.
+/// An error of drawing a ladder.
 #[derive(Clone, Copy, Debug, PartialEq, Eq, Error)]
 pub enum LadderFault {
     /// The first bad line of the script, counted from 1.
     #[error("bad script at line {0}")]
     Script(usize),
-    /// There is no memory for it.
+    /// Memory ran out.
     #[error("out of memory")]
     Memory,
 }

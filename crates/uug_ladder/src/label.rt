@@ -1,4 +1,4 @@
-//! What occurs at an end, in words.
+//! The label of a rung, in words.
 ghost use Rattle.std.specs.Prelude.{◌≡◌, ◌++◌, OnOk, IfOk, string_bytes};
 ghost use Rattle.uug_packet.specs.Decoded.{decoded};
 ghost use Rattle.uug_ladder.specs.Labels.{again_word, data_words, escaped, inside, is_markup, is_plain, label, packet_words};
@@ -49,7 +49,7 @@ fn is_markup(byte: u8) -> bool
     byte == b'\\' || byte == b'<' || byte == b'>' || byte == b'&'
 }
 
-/// Whether a byte of a text is written as it is, in a picture too.
+/// Returns whether a byte of a text is written as it is, in a picture too.
 fn is_plain(byte: u8) -> bool
     ensures { result ≡ is_plain byte }
 {
@@ -66,7 +66,7 @@ fn add_escaped<A: Allocator>(text: &mut String<A>, bytes: &[u8]) -> Result<(), A
     Ok(())
 }
 
-/// A text without its frame.
+/// Returns a text without its frame.
 fn inside(written: &[u8]) -> &[u8]
     ensures { result.now ≡ inside written.now }
 {
@@ -88,7 +88,7 @@ fn again_word(again: bool) -> &'static str
     if again { " again" } else { "" }
 }
 
-/// Appends what occurs, in words.
+/// Appends the label of a rung.
 pub fn add_label<A: Allocator, B: Allocator>(
     text: &mut String<A>,
     what: &What<B>,
@@ -116,7 +116,7 @@ pub fn add_label<A: Allocator, B: Allocator>(
     }
 }
 
-/// What occurs, in words.
+/// Returns the label of a rung.
 pub(crate) fn label_of<A: Allocator + Copy, B: Allocator>(
     alloc: A,
     what: &What<B>,

@@ -5,17 +5,17 @@ use crate::rung::{Fate, Rung, What};
 use std::alloc::{AllocError, Allocator};
 use uug_line::Side;
 
-/// What occurs in the sessions of a script.
+/// The events in the sessions of a script, at both ends.
 #[derive(Drop)]
 pub struct Ladder<A: Allocator> {
-    /// In order.
+    /// The rungs, in order.
     pub rungs: Vec<Rung<A>, A>,
-    /// For each of them what becomes of what it sends.
+    /// The fate of what each of them sends.
     pub fates: Vec<Fate, A>,
 }
 
 impl<A: Allocator + Copy> Ladder<A> {
-    /// Nothing has occurred.
+    /// Makes an empty ladder.
     pub(crate) fn new(alloc: A) -> Self
         ensures { ladder_shown result ≡ no_rungs }
     {
@@ -27,7 +27,7 @@ impl<A: Allocator + Copy> Ladder<A> {
 }
 
 impl<A: Allocator> Ladder<A> {
-    /// This occurs next.
+    /// Adds a rung after the others.
     pub(crate) fn add(
         &mut self,
         event: Option<usize>,

@@ -1,5 +1,5 @@
-//! A picture of the sessions of a script that is played: what each end sends and when, whether and when it arrives, and what
-//! else occurs at the ends; as a text, or as an SVG file.
+//! A picture of the sessions of a script that is played, as a text or as an SVG file. It shows the bytes that each end
+//! sends and when, whether and when they arrive, and what else occurs at the ends.
 #![tactic(auto)]
 
 mod acts;

@@ -6,24 +6,24 @@ use std::alloc::Allocator;
 use uug_line::{EndReport, Report, SessionReport, Side};
 use uug_session::{MemorySpool, Node, Phase};
 
-/// What an end has done in the present session, and what has become of its jobs.
+/// The counts of an end in the present session, and those of its jobs.
 #[derive(Clone, Copy)]
 pub(crate) struct Mark {
-    /// How many packets it has sent.
+    /// The number of packets that it has sent.
     pub(crate) packets: usize,
-    /// How many messages it has taken.
+    /// The number of messages that it has taken.
     pub(crate) taken: usize,
-    /// How far its session has come.
+    /// The phase of its session.
     pub(crate) phase: Phase,
-    /// How many of its jobs are done.
+    /// The number of its jobs that are done.
     pub(crate) struck: usize,
-    /// How many of its jobs were given up.
+    /// The number of its jobs that were given up.
     pub(crate) failed: usize,
-    /// How many files it has stored.
+    /// The number of files that it has stored.
     pub(crate) stored: usize,
 }
 
-/// What both ends have done.
+/// The counts of both ends.
 #[derive(Clone, Copy)]
 pub(crate) struct Moment {
     /// The number of the present session, from 1.
@@ -46,7 +46,7 @@ fn mark_of<A: Allocator + Copy>(end: &EndReport<A>, node: &Node<MemorySpool<A>, 
     }
 }
 
-/// The last session.
+/// Returns the last session.
 pub(crate) fn last_of<A: Allocator>(sessions: &[SessionReport<A>]) -> Option<&SessionReport<A>>
     ensures { MatchOption result
         (last_of (map session_shown sessions.now) ≡ None)
@@ -55,7 +55,7 @@ pub(crate) fn last_of<A: Allocator>(sessions: &[SessionReport<A>]) -> Option<&Se
     sessions.last()
 }
 
-/// What both ends have done by the end of a run, which has one session at least.
+/// Returns the counts of both ends at the end of a run, which has one session at least.
 pub(crate) fn moment_of<A: Allocator + Copy>(report: &Report<A>) -> Option<Moment>
     ensures { result ≡ moment_told report.now.told }
 {

@@ -21,12 +21,12 @@ use uug_play::{Played, read_whole, shown};
 use uug_scan::{PIECE_SIZE, READ_LIMIT};
 use uug_stream::{Input, Output, ToolFault, write_all};
 
-/// How a ladder is written.
+/// The form in which a ladder is written.
 #[derive(Clone, Copy, Debug, PartialEq, Eq)]
 pub enum Drawn {
-    /// As a text, behind the report.
+    /// A text, after the report.
     AsText,
-    /// As a picture, an SVG file, without the report.
+    /// A picture, an SVG file, without the report.
     AsPicture,
 }
 
@@ -37,7 +37,7 @@ struct PlayedAndDrawn<A: Allocator> {
     ladder: Ladder<A>,
 }
 
-/// Plays a script, and draws what it does.
+/// Plays a script, and draws its ladder.
 fn play_and_draw<A: Allocator + Copy>(
     alloc: A,
     script: &[u8],
@@ -60,7 +60,7 @@ fn play_and_draw<A: Allocator + Copy>(
     }
 }
 
-/// The report and the text of the ladder.
+/// Returns the report and the text of the ladder.
 fn as_text<A: Allocator + Copy>(alloc: A, script: &[u8]) -> Result<Played<A>, ToolFault>
     ensures shown { IfOk result (λ played.
         IsShown Drawn.AsText script.now (string_bytes played.text) played.status) }
@@ -72,7 +72,7 @@ fn as_text<A: Allocator + Copy>(alloc: A, script: &[u8]) -> Result<Played<A>, To
     Ok(Played { text, status })
 }
 
-/// The picture of the ladder.
+/// Returns the picture of the ladder. More than `ROWS_MAX` rungs are the error `Usage`.
 fn as_picture<A: Allocator + Copy>(alloc: A, script: &[u8]) -> Result<Played<A>, ToolFault>
     ensures shown { IfOk result (λ played.
         IsShown Drawn.AsPicture script.now (string_bytes played.text) played.status) }
@@ -99,11 +99,11 @@ fn show<A: Allocator + Copy>(alloc: A, script: &[u8], how: Drawn) -> Result<Play
     }
 }
 
-/// Reads the input to its end as a script, plays it, and writes the report and behind it the ladder, or the picture of the
-/// ladder alone. The answer is the program's status, as `play_stream` gives it. Nothing is written before all was played.
-/// A picture of more than `ROWS_MAX` rungs is answered by `Usage`. Of two
-/// faults the one that the work meets first is answered; where a write failed, or memory ran out in writing, a front of
-/// what is shown was written.
+/// Reads the input to its end as a script, plays it, and writes the report and then the ladder, or the picture of the
+/// ladder alone. Returns the program's status, as `play_stream` does. Nothing is written before all was played.
+///
+/// A picture of more than `ROWS_MAX` rungs is the error `Usage`. Of two faults, the one that the work meets first is
+/// returned. If a write failed, or memory ran out in writing, a front of what is shown was written.
 pub fn play_ladder<A: Allocator + Copy, I: Input, O: Output>(
     alloc: A,
     input: &mut I,

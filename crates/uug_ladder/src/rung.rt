@@ -2,54 +2,54 @@ use std::alloc::Allocator;
 use uug_line::Side;
 use uug_session::Phase;
 
-/// What becomes of what an end sends.
+/// The fate of something that an end sends.
 #[derive(Clone, Copy, Debug, PartialEq, Eq)]
 pub enum Fate {
-    /// It is on its way, and was so still behind the last event.
+    /// It is on its way, and was so still after the last event.
     OnTheWay,
-    /// Its last byte comes to the other end at this event, and all of them as they were sent, with none between.
+    /// Its last byte arrives at the other end at this event, and all of them as they were sent, with none between.
     Arrives(usize),
-    /// One of its bytes is lost or changed at this event, or one is put between them.
+    /// A byte of it is lost or changed at this event, or one is inserted between its bytes.
     Lost(usize),
 }
 
-/// What occurs at an end.
+/// The event at an end.
 #[derive(Drop)]
 pub enum What<A: Allocator> {
-    /// A session begins, the one with this number, counted from 1.
+    /// The session of this number, counted from 1, begins.
     Begins(usize),
     /// It sends a text, in its frame.
     Says(Vec<u8, A>),
     /// It sends a packet.
     Sends {
-        /// As it is spelled.
+        /// The packet in its encoded form.
         packet: Vec<u8, A>,
-        /// Whether it is a data packet that was sent before.
+        /// True if it is a data packet that was sent before.
         again: bool,
     },
-    /// Nothing has come to it for some time.
+    /// It has received nothing for some time.
     TimesOut,
     /// The line is gone for it.
     HangsUp,
-    /// It takes messages: in the session so many by now.
+    /// It takes messages: this many in the session by now.
     Takes(usize),
-    /// It stores files: so many by now.
+    /// It stores files: this many by now.
     Stores(usize),
-    /// Jobs of it are done: so many by now.
+    /// Jobs of it are done: this many by now.
     Strikes(usize),
-    /// Jobs of it are given up: so many by now.
+    /// Jobs of it are given up: this many by now.
     Fails(usize),
-    /// Its session comes so far.
+    /// Its session reaches this phase.
     Comes(Phase),
 }
 
-/// What occurs, in order.
+/// A step of a ladder.
 #[derive(Drop)]
 pub struct Rung<A: Allocator> {
-    /// The event at which it does, counted from 0; none where it does before the first one.
+    /// The number of the line's event, counted from 0; `None` before the first one.
     pub event: Option<usize>,
-    /// The end; of a session that begins, the one that calls.
+    /// The end; if a session begins, the one that calls.
     pub side: Side,
-    /// What it is.
+    /// The event at the end.
     pub what: What<A>,
 }

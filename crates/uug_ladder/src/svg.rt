@@ -19,14 +19,14 @@ fn add_str<A: Allocator>(text: &mut String<A>, part: &str) -> Result<(), AllocEr
     text.push_str(part)
 }
 
-/// Appends the first part of words, with their place.
+/// Appends the beginning of words, with their place.
 fn add_place<A: Allocator>(text: &mut String<A>, x: usize, y: usize) -> Result<(), AllocError>
     ensures { OnOk result (string_bytes text.new ≡ string_bytes text.old ++ place_words x y) }
 {
     write!(text, "<text x=\"{x}\" y=\"{y}\"")
 }
 
-/// Appends words: where they stand, which end of them does (`start`, `middle` or `end`), and what they say.
+/// Appends words: their place, which end of them is there (`start`, `middle` or `end`), and their text.
 fn add_words<A: Allocator>(
     text: &mut String<A>,
     x: usize,
@@ -70,7 +70,7 @@ fn add_goal<A: Allocator>(text: &mut String<A>, x: usize, y: usize) -> Result<()
     write!(text, "L{x} {y}")
 }
 
-/// Appends the place of a line's end, and how it ends.
+/// Appends the place of a line's end, and the attributes of its end.
 fn add_end<A: Allocator>(
     text: &mut String<A>,
     x: usize,
@@ -86,7 +86,7 @@ fn add_end<A: Allocator>(
     add_str(text, "/>\n")
 }
 
-/// Appends a line, which ends so.
+/// Appends a line with these attributes of its end.
 fn add_line<A: Allocator>(
     text: &mut String<A>,
     from: (usize, usize),
@@ -121,7 +121,7 @@ fn add_head<A: Allocator>(text: &mut String<A>, height: usize) -> Result<(), All
     add_line(text, (580, 30), (580, height), "")
 }
 
-/// Where a row stands.
+/// Returns the height at which a row is drawn.
 fn row_y(row: usize) -> usize
     requires { row ≤ ROWS_MAX }
     ensures { result ≡ row_y row }
@@ -138,7 +138,7 @@ fn is_before(event: usize, number: Option<usize>) -> bool
     }
 }
 
-/// How many rungs, from the first on, occur before this event.
+/// Returns the number of rungs, from the first on, that occur before this event.
 fn rows_until<A: Allocator>(event: usize, rungs: &[Rung<A>]) -> usize
     ensures count { result ≡ rows_until event (map rung_shown rungs.now) }
     ensures within { result ≤ length rungs.now }
@@ -153,7 +153,7 @@ fn rows_until<A: Allocator>(event: usize, rungs: &[Rung<A>]) -> usize
     count
 }
 
-/// The row in which the first rung of this event stands, from this row on.
+/// Returns the row of the first rung of this event, from this row on.
 fn row_of<A: Allocator>(event: usize, all: &[Rung<A>], row: usize) -> usize
     requires { row < length all.now }
     ensures row { result ≡ row + rows_until event (drop row (map rung_shown all.now)) }
@@ -278,7 +278,7 @@ fn add_session<A: Allocator>(text: &mut String<A>, y: usize, words: &str) -> Res
     add_beside(text, Side::Called, y, "called")
 }
 
-/// The number of the event, and what occurs.
+/// Returns the number of the event, and the label of the rung.
 fn rung_words<A: Allocator + Copy, B: Allocator>(
     alloc: A,
     rung: &Rung<B>,
@@ -291,7 +291,7 @@ fn rung_words<A: Allocator + Copy, B: Allocator>(
     Ok(words)
 }
 
-/// Appends what a rung says, beside the line of its end, and its arrow.
+/// Appends the words of a rung, beside the line of its end, and its arrow.
 fn add_row<A: Allocator + Copy, B: Allocator>(
     alloc: A,
     text: &mut String<A>,

@@ -9,7 +9,7 @@ use crate::rung::{Fate, Rung, What};
 use std::alloc::{AllocError, Allocator};
 use uug_line::Side;
 
-/// Appends an ASCII character so many times.
+/// Appends an ASCII character `count` times.
 fn add_times<A: Allocator>(
     text: &mut String<A>,
     count: usize,
@@ -78,7 +78,7 @@ fn add_arrow_right<A: Allocator>(
     add_tip(text, fate)
 }
 
-/// The end of an arrow to the left.
+/// Returns the end of an arrow to the left.
 fn tip_left<A: Allocator + Copy>(alloc: A, fate: Fate) -> Result<String<A>, AllocError>
     ensures { IfOk result (λ tip. string_bytes tip ≡ tip_left fate) }
 {
@@ -140,7 +140,7 @@ fn add_arrow<A: Allocator + Copy>(
     }
 }
 
-/// Appends what occurs at an end.
+/// Appends words at the column of an end.
 fn add_note<A: Allocator>(text: &mut String<A>, side: Side, words: &str) -> Result<(), AllocError>
     ensures { OnOk result (string_bytes text.new ≡ string_bytes text.old ++ note side words.now) }
 {
@@ -161,7 +161,7 @@ fn add_head<A: Allocator>(text: &mut String<A>, words: &str) -> Result<(), Alloc
     text.push_str("\nevent  caller                                               called\n")
 }
 
-/// Whether it is sent, so that it has an arrow.
+/// Returns whether the rung is sent, and so has an arrow.
 pub(crate) fn has_arrow<A: Allocator>(what: &What<A>) -> bool
     ensures { result ≡ has_arrow (what_shown what.now) }
 {
@@ -171,7 +171,7 @@ pub(crate) fn has_arrow<A: Allocator>(what: &What<A>) -> bool
     }
 }
 
-/// Whether a session begins.
+/// Returns whether a session begins.
 pub(crate) fn begins_one<A: Allocator>(what: &What<A>) -> bool
     ensures { result ≡ begins_one (what_shown what.now) }
 {
@@ -199,7 +199,7 @@ fn add_mark<A: Allocator + Copy>(
     }
 }
 
-/// Appends the line of a rung, or the two of one with which a session begins.
+/// Appends the line of a rung, or the two lines of one with which a session begins.
 fn add_rung<A: Allocator + Copy, B: Allocator>(
     alloc: A,
     text: &mut String<A>,

@@ -1,4 +1,4 @@
-//! Of what each byte on the way from an end is, and what becomes of that.
+//! The origin of each byte on the way from an end, and the fate of what was sent.
 ghost use Rattle.std.specs.Prelude.{◌≡◌, ◌++◌, ◌∷◌, [], OnOk, take, true, false};
 ghost use Rattle.uug_ladder.specs.Way.{arrived, drops, flips, inserts, lost, passes, rest_of, sent_by, settled, settled_at, settled_by};
 
@@ -8,13 +8,13 @@ use std::alloc::{AllocError, Allocator};
 /// A byte on its way.
 #[derive(Clone, Copy, Debug, PartialEq, Eq)]
 pub(crate) struct WayByte {
-    /// The rung that sent it; none where it was put in.
+    /// The rung that sent it; `None` if it was inserted.
     pub(crate) of: Option<usize>,
     pub(crate) is_first: bool,
     pub(crate) is_last: bool,
 }
 
-/// These bytes of the rung at this place follow.
+/// Appends these bytes of the rung at this place.
 pub(crate) fn add_bytes<A: Allocator>(
     way: &mut Vec<WayByte, A>,
     place: usize,
@@ -59,7 +59,7 @@ fn settled(fate: Fate, before: Fate) -> Fate
     }
 }
 
-/// What the rung at this place sent has this fate, unless it has another one.
+/// Gives this fate to what the rung at this place sent, unless it has another one.
 fn settle_at<A: Allocator>(fates: &mut Vec<Fate, A>, place: usize, fate: Fate)
     ensures { fates.new.items ≡ settled_at place fate fates.old.items }
 {
@@ -76,7 +76,7 @@ fn settle<A: Allocator>(fates: &mut Vec<Fate, A>, of: Option<usize>, fate: Fate)
     }
 }
 
-/// These bytes come to the other end.
+/// Notes that these bytes arrive at the other end.
 fn arrive<A: Allocator>(fates: &mut Vec<Fate, A>, bytes: &[WayByte], event: usize)
     ensures { fates.new.items ≡ arrived event bytes.now fates.old.items }
 {
@@ -87,7 +87,7 @@ fn arrive<A: Allocator>(fates: &mut Vec<Fate, A>, bytes: &[WayByte], event: usiz
     }
 }
 
-/// These bytes are lost or changed.
+/// Notes that these bytes are lost or changed.
 fn lose<A: Allocator>(fates: &mut Vec<Fate, A>, bytes: &[WayByte], event: usize)
     ensures { fates.new.items ≡ lost event bytes.now fates.old.items }
 {
@@ -96,7 +96,7 @@ fn lose<A: Allocator>(fates: &mut Vec<Fate, A>, bytes: &[WayByte], event: usize)
     }
 }
 
-/// The next bytes, so many or all, come to the other end.
+/// Notes that the next `n` bytes, or all if there are fewer, arrive at the other end.
 pub(crate) fn pass_next<A: Allocator, B: Allocator>(
     way: &mut Vec<WayByte, A>,
     fates: &mut Vec<Fate, B>,
@@ -111,7 +111,7 @@ pub(crate) fn pass_next<A: Allocator, B: Allocator>(
     way.drain(..count);
 }
 
-/// The next bytes, so many or all, are lost.
+/// Notes that the next `n` bytes, or all if there are fewer, are lost.
 pub(crate) fn drop_next<A: Allocator, B: Allocator>(
     way: &mut Vec<WayByte, A>,
     fates: &mut Vec<Fate, B>,
@@ -126,7 +126,7 @@ pub(crate) fn drop_next<A: Allocator, B: Allocator>(
     way.drain(..count);
 }
 
-/// The next byte is changed, if there is one.
+/// Notes that the next byte is changed, if there is one. A mask of 0 changes nothing.
 pub(crate) fn flip_next<A: Allocator, B: Allocator>(
     way: &mut Vec<WayByte, A>,
     fates: &mut Vec<Fate, B>,
@@ -143,7 +143,7 @@ pub(crate) fn flip_next<A: Allocator, B: Allocator>(
     lose(fates, &way[..next], event);
 }
 
-/// A byte is put in front of the next one.
+/// Notes that a byte is inserted before the next one.
 pub(crate) fn insert_next<A: Allocator, B: Allocator>(
     way: &mut Vec<WayByte, A>,
     fates: &mut Vec<Fate, B>,

@@ -11,21 +11,21 @@ use uug_link::{Entry, Outbox};
 use uug_packet::message_in;
 use uug_session::Phase;
 
-/// What is written down of an end's session.
+/// The record of an end's session.
 #[derive(Drop)]
 pub(crate) struct Journal<A: Allocator> {
     pub(crate) sent: Vec<Vec<u8, A>, A>,
     pub(crate) taken: Vec<Vec<u8, A>, A>,
-    /// As they are spelled.
+    /// The packets in their encoded form.
     pub(crate) packets: Vec<Vec<u8, A>, A>,
     pub(crate) arrivals: Vec<usize, A>,
-    /// How many of the other end's packets were found or skipped.
+    /// The number of the other end's packets that were found or skipped.
     pub(crate) passed: usize,
     pub(crate) most: usize,
 }
 
 impl<A: Allocator + Copy> Journal<A> {
-    /// Nothing is written down yet.
+    /// Makes an empty journal.
     pub(crate) fn new(alloc: A) -> Self
         ensures { journal_value result ≡ nothing_done }
     {
@@ -39,7 +39,7 @@ impl<A: Allocator + Copy> Journal<A> {
         }
     }
 
-    /// What was written down of an end that has found or skipped so many packets.
+    /// Rebuilds the journal of an end from its report and the number of packets that it has found or skipped.
     pub(crate) fn from_report(report: EndReport<A>, passed: usize) -> Self
         ensures { journal_value result ≡ journal_by (end_shown report) passed }
     {
@@ -53,7 +53,7 @@ impl<A: Allocator + Copy> Journal<A> {
         }
     }
 
-    /// What the end did, which has come so far.
+    /// Turns the journal into the report of an end that is in this phase.
     pub(crate) fn into_report(self, phase: Phase) -> EndReport<A>
         ensures { end_shown result ≡ told_by (journal_value self) phase }
     {
@@ -67,7 +67,8 @@ impl<A: Allocator + Copy> Journal<A> {
         }
     }
 
-    /// The other end's packet at this place, which is spelled so, was found, and its message taken or not.
+    /// Notes that the other end's packet at this place was found, and its message if it was taken. `packet` is the
+    /// encoded packet.
     pub(crate) fn add_found(
         &mut self,
         alloc: A,
@@ -95,7 +96,7 @@ impl<A: Allocator + Copy> Journal<A> {
         Ok(())
     }
 
-    /// The message of the packet that is spelled so was taken.
+    /// Notes that the message of the encoded packet was taken.
     fn add_taken(&mut self, alloc: A, packet: &[u8]) -> Result<(), AllocError>
         ensures { OnOk result (journal_value self.new ≡ taking_from packet.now (journal_value self.old)) }
     {
@@ -103,7 +104,7 @@ impl<A: Allocator + Copy> Journal<A> {
         push_bytes(&mut self.taken, alloc, message)
     }
 
-    /// A call emitted this, and left so many packets unacknowledged.
+    /// Notes what a call emitted, and how many packets it left unacknowledged.
     pub(crate) fn add_emitted(
         &mut self,
         alloc: A,
@@ -140,7 +141,7 @@ impl<A: Allocator + Copy> Journal<A> {
         push_bytes(&mut self.packets, alloc, bytes)
     }
 
-    /// The packet that is spelled so goes out for the first time. Only a data packet has a message.
+    /// Notes the message of an encoded packet that goes out for the first time. Only a data packet has a message.
     fn add_sent(&mut self, alloc: A, packet: &[u8]) -> Result<(), AllocError>
         ensures { OnOk result (journal_value self.new ≡ sending_from packet.now (journal_value self.old)) }
     {

@@ -4,9 +4,10 @@ ghost use Rattle.uug_line.specs.WereSent.{HavePlaces, StandAt, WereSent, passed_
 ghost use Rattle.uug_link.specs.Arrivals.{IsPlace, place_of};
 ghost use Rattle.uug_packet.specs.Packet.{PacketValue};
 
-/// The packets that an end finds get places among those that the other end has emitted, each the least behind the one
-/// before. No other choice of places would do where this one doesn't: a packet has no place left exactly where it, and
-/// those found before it, are not all among those that were sent so far, in this order and none more often.
+/// States that the places of the packets that an end finds are well chosen. The places are among the packets that the
+/// other end has emitted, each the least after the one before. No other choice of places would do where this one
+/// doesn't. A packet has no place left exactly where it, and those found before it, are not all among those sent up to
+/// now, in this order and none more often.
 pub fn least_places_are_the_right_choice()
     // The least places are such places, and where there are any, there are the least ones.
     ensures least { (found emitted : List PacketValue) (places : List ℕ)

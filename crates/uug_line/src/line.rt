@@ -4,11 +4,11 @@ ghost use Rattle.uug_line.specs.Run.{flipped};
 use std::alloc::{AllocError, Allocator};
 use std::marker::Model;
 
-/// The bytes that an end has emitted and that are on their way. A clause sees them as a list.
+/// The bytes that an end has emitted and that are on their way. Clauses see them as a list.
 #[derive(Drop)]
 pub(crate) struct Line<A: Allocator> {
     bytes: Vec<u8, A>,
-    /// So many of the bytes have left the line already, and stay until they are more than the others.
+    /// The number of bytes in front that have left the line already. They stay until they are more than the others.
     gone: usize,
 }
 
@@ -23,7 +23,7 @@ impl<A: Allocator> Model for Line<A> {
 }
 
 impl<A: Allocator + Copy> Line<A> {
-    /// A line with nothing on it.
+    /// Makes an empty line.
     pub(crate) fn new(alloc: A) -> Self
         ensures { result ≡ [] }
     {
@@ -35,28 +35,28 @@ impl<A: Allocator + Copy> Line<A> {
 }
 
 impl<A: Allocator> Line<A> {
-    /// These bytes follow.
+    /// Appends these bytes.
     pub(crate) fn append(&mut self, bytes: &[u8]) -> Result<(), AllocError>
         ensures { OnOk result (self.new ≡ self.old ++ bytes.now) }
     {
         self.bytes.extend_from_slice(bytes)
     }
 
-    /// How many bytes are on their way.
+    /// Returns the number of bytes on their way.
     pub(crate) fn len(&self) -> usize
         ensures { result ≡ length self.now }
     {
         self.bytes.len() - self.gone
     }
 
-    /// All that is on it.
+    /// Returns all bytes on the line.
     pub(crate) fn bytes(&self) -> &[u8]
         ensures { result.now ≡ self.now }
     {
         &self.bytes[self.gone..]
     }
 
-    /// The next bytes, so many or all.
+    /// Returns the next `n` bytes, or all if fewer are on the line.
     pub(crate) fn next(&self, n: usize) -> &[u8]
         ensures { result.now ≡ take n self.now }
     {
@@ -64,7 +64,7 @@ impl<A: Allocator> Line<A> {
         &bytes[..n.min(bytes.len())]
     }
 
-    /// The next bytes, so many or all, leave the line.
+    /// Removes the next `n` bytes from the line, or all if fewer are on it.
     pub(crate) fn pass(&mut self, n: usize)
         ensures { self.new ≡ drop n self.old }
     {
@@ -72,7 +72,7 @@ impl<A: Allocator> Line<A> {
         self.gone = let_go(&mut self.bytes, self.gone + count);
     }
 
-    /// The next byte is changed, if there is one.
+    /// Inverts the bits of the mask in the next byte, if there is one.
     pub(crate) fn flip(&mut self, mask: u8)
         ensures { self.new ≡ flipped mask self.old }
     {
@@ -81,7 +81,7 @@ impl<A: Allocator> Line<A> {
         }
     }
 
-    /// This byte stands before the next one.
+    /// Inserts a byte before the next one.
     pub(crate) fn insert(&mut self, byte: u8) -> Result<(), AllocError>
         ensures { OnOk result (self.new ≡ byte ∷ self.old) }
     {
@@ -94,7 +94,7 @@ impl<A: Allocator> Line<A> {
         Ok(())
     }
 
-    /// All bytes are lost.
+    /// Removes all bytes.
     pub(crate) fn clear(&mut self)
         ensures { self.new ≡ [] }
     {
@@ -103,8 +103,8 @@ impl<A: Allocator> Line<A> {
     }
 }
 
-/// Forgets so many bytes at the front, once they are more than the others: each byte is moved so at most once, and none
-/// where all are gone. The answer is how many are not forgotten.
+/// Removes the `gone` bytes at the front once they are more than the others. Each byte is moved at most once, and none
+/// if all are gone. Returns how many gone bytes are still there.
 fn let_go<A: Allocator>(bytes: &mut Vec<u8, A>, gone: usize) -> usize
     requires { gone ≤ vec_len bytes.old }
     ensures within { result ≤ vec_len bytes.new }

@@ -19,29 +19,29 @@ use std::alloc::{AllocError, Allocator};
 use std::mem;
 use uug_session::{MemorySpool, Node};
 
-/// An end of a session on a line, and what is written down of it.
+/// An end of a session on a line, with the record of its session.
 #[derive(Drop)]
 pub(crate) struct LineEnd<A: Allocator + Copy> {
-    /// In a box, since the end is moved into its report and out of it.
+    /// Boxed, because the end is moved into its report and out of it.
     pub(crate) node: Box<Node<MemorySpool<A>, A>, A>,
     pub(crate) journal: Journal<A>,
-    /// What it has emitted and what is on its way to the other end.
+    /// The bytes that it has emitted and that are on their way to the other end.
     pub(crate) line: Line<A>,
 }
 
-/// Whether an end takes up more.
+/// The result of taking up the next item.
 #[derive(Clone, Copy)]
 pub(crate) enum Taking {
     /// An item was taken up.
     Goes,
-    /// Nothing is whole that is held.
+    /// The end holds no complete item.
     Waits,
-    /// What was found is a packet that was not sent, and is not taken up.
+    /// The item found is a packet that was not sent, and is not taken up.
     Stops,
 }
 
 impl<A: Allocator + Copy> LineEnd<A> {
-    /// The end's first session has begun.
+    /// Begins the end's first session.
     pub(crate) fn start(alloc: A, node: Node<MemorySpool<A>, A>) -> Result<Self, AllocError>
         ensures { IfOk result (λ end. (id : Identity) (own : Announced) (number : Option ℕ)
             (l : Lists) → IsAnnouncement own
@@ -58,7 +58,7 @@ impl<A: Allocator + Copy> LineEnd<A> {
         Ok(end)
     }
 
-    /// Writes down what a call of the end has emitted, which goes on the line at once.
+    /// Notes what a call of the end has emitted, and puts it on the line at once.
     fn note_call(&mut self, alloc: A) -> Result<(), AllocError>
         ensures { OnOk result (IsNoted (live_end_value self.old) (live_end_value self.new)) }
     {
@@ -70,7 +70,7 @@ impl<A: Allocator + Copy> LineEnd<A> {
         Ok(())
     }
 
-    /// A timeout.
+    /// Handles a timeout.
     pub(crate) fn time_out(&mut self, alloc: A) -> Result<(), AllocError>
         requires ordered { IsOrdered (live_end_value self.old) }
         requires room { HasRoom (live_end_value self.old) }
@@ -81,7 +81,7 @@ impl<A: Allocator + Copy> LineEnd<A> {
         Ok(())
     }
 
-    /// The line is gone.
+    /// Handles the loss of the line.
     pub(crate) fn hang_up(&mut self, alloc: A) -> Result<(), AllocError>
         requires ordered { IsOrdered (live_end_value self.old) }
         requires room { HasRoom (live_end_value self.old) }
@@ -92,7 +92,7 @@ impl<A: Allocator + Copy> LineEnd<A> {
         Ok(())
     }
 
-    /// The next session begins, with nothing on the line. The answer is what the end did in the last one, which is over.
+    /// Begins the next session, with nothing on the line. Returns the report of the last session, which is over.
     pub(crate) fn call_again(&mut self, alloc: A) -> Result<EndReport<A>, AllocError>
         requires ended { IsEnded (live_end_value self.old).node.engine.stage }
         requires ordered { IsOrdered (live_end_value self.old) }
@@ -107,8 +107,8 @@ impl<A: Allocator + Copy> LineEnd<A> {
         Ok(journal.into_report(phase))
     }
 
-    /// A piece comes to the end, which takes up what is whole in it. The answer is false where it finds a packet that is not
-    /// among those that the other end has emitted; then the end stands before it.
+    /// Handles a piece that arrives, and takes up each complete item in it. Returns false if the end finds a packet
+    /// that is not among those that the other end has emitted; that packet is not taken up.
     pub(crate) fn hear(
         &mut self,
         alloc: A,
@@ -137,7 +137,7 @@ impl<A: Allocator + Copy> LineEnd<A> {
         }
     }
 
-    /// Takes up what is whole in the bytes held, one item after the other.
+    /// Takes up each complete item among the bytes held. Returns false if it finds a packet that was not sent.
     fn take_all(&mut self, alloc: A, others: &[Vec<u8, A>]) -> Result<bool, AllocError>
         requires ordered { IsOrdered (live_end_value self.old) }
         requires written { AreWritten (lists_in others.now) }
@@ -153,7 +153,7 @@ impl<A: Allocator + Copy> LineEnd<A> {
         }
     }
 
-    /// Takes up the next item, if one is whole.
+    /// Takes up the next item, if one is complete.
     fn take_next(&mut self, alloc: A, others: &[Vec<u8, A>]) -> Result<Taking, AllocError>
         requires ordered { IsOrdered (live_end_value self.old) }
         requires written { AreWritten (lists_in others.now) }
@@ -185,7 +185,8 @@ impl<A: Allocator + Copy> LineEnd<A> {
         Ok(())
     }
 
-    /// Takes up the packet that is shown, which is spelled so and stands at that place among those of the other end.
+    /// Takes up the packet that is shown. `packet` is its encoded form and `place` its place among those of the other
+    /// end.
     fn take_packet(&mut self, alloc: A, packet: &[u8], place: usize) -> Result<(), AllocError>
         requires shown { 0 < item_size (live_end_value self.old).node }
         requires place { place < usize.MAX }

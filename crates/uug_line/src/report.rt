@@ -14,24 +14,24 @@ use std::alloc::Allocator;
 use std::marker::Model;
 use uug_session::{MemorySpool, Node, Phase, Side};
 
-/// What an end did in a session.
+/// The report of an end in a session.
 #[derive(Drop)]
 pub struct EndReport<A: Allocator> {
     /// The messages that it sent, in the order of their first sending.
     pub sent: Vec<Vec<u8, A>, A>,
     /// The messages that it took, in order.
     pub taken: Vec<Vec<u8, A>, A>,
-    /// All packets that it emitted, as they are spelled.
+    /// The encoded form of each packet that it emitted.
     pub packets: Vec<Vec<u8, A>, A>,
     /// The places of the packets that it found, among those that the other end emitted.
     pub arrivals: Vec<usize, A>,
     /// The most packets that were unacknowledged after any call.
     pub most: usize,
-    /// How far it came.
+    /// The phase that it reached.
     pub phase: Phase,
 }
 
-/// What the two ends did in a session.
+/// The report of the two ends in a session.
 #[derive(Drop)]
 pub struct SessionReport<A: Allocator> {
     /// The end that called.
@@ -40,9 +40,9 @@ pub struct SessionReport<A: Allocator> {
     pub called: EndReport<A>,
 }
 
-/// What a run tells. Whoever made it, a report is what the world tells of some two ends and some events: its type keeps
-/// that, and `sessions` hands it on. So `world_laws::the_headline`, which is of all two ends and events, holds of each
-/// report. A clause sees what is told of the sessions, what the ends have and hold, and the verdict.
+/// The report of a run. Whoever made it, it is the world's report of some two ends and some events: its type keeps
+/// that, and `sessions` promises it. `world_laws::the_headline` is about all ends and events, and holds of each report.
+/// Clauses see the sessions' reports, what the ends have and hold, and the verdict.
 #[derive(Drop)]
 pub struct Report<A: Allocator + Copy> {
     pub(crate) sessions: Vec<SessionReport<A>, A>,
@@ -51,13 +51,13 @@ pub struct Report<A: Allocator + Copy> {
     pub(crate) verdict: LineVerdict,
 }
 
-/// An end as a run leaves it.
+/// An end at the end of a run.
 #[derive(Drop)]
 pub(crate) struct LastEnd<A: Allocator + Copy> {
     pub(crate) node: Box<Node<MemorySpool<A>, A>, A>,
-    /// What it has emitted and what is on its way to the other end.
+    /// The bytes that it has emitted and that are on their way to the other end.
     pub(crate) line: Line<A>,
-    /// How many of the other end's packets were found or skipped.
+    /// The number of the other end's packets that were found or skipped.
     pub(crate) passed: usize,
 }
 
@@ -75,7 +75,7 @@ impl<A: Allocator + Copy> Model for Report<A> {
 }
 
 impl<A: Allocator + Copy> Report<A> {
-    /// The sessions in order, the present one last.
+    /// Returns the sessions in order, the present one last.
     pub fn sessions(&self) -> &[SessionReport<A>]
         ensures sessions { map session_shown result.now ≡ self.now.told.sessions }
         ensures of_a_run { IsOfSomeRun self.now }
@@ -83,7 +83,7 @@ impl<A: Allocator + Copy> Report<A> {
         self.sessions.as_slice()
     }
 
-    /// The end that calls, as it stands.
+    /// Returns the calling end in its present state.
     pub fn caller(&self) -> &Node<MemorySpool<A>, A>
         ensures stands { stands_so result.now ≡ self.now.told.ends.at_caller }
         ensures has { owned_by result.now ≡ self.now.told.belongings.at_caller }
@@ -94,7 +94,7 @@ impl<A: Allocator + Copy> Report<A> {
         &*self.caller.node
     }
 
-    /// The end that is called, as it stands.
+    /// Returns the called end in its present state.
     pub fn called(&self) -> &Node<MemorySpool<A>, A>
         ensures stands { stands_so result.now ≡ self.now.told.ends.at_called }
         ensures has { owned_by result.now ≡ self.now.told.belongings.at_called }
@@ -105,7 +105,7 @@ impl<A: Allocator + Copy> Report<A> {
         &*self.called.node
     }
 
-    /// The bytes that are on their way from the end on the side.
+    /// Returns the bytes on their way from the end on this side.
     pub fn line_from(&self, side: Side) -> &[u8]
         ensures { result.now ≡ (at side self.now.left).line }
     {
@@ -115,15 +115,15 @@ impl<A: Allocator + Copy> Report<A> {
         }
     }
 
-    /// Whether each packet that was found had been sent.
+    /// Returns the verdict: whether each packet that was found had been sent.
     pub fn verdict(&self) -> LineVerdict
         ensures { result ≡ self.now.told.verdict }
     {
         self.verdict
     }
 
-    /// Whether `settle` may be called: each packet that was found had been sent, both ends talk, neither is quiet on repeats or
-    /// has counted more than six timeouts in a row, and nothing waits at an end or on the line.
+    /// Returns whether `settle` may be called: each packet that was found had been sent, both ends talk, neither is
+    /// quiet on repeats or has counted more than six timeouts in a row, and nothing waits at an end or on the line.
     pub fn can_settle(&self) -> bool
         ensures told { IsTrue result ↔ CanSettle self.now }
         // So it is exactly where the world may settle.
@@ -133,7 +133,7 @@ impl<A: Allocator + Copy> Report<A> {
         self.is_quiet()
     }
 
-    /// Whether nothing waits, and both ends talk.
+    /// Returns whether the verdict is clean and both ends can settle.
     fn is_quiet(&self) -> bool
         ensures { IsTrue result ↔ CanSettle self.now }
     {
@@ -143,12 +143,12 @@ impl<A: Allocator + Copy> Report<A> {
     }
 }
 
-/// So many timeouts in a row an end may have counted that is to settle.
+/// The most timeouts in a row that an end may have counted before it settles.
 pub const TIMEOUTS_BEFORE: u8 = 6;
 
 impl<A: Allocator + Copy> LastEnd<A> {
-    /// Whether it talks, is not quiet on repeats, and has not counted too many timeouts, and nothing waits at it or on the line
-    /// from it.
+    /// Returns whether the end talks, is not quiet on repeats, and has not counted too many timeouts, and nothing waits
+    /// at it or on the line from it.
     fn can_settle(&self) -> bool
         ensures { IsTrue result ↔ EndCanSettle (stands_so self.now.node.value)
             (held_at self.now.node.value) self.now.line }

@@ -39,7 +39,7 @@ use crate::verdict::LineVerdict;
 use std::alloc::{AllocError, Allocator};
 use uug_session::{Node, Place, Side};
 
-/// How a run stands.
+/// The state of a run.
 #[derive(Drop)]
 pub(crate) struct RunSoFar<A: Allocator + Copy> {
     /// The sessions that are over.
@@ -48,8 +48,9 @@ pub(crate) struct RunSoFar<A: Allocator + Copy> {
     pub(crate) called: LineEnd<A>,
 }
 
-/// Sends these events over a line between two ends that are set up so, and tells what they did. The first session starts
-/// with the run. It stops where an end finds a packet that the other end has not sent, before the end takes it up.
+/// Sends these events over a line between two ends that are set up as given, and reports what the ends did. The first
+/// session begins with the run. The run stops if an end finds a packet that the other end has not sent, before the end
+/// takes it up.
 pub fn run<A: Allocator + Copy>(
     alloc: A,
     setup: Setup<A>,
@@ -132,7 +133,7 @@ impl<A: Allocator + Copy> RunSoFar<A> {
         })
     }
 
-    /// The events, one after the other, up to one at which a packet is found that was not sent.
+    /// Handles the events in order, up to one at which a packet is found that was not sent.
     fn go_through(&mut self, alloc: A, events: &[Event]) -> Result<LineVerdict, AllocError>
         requires { IsSteady (run_value self.old) }
         ensures ends { IfOk result (λ verdict. (setup : SetupValue) (run : Run DialogueState)
@@ -152,7 +153,7 @@ impl<A: Allocator + Copy> RunSoFar<A> {
         Ok(LineVerdict::Clean)
     }
 
-    /// The event happens. The answer is false where an end has found a packet that was not sent.
+    /// Handles the event. Returns false if an end has found a packet that was not sent.
     pub(crate) fn happens(&mut self, alloc: A, event: Event) -> Result<bool, AllocError>
         requires { IsSteady (run_value self.old) }
         ensures { IfOk result (λ all_sent.
@@ -170,7 +171,8 @@ impl<A: Allocator + Copy> RunSoFar<A> {
         Ok(true)
     }
 
-    /// The next bytes come to the side as one piece.
+    /// Delivers the next `n` bytes to the side as one piece. Returns false if the side has found a packet that was not
+    /// sent.
     pub(crate) fn pass(&mut self, alloc: A, side: Side, n: usize) -> Result<bool, AllocError>
         requires { IsSteady (run_value self.old) }
         ensures { IfOk result (λ all_sent.
@@ -182,7 +184,7 @@ impl<A: Allocator + Copy> RunSoFar<A> {
         }
     }
 
-    /// The next bytes to the side are lost.
+    /// Drops the next `n` bytes to the side.
     fn lose(&mut self, side: Side, n: usize)
         ensures { HappensAt (other side) (ChangesLine (drop n)) (run_value self.old)
             (run_value self.new) }
@@ -193,7 +195,7 @@ impl<A: Allocator + Copy> RunSoFar<A> {
         }
     }
 
-    /// The next byte to the side is changed.
+    /// Changes the next byte to the side.
     fn flip(&mut self, side: Side, mask: u8)
         ensures { HappensAt (other side) (ChangesLine (flipped mask)) (run_value self.old)
             (run_value self.new) }
@@ -204,7 +206,7 @@ impl<A: Allocator + Copy> RunSoFar<A> {
         }
     }
 
-    /// A byte is put in front of the next one to the side.
+    /// Inserts a byte before the next one to the side.
     fn insert(&mut self, side: Side, byte: u8) -> Result<(), AllocError>
         ensures { OnOk result
             (HappensAt (other side) (ChangesLine (λ line. byte ∷ line)) (run_value self.old)
@@ -216,7 +218,7 @@ impl<A: Allocator + Copy> RunSoFar<A> {
         }
     }
 
-    /// Nothing has come to the side for some time.
+    /// Handles a timeout at the side.
     pub(crate) fn time_out(&mut self, alloc: A, side: Side) -> Result<(), AllocError>
         requires { IsSteady (run_value self.old) }
         ensures { OnOk result
@@ -228,7 +230,7 @@ impl<A: Allocator + Copy> RunSoFar<A> {
         }
     }
 
-    /// The line is gone for the side.
+    /// Handles the loss of the line at the side.
     fn hang_up(&mut self, alloc: A, side: Side) -> Result<(), AllocError>
         requires { IsSteady (run_value self.old) }
         ensures { OnOk result
@@ -240,7 +242,7 @@ impl<A: Allocator + Copy> RunSoFar<A> {
         }
     }
 
-    /// Both ends hang up, what is on the line is lost, and a new session begins.
+    /// Hangs up at both ends, drops what is on the line, and begins a new session.
     fn call_again(&mut self, alloc: A) -> Result<(), AllocError>
         requires { IsSteady (run_value self.old) }
         ensures { OnOk result (CallsAgain (run_value self.old) (run_value self.new)) }
@@ -253,7 +255,7 @@ impl<A: Allocator + Copy> RunSoFar<A> {
         Ok(())
     }
 
-    /// What is told of it.
+    /// Turns the run into its report.
     pub(crate) fn into_report(self, verdict: LineVerdict) -> Result<Report<A>, AllocError>
         requires some_run { IsOfSomeRun (whole_report (run_value self) verdict) }
         requires said { AllIsSaid (run_value self) }
@@ -289,7 +291,7 @@ impl<A: Allocator + Copy> RunSoFar<A> {
     }
 }
 
-/// The side that hears, where one does in the event.
+/// Returns the side that receives bytes in the event, or the caller if none does.
 pub(crate) fn hearing_side(event: Event) -> Side
     ensures { result ≡ hearing_side event }
 {
@@ -299,7 +301,7 @@ pub(crate) fn hearing_side(event: Event) -> Side
     }
 }
 
-/// Where the one end stands, which expects the other.
+/// Returns the place of the one end, which expects the other.
 fn place_of<A: Allocator>(one: &EndSetup<A>, other: &EndSetup<A>) -> Place
     ensures me { result.me ≡ one.now.name }
     ensures peer { result.peer ≡ other.now.name }
@@ -348,8 +350,8 @@ fn start_called<A: Allocator + Copy>(
     Ok(end)
 }
 
-/// The next bytes that one end has emitted come to the other as one piece. The answer is false where that one finds a packet
-/// that was not sent.
+/// Delivers the next `n` bytes that one end has emitted to the other as one piece. Returns false if the other finds a
+/// packet that was not sent.
 fn deliver<A: Allocator + Copy>(
     alloc: A,
     hearer: &mut LineEnd<A>,

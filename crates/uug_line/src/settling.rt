@@ -23,8 +23,8 @@ use crate::verdict::LineVerdict;
 use std::alloc::{AllocError, Allocator};
 use uug_session::{End, Phase, Side};
 
-/// Goes on from a report on a line on which nothing more is lost, until both sessions are over. Round by round all that is on
-/// the line passes to the called end, and then all that is there to the caller; where nothing is on it, both ends wait too long.
+/// Goes on from a report until both sessions are over, on a line on which nothing more is lost. First both ends time
+/// out. Then each round passes all on the line to the called end, and then all to the caller.
 pub fn settle<A: Allocator + Copy>(alloc: A, report: Report<A>) -> Result<Report<A>, RunFault>
     requires { CanSettle report }
     // Both sessions are done, and each packet that was found had been sent.
@@ -46,7 +46,7 @@ pub fn settle<A: Allocator + Copy>(alloc: A, report: Report<A>) -> Result<Report
 }
 
 impl<A: Allocator + Copy> Report<A> {
-    /// The run whose report it is, as it stands.
+    /// Turns the report into the run that it reports, in the same state.
     pub(crate) fn into_run(self) -> RunSoFar<A>
         ensures of_a_run { IsOfSomeRun self }
         ensures same { (parts : RunValue) → whole_report parts self.told.verdict ≡ self
@@ -70,7 +70,7 @@ impl<A: Allocator + Copy> Report<A> {
 }
 
 impl<A: Allocator + Copy> LastEnd<A> {
-    /// The end in its session, of which this is reported.
+    /// Puts the end back into its session, of which this is the report.
     fn goes_on(self, report: EndReport<A>) -> LineEnd<A>
         ensures { live_end_value result
             ≡ part_from (end_shown report) (left_of self) (held_by self.node.value.spool) }
@@ -85,7 +85,7 @@ impl<A: Allocator + Copy> LastEnd<A> {
 }
 
 impl<A: Allocator + Copy> RunSoFar<A> {
-    /// Passes what is on the line, round by round, until both sessions are over. Both ends have waited too long first.
+    /// Times out both ends, then passes what is on the line, round by round, until both sessions are over.
     pub(crate) fn finish(&mut self, alloc: A) -> Result<(), AllocError>
         requires { CanFinish (run_value self.old) }
         ensures { OnOk result ((setup : SetupValue) (events : List Event)
@@ -104,8 +104,8 @@ impl<A: Allocator + Copy> RunSoFar<A> {
         Ok(())
     }
 
-    /// All on the line passes to the called end, and then all to the caller. The answer is false where an end has found a
-    /// packet that was not sent.
+    /// Passes all on the line to the called end, and then all to the caller. Returns false if an end has found a packet
+    /// that was not sent.
     fn round(&mut self, alloc: A) -> Result<bool, AllocError>
         requires { IsSteady (run_value self.old) }
         ensures { IfOk result (λ all_sent.
@@ -120,14 +120,15 @@ impl<A: Allocator + Copy> RunSoFar<A> {
         Ok(all_sent)
     }
 
-    /// Whether both sessions are over, and well.
+    /// Returns whether both sessions are done.
     fn is_over(&self) -> bool
         ensures { IsTrue result ↔ AreOver (run_value self.now) }
     {
         self.caller.is_done() && self.called.is_done()
     }
 
-    /// How many messages both ends have sent and taken, and how many sessions are over.
+    /// Returns the number of messages that both ends have sent and taken, plus the number of ends whose session is
+    /// over.
     fn weight(&self) -> u128
         ensures weight { result ≡ parts_weight (run_value self.now) }
         ensures within { result ≤ u128.MAX }
@@ -141,14 +142,14 @@ impl<A: Allocator + Copy> RunSoFar<A> {
 }
 
 impl<A: Allocator + Copy> LineEnd<A> {
-    /// Whether its session is over, and well.
+    /// Returns whether its session is done.
     fn is_done(&self) -> bool
         ensures { IsTrue result ↔ ((live_end_value self.now).node.engine.stage ≡ ended done) }
     {
         matches!(self.node.phase(), Phase::Ended(End::Done))
     }
 
-    /// One where its session is over, however it ended.
+    /// Returns 1 if its session is over, however it ended, and 0 otherwise.
     fn one_if_over(&self) -> u128
         ensures { result ≡ one_if_over (live_end_value self.now).node.engine.stage }
     {

@@ -3,18 +3,18 @@ use uug_link::Announce;
 use uug_session::{MemorySpool, Queue};
 use uug_talk::Name;
 
-/// What an end is set up with.
+/// The set-up of an end.
 #[derive(Drop)]
 pub struct EndSetup<A: Allocator> {
-    /// What the end is called.
+    /// The name of the end.
     pub name: Name,
-    /// What the other end shall use, and whether this end is quiet on repeats and its commands are short.
+    /// The limits that the other end shall use, and whether this end is quiet on repeats and its commands are short.
     pub announce: Announce,
     /// Its jobs.
     pub queue: Queue<A>,
     /// Its files.
     pub spool: MemorySpool<A>,
-    /// The number of its next conversation with the other end, where it keeps one.
+    /// The number of its next conversation with the other end, if it keeps one.
     pub number: Option<u32>,
 }
 

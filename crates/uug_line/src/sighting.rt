@@ -11,21 +11,21 @@ use std::alloc::Allocator;
 use uug_packet::{Packet, is_written};
 use uug_session::{Item, MemorySpool, Node};
 
-/// What an end has found next in the bytes that came to it.
+/// The next item that an end has found in the bytes that arrived.
 #[derive(Clone, Copy)]
 pub(crate) enum Sighting {
-    /// Nothing that is whole.
+    /// No complete item.
     Nothing,
     /// A text, or a broken packet.
     Other,
     /// The other end's packet at this place.
     At(usize),
-    /// A packet that was not sent, or not so often.
+    /// A packet that was not sent, or not as often.
     Unsent,
 }
 
-/// Looks for the next item. A packet has its place among those that the other end has emitted, behind those that are
-/// passed.
+/// Looks for the next item. A packet is looked up among those that the other end has emitted, after the `passed` first
+/// ones.
 pub(crate) fn sight<A: Allocator + Copy>(
     node: &mut Node<MemorySpool<A>, A>,
     others: &[Vec<u8, A>],
@@ -58,7 +58,7 @@ fn sighting_of<A: Allocator>(item: &Item<'_>, others: &[Vec<u8, A>], passed: usi
     }
 }
 
-/// The first place, behind those that are passed, at which this packet stands as it is written.
+/// Returns the first place, after the `passed` first ones, whose packet has this packet's encoded form.
 fn place_of<A: Allocator>(
     packet: &Packet<'_>,
     others: &[Vec<u8, A>],

@@ -16,14 +16,14 @@ use crate::verdict::LineVerdict;
 use std::alloc::Allocator;
 use std::marker::Model;
 
-/// A run that stands behind some events, and to which more may happen. Whoever made it, it is that of some two ends under as
-/// many events as it has counted: its type keeps that. Once memory was refused in a step it has no run any more: a clause
-/// sees `None` then, and else the report and how many events have happened.
+/// A run after some events, to which more may happen. Whoever made it, it is that of some two ends under as many events
+/// as it has counted: its type keeps that. Once memory was refused in a step, there is no run any more and clauses see
+/// `None`. Otherwise they see the report and the number of events.
 #[derive(Drop)]
 pub struct Simulator<A: Allocator + Copy> {
-    /// None once memory was refused in a step.
+    /// `None` once memory was refused in a step.
     report: Option<Report<A>>,
-    /// How many events have happened.
+    /// The number of events that have happened.
     count: usize,
 }
 
@@ -38,7 +38,7 @@ impl<A: Allocator + Copy> Model for Simulator<A> {
     ghost invariant = { λ s. IfSome (simulator_kept s.report s.count) IsBehindSome };
 }
 
-/// The verdict behind the event of this number.
+/// Returns the verdict after the event of this number.
 fn verdict_behind(all_sent: bool, number: usize, event: Event) -> LineVerdict
     ensures { result ≡ verdict_behind all_sent number event }
 {
@@ -51,7 +51,7 @@ fn verdict_behind(all_sent: bool, number: usize, event: Event) -> LineVerdict
     }
 }
 
-/// The event of this number happens behind those of the report. A run that is fooled has stopped.
+/// Handles the event of this number after those of the report. A run that is fooled has stopped.
 fn go_on<A: Allocator + Copy>(
     alloc: A,
     report: Report<A>,
@@ -77,7 +77,7 @@ fn go_on<A: Allocator + Copy>(
 }
 
 impl<A: Allocator + Copy> Simulator<A> {
-    /// Two ends that are set up so, before the first event.
+    /// Makes a run of two ends that are set up as given, before the first event.
     pub fn new(alloc: A, setup: Setup<A>) -> Result<Self, RunFault>
         ensures { IfOk result (λ first. IsSomeAnd first (IsBehind (setup_of setup) [])) }
     {
@@ -88,8 +88,8 @@ impl<A: Allocator + Copy> Simulator<A> {
         })
     }
 
-    /// The event happens behind the others. So `run` does the same as a step for each event. Out of memory leaves nothing of
-    /// the run, as do more events than can be counted; each step behind that is refused too.
+    /// Handles one event after the others. A step for each event does the same as `run`. If memory runs out, or there
+    /// are more events than can be counted, the run is lost and each later step is refused too.
     pub fn step(&mut self, alloc: A, event: Event) -> Result<(), RunFault>
         ensures happens { OnOk result (Steps event self.old self.new) }
         ensures refused { OnErr result (self.new ≡ None) }
@@ -107,7 +107,7 @@ impl<A: Allocator + Copy> Simulator<A> {
         Ok(())
     }
 
-    /// What is told of the events so far. None where memory was refused in a step.
+    /// Returns the report of the events up to now, or `None` if memory was refused in a step.
     pub fn report(&self) -> Option<&Report<A>>
         ensures { MatchOption result (report_kept self.now ≡ None)
             (λ report. report_kept self.now ≡ Some report.now) }
@@ -115,7 +115,8 @@ impl<A: Allocator + Copy> Simulator<A> {
         self.report.as_ref()
     }
 
-    /// The report of the events so far, from which `settle` may go on. None where memory was refused in a step.
+    /// Returns the report of the events up to now, from which `settle` may go on, or `None` if memory was refused in a
+    /// step.
     pub fn into_report(self) -> Option<Report<A>>
         ensures { result ≡ report_kept self }
     {

@@ -15,7 +15,7 @@ fn look_at_end<A: Allocator + Copy>(end: &EndSetup<A>)
     end.queue.pending();
 }
 
-/// Only where an event is matched does a proof know that the numbers in it are bytes.
+/// Matches an event: only then does a proof know that the numbers in it are bytes.
 pub(crate) fn look_at_event(event: Event)
     ensures { IsOfBytes event }
 {
@@ -34,7 +34,8 @@ fn look_at_events(events: &[Event])
     }
 }
 
-/// Each set-up is sound and of bytes, and so are all events: their types say so. This does nothing but look at the events.
+/// Looks at each set-up and event, and does nothing else. By their types each set-up is sound and of bytes, and all
+/// events are of bytes.
 pub(crate) fn look_at_setup<A: Allocator + Copy>(setup: &Setup<A>, events: &[Event])
     ensures { AreOfTypes (setup_of setup.now) events.now }
 {

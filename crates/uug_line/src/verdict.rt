@@ -3,12 +3,12 @@ use uug_session::Side;
 /// Names `LineVerdict`, beside the `Verdict` of a spool.
 pub type Verdict2 = LineVerdict;
 
-/// Whether each packet that was found on a line had been sent.
+/// The verdict on a line: each packet that was found had been sent, or one had not.
 #[derive(Clone, Copy, Debug, PartialEq, Eq)]
 pub enum LineVerdict {
-    /// Each had been.
+    /// Every packet had been sent.
     Clean,
-    /// A packet was found that had not been sent, or not so often.
+    /// A packet was found that had not been sent, or not as often.
     Fooled {
         /// The event at which it was found, counted from 0.
         event: usize,

@@ -1,4 +1,4 @@
-//! Laws of a run, for every two ends and whatever happens on the line between them: a run is the world, the headline, and
+//! Laws of a run, for any two ends and whatever happens on the line between them: a run is the world, the headline, and
 //! where a run stops. The functions do nothing.
 ghost use Rattle.std.specs.Prelude.{◌≡◌, ◌↔◌, ℕ, List, All, Some, slice_get};
 ghost use Rattle.uug_packet.specs.Bytes.{AreBytes};
@@ -20,8 +20,9 @@ ghost use Rattle.uug_line.specs.Told.{EndReportValue};
 ghost use Rattle.uug_line.specs.World.{counted, report_of_ends, report_of_world, run_of_ends, world};
 ghost use Rattle.uug_line.specs.MachineRun.{AllRanAsMachine, PresentRanAsMachine};
 
-/// Two ends, neither of which knows the other's jobs, do on every line what the world says: told by how many messages of
-/// the whole conversation each has sent and taken, their run is the world's, and so is its report.
+/// States that two ends, neither of which knows the other's jobs, do on every line what the world says. Their run is
+/// the world's, if an end is described by the number of messages of the whole conversation that it has sent and taken;
+/// and their report is the world's.
 pub fn a_run_is_the_world()
     ensures run { (setup : SetupValue) (events : List Event) → IsSoundSetup setup
         → counted (run_of_ends setup events) ≡ world setup events }
@@ -29,8 +30,9 @@ pub fn a_run_is_the_world()
         → report_of_ends setup events ≡ report_of_world setup events }
 {}
 
-/// The headline: in every session each end has taken a front of the messages that the other sent, and no end ever has more
-/// unacknowledged packets than the other announced; a job is struck only after its exact bytes were stored.
+/// States the headline. In every session each end has taken a front of the messages that the other sent, and no end
+/// ever has more unacknowledged packets than the other announced. A job is struck only after its exact bytes were
+/// stored.
 pub fn the_headline()
     ensures front { (setup : SetupValue) (events : List Event) → IsSoundSetup setup
         → AllTookFronts (report_of_ends setup events) }
@@ -50,15 +52,16 @@ pub fn the_headline()
         → PresentRanAsMachine setup (run_of_ends setup events) }
 {}
 
-/// Whatever happens on the line, each end has said what it can: on a link that is up the window lets no message more out or
-/// none waits to be sent, and there is something to say or to take yet.
+/// States that each end has said what it can, whatever happens on the line. On a link that is up, the window lets no
+/// more messages out or none waits to be sent, and there is something to say or to take yet.
 pub fn each_end_has_said_what_it_can()
     ensures { (setup : SetupValue) (events : List Event) → IsSoundSetup setup
         → HaveSpoken by_themselves setup (run_of_ends setup events) }
 {}
 
-/// A run stops exactly where an end finds a packet that was not sent to it: one that, with those found before it in the
-/// session, is not among the packets that the other end emitted, in this order and none more often.
+/// States that a run stops exactly where an end finds a packet that was not sent to it. Together with those found
+/// before it in the session, that packet is not among those that the other end emitted, in this order and none more
+/// often.
 pub fn a_run_stops_at_what_was_not_sent()
     // Arrivals are places among the packets that the other end emitted. That they are those of the packets that the end found
     // in the bytes that came to it is the law `an_end_finds_what_came`.
@@ -77,8 +80,8 @@ pub fn a_run_stops_at_what_was_not_sent()
         → StoppedAt by_themselves setup events number side }
 {}
 
-/// What is told of a session that is over stays, whatever happens then; and each of them was the present one behind fewer
-/// events, of which the laws here speak as of any.
+/// States that the report of a session that is over stays the same, whatever happens then. Each of these sessions was
+/// the present one after fewer events, and the laws here cover it there.
 pub fn sessions_that_are_over_stay()
     ensures stay { (setup : SetupValue) (events more : List Event) → StayOver setup events more }
     ensures were_present { (setup : SetupValue) (events : List Event) (number : ℕ)
@@ -87,8 +90,8 @@ pub fn sessions_that_are_over_stay()
         → WasPresent setup events number session }
 {}
 
-/// Whatever happens on the line, what comes to an end in a session is bytes, where what the run is given is of bytes, as the
-/// program's types say.
+/// States that an end receives only bytes in a session, whatever happens on the line. The set-up and the events must be
+/// of bytes, as the program's types say.
 pub fn what_comes_is_bytes()
     ensures ends { (setup : SetupValue) (events : List Event) (side : Side) → IsSoundSetup setup
         → IsSetupOfBytes setup
@@ -98,10 +101,10 @@ pub fn what_comes_is_bytes()
         → AreOfBytes events → AreBytes (at side (came_in by_numbers setup events)) }
 {}
 
-/// In whatever pieces bytes come to an end, in each session, what it finds in them is what stands in all of them: the texts
-/// of its greeting, and then, from the first byte behind the text with which the link began, the items of the link. The packets
-/// that have places among those of the other end are the packets among these items, and no others. A session that is over was the
-/// present one behind fewer events.
+/// States that an end finds in each session what is in all bytes that it received, in whatever pieces they arrived. It
+/// finds the texts of its greeting, and then the items of the link, from the first byte after the text with which the
+/// link began. The packets that have places among those of the other end are the packets among these items, and no
+/// others. A session that is over was the present one after fewer events.
 pub fn an_end_finds_what_came()
     ensures heard { (setup : SetupValue) (events : List Event) (side : Side) → IsSoundSetup setup
         → IsSetupOfBytes setup

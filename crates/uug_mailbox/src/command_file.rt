@@ -1,4 +1,4 @@
-//! The lines of a C. file that are not over, and the jobs of a session.
+//! The open lines of a C. file, and the jobs of a session.
 ghost use Rattle.std.specs.Prelude.{◌≡◌, ◌++◌, [], min, take, IfOk, OnOk};
 ghost use Rattle.uug_conversation.specs.Jobs.{at_start, pending};
 ghost use Rattle.uug_conversation.specs.declared.queue.TheConstants.{JOBS_MAX};
@@ -14,7 +14,7 @@ use uug_folder::first_jobs;
 use uug_session::{JOBS_MAX, Job, Queue};
 use uug_talk::{Name, split_line, split_word};
 
-/// Whether a line with this copy is over, where these names of data are there.
+/// Returns whether a line with this copy is over. `there` has the names of the data that is there.
 fn is_over(there: &[Name], copy: &Option<Name>) -> bool
     ensures { result ≡ is_over there.now copy.now }
 {
@@ -31,7 +31,7 @@ pub(crate) fn is_blank(line: &[u8]) -> bool
     split_word(line).is_none()
 }
 
-/// Appends the jobs of a line, before which so many stand in its file.
+/// Appends the jobs of a line. `number` counts the lines before it in its file.
 fn add_jobs<A: Allocator>(
     lines: &mut Vec<OpenLine, A>,
     file: &Name,
@@ -104,9 +104,9 @@ fn add_line<A: Allocator>(
     add_open(lines, file, number, line, there)
 }
 
-/// Appends the lines of a C. file of this name and text that are not over, where the data of these names is there. A line with
-/// a copy is over when the copy is gone, and one without a word is; one that has a command run is two, and one that no session
-/// offers has no job.
+/// Appends the lines of a C. file of this name and text that are not over. `there` has the names of the data that is
+/// there. A line with a copy is over when the copy is gone, and so is one without a word. A line that has a command run
+/// is two open lines, and one that no session offers has no job.
 pub fn add_file<A: Allocator>(
     lines: &mut Vec<OpenLine, A>,
     file: &Name,
@@ -126,7 +126,8 @@ pub fn add_file<A: Allocator>(
     Ok(())
 }
 
-/// The jobs of these lines, the first ones: so many at most, and as many as may be pending. All of them are to be offered.
+/// Returns the first jobs of these lines as a queue: at most `most`, and no more than may be pending. All of them are
+/// to be offered.
 #[tactic(auto, using(crate::proofs::OpenLinesLemmas::whole_front, crate::proofs::OpenLinesLemmas::front_is_short))]
 pub fn queue_of<A: Allocator + Copy>(
     alloc: A,
@@ -141,7 +142,7 @@ pub fn queue_of<A: Allocator + Copy>(
     first_jobs(alloc, jobs.as_slice(), jobs.len())
 }
 
-/// The jobs of these lines.
+/// Returns the jobs of these lines.
 fn jobs_of<A: Allocator>(alloc: A, lines: &[OpenLine]) -> Result<Vec<Job, A>, AllocError>
     ensures { IfOk result (λ jobs. jobs.items ≡ jobs_of lines.now) }
 {

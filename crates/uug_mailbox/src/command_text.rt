@@ -1,4 +1,4 @@
-//! The texts of C. files, of which lines are over.
+//! The texts of C. files, some of whose lines are over.
 ghost use Rattle.std.specs.Prelude.{◌≡◌, ◌++◌, IfOk, OnErr, OnOk, map};
 ghost use Rattle.uug_spool.specs.Operations.{FrontDone, HasFault, also_all};
 ghost use Rattle.uug_talk.specs.Lines.{ended, lines as lines_of_text};
@@ -20,21 +20,21 @@ pub struct CommandText<A: Allocator> {
     pub text: Vec<u8, A>,
 }
 
-/// Returns whether one of these lines stands there in the file of this name, behind so many.
+/// Returns whether one of these lines is in the file of this name, after `number` others.
 fn has_number(lines: &[OpenLine], file: &Name, number: usize) -> bool
     ensures { result ≡ has_number file.now number lines.now }
 {
     lines.iter().any(|line| line.number == number && line.file.as_bytes() == file.as_bytes())
 }
 
-/// Returns whether the line there is over, where these lines have gone and those stay.
+/// Returns whether the line there is over, when these lines have gone and those stay.
 fn is_over_in(gone: &[OpenLine], left: &[OpenLine], file: &Name, number: usize) -> bool
     ensures { result ≡ is_over_in file.now number gone.now left.now }
 {
     has_number(gone, file, number) && !has_number(left, file, number)
 }
 
-/// Returns whether a line of this file has gone that had no copy, by which it would be known that it is over.
+/// Returns whether a line of this file has gone that had no copy to show that it is over.
 fn has_lost(gone: &[OpenLine], left: &[OpenLine], file: &Name) -> bool
     ensures { result ≡ has_lost file.now gone.now left.now }
 {
@@ -67,8 +67,8 @@ fn add_left<A: Allocator>(
     Ok(())
 }
 
-/// The text of a file, where these lines have gone and those stay: what is over is an empty line, so that the others keep
-/// their numbers.
+/// Returns the text of a file, when these lines have gone and those stay. A line that is over becomes an empty one: the
+/// others keep their numbers.
 fn left_text<A: Allocator>(
     alloc: A,
     file: &Name,
@@ -102,7 +102,7 @@ fn add_packed<A: Allocator>(text: &mut Vec<u8, A>, line: &[u8]) -> Result<(), Al
     Ok(())
 }
 
-/// The lines of a text that have a word.
+/// Returns the lines of a text that have a word.
 fn packed<A: Allocator>(alloc: A, text: &[u8]) -> Result<Vec<u8, A>, AllocError>
     ensures { IfOk result (λ lines. lines.items ≡ packed (lines_of_text text.now)) }
 {
@@ -115,7 +115,7 @@ fn packed<A: Allocator>(alloc: A, text: &[u8]) -> Result<Vec<u8, A>, AllocError>
     Ok(lines)
 }
 
-/// The text of a file as it is then.
+/// Returns the text of a file, when these lines have gone and those stay.
 fn text_after<A: Allocator + Copy, B: Allocator>(
     alloc: A,
     file: &CommandText<B>,
@@ -135,7 +135,7 @@ fn text_after<A: Allocator + Copy, B: Allocator>(
     })
 }
 
-/// The texts of these files as they are then.
+/// Returns the texts of these files, when these lines have gone and those stay.
 pub(crate) fn texts_after<A: Allocator + Copy, B: Allocator>(
     alloc: A,
     files: &[CommandText<B>],
@@ -152,7 +152,7 @@ pub(crate) fn texts_after<A: Allocator + Copy, B: Allocator>(
     Ok(after)
 }
 
-/// The files among these that are written anew, each with its new text.
+/// Returns those of these files that are written anew, each with its new text.
 pub(crate) fn rewritten<A: Allocator + Copy, B: Allocator>(
     alloc: A,
     files: &[CommandText<B>],

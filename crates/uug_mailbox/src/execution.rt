@@ -1,4 +1,4 @@
-//! The commands that lines of C. files have run, and whom it is told that one was given up.
+//! The commands that lines of C. files have run, and the addressee of the notice that one was given up.
 ghost use Rattle.std.specs.Prelude.{◌≡◌};
 ghost use Rattle.uug_spool.specs.CommandLines.{command_of};
 ghost use Rattle.uug_mailbox.specs.Executions.{addressee, execution_of, execution_with, is_told_with_data, requestor_at, requestor_in, requestor_of, user_of};
@@ -9,18 +9,18 @@ use uug_session::Job;
 use uug_spool::{Command, has_option, read_command};
 use uug_talk::Name;
 
-/// The two jobs of a line that has a command run, and who asks for the command, where the line names one.
+/// The two jobs of a line that has a command run, and who asks for the command, if the line names one.
 #[derive(Clone, Copy, Debug, PartialEq, Eq)]
 pub struct Execution {
     /// The job that sends the data.
     pub input: Job,
     /// The job that sends the execution file.
     pub text: Job,
-    /// Who asks for the command.
+    /// The user who asks for the command.
     pub requestor: Option<Name>,
 }
 
-/// What a line of a C. file has run, without its line feed, if a session offers that.
+/// Reads the command that a line of a C. file has run, without its line feed, if a session offers that.
 pub fn read_execution(line: &[u8]) -> Option<Execution>
     ensures exact { result ≡ execution_of line.now }
 {
@@ -52,7 +52,8 @@ fn requestor_in(line: &[u8]) -> Option<Name>
     }
 }
 
-/// Who asks for a command with these options and this field of NOTIFY. What begins with a dash would be an option to the mailer.
+/// Returns who asks for a command with these options and this field of NOTIFY. A field that begins with a dash names
+/// nobody: it would be an option to the mailer.
 fn requestor_of(options: &[u8], notify: &[u8]) -> Option<Name>
     ensures { result ≡ requestor_of options.now notify.now }
 {
@@ -63,7 +64,7 @@ fn requestor_of(options: &[u8], notify: &[u8]) -> Option<Name>
     }
 }
 
-/// Whom a job belongs to.
+/// Returns the user that a job belongs to.
 fn user_of(job: &Job) -> Name
     ensures { result ≡ user_of job.now }
 {
@@ -73,7 +74,7 @@ fn user_of(job: &Job) -> Name
     }
 }
 
-/// Who asks for the first of these commands that has this job, where it is known.
+/// Returns who asks for the first of these commands that has this job, if that is known.
 fn requestor_at(executions: &[Execution], job: &Job) -> Option<Name>
     ensures { result ≡ requestor_at executions.now job.now }
 {
@@ -85,7 +86,8 @@ fn requestor_at(executions: &[Execution], job: &Job) -> Option<Name>
     None
 }
 
-/// Whom it is told that this job was given up: who asks for its command, where the line names one, else its user.
+/// Returns whom to notify that this job was given up: who asks for its command, if the line names one, and otherwise
+/// its user.
 pub fn addressee(executions: &[Execution], job: &Job) -> Name
     ensures { result ≡ addressee executions.now job.now }
 {
@@ -95,7 +97,8 @@ pub fn addressee(executions: &[Execution], job: &Job) -> Name
     }
 }
 
-/// Whether this job sends the execution file of a command whose data was given up too: that is told already.
+/// Returns whether this job sends the execution file of a command whose data was given up too: that has a notice
+/// already.
 pub fn is_told_with_data(executions: &[Execution], failed: &[Job], job: &Job) -> bool
     ensures { result ≡ is_told_with_data executions.now failed.now job.now }
 {

@@ -7,7 +7,7 @@ use std::alloc::{AllocError, Allocator};
 use uug_conversation::has_name;
 use uug_talk::Name;
 
-/// Whether a line with this copy has data that can't be read, where that of these names can't.
+/// Returns whether a line with this copy has data that can't be read. `unread` has the names of that data.
 fn is_held(unread: &[Name], copy: &Option<Name>) -> bool
     ensures { result ≡ is_held unread.now copy.now }
 {
@@ -32,7 +32,8 @@ fn held_line(unread: &[Name], line: &OpenLine) -> OpenLine
     }
 }
 
-/// The lines, where the data of these names can't be read: a line with such a copy stays as it is, and has no job.
+/// Returns the lines, when the data of these names can't be read. A line with one of these copies stays as it is, and
+/// has no job.
 pub fn held_lines<A: Allocator>(
     alloc: A,
     lines: &[OpenLine],

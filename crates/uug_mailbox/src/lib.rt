@@ -1,5 +1,6 @@
-//! The mail of one system in a spool of Taylor UUCP, as the jobs and files of an end: the lines of its C. files, what a session
-//! offers of them, what goes from the disk when a job is over, and where the files of the other system come.
+//! The mail of one system in a spool of Taylor UUCP, as the jobs and files of an end: the lines of its C. files, the
+//! jobs that a session offers for them, the files that are removed when a job is over, and the places of the files that
+//! the other system sends.
 //! Nothing here calls the system.
 #![tactic(auto)]
 

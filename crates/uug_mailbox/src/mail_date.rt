@@ -4,7 +4,7 @@ ghost use Rattle.uug_mailbox.specs.MailDates.{day_named, day_word, march_year, m
 
 use uug_spool::Moment;
 
-/// What a month is called, counted from 1.
+/// Returns the name of a month, counted from 1.
 pub fn month_word(month: u8) -> &'static str
     ensures { result.now ≡ month_word month }
 {
@@ -24,7 +24,7 @@ pub fn month_word(month: u8) -> &'static str
     }
 }
 
-/// By so many days of the week the months before this one shift it.
+/// Returns the number of days of the week by which the months before this one shift it.
 fn month_shift(month: u8) -> u32
     ensures exact { result ≡ month_shift month }
     ensures small { result ≤ 6 }
@@ -45,7 +45,7 @@ fn month_shift(month: u8) -> u32
     }
 }
 
-/// The year to which a month belongs, where years begin in March.
+/// Returns the year to which a month belongs, if years begin in March.
 fn march_year(year: u16, month: u8) -> u16
     ensures { result ≡ march_year year month }
 {
@@ -56,7 +56,7 @@ fn march_year(year: u16, month: u8) -> u16
     }
 }
 
-/// The day of the week, from Sunday on.
+/// Returns the day of the week, from Sunday on.
 fn weekday_of(moment: &Moment) -> u32
     ensures { result ≡ weekday_of moment.now }
 {
@@ -79,7 +79,7 @@ fn day_named(day: u32) -> &'static str
     }
 }
 
-/// What the day of the week is called.
+/// Returns the name of the day of the week.
 pub fn day_word(moment: &Moment) -> &'static str
     ensures { result.now ≡ day_word moment.now }
 {

@@ -1,4 +1,4 @@
-//! The files of an end over a spool: those that it gives, and the folders into which those go that come.
+//! The files of an end over a spool: those that it gives, and the folders for those that it receives.
 ghost use Rattle.std.specs.Prelude.{◌≡◌, ◌≢◌, ◌<◌, ◌≤◌, ◌⊎◌, ◌↔◌, ◌^◌, ◌-◌, [], ◌∷◌, ◌++◌, IfOk, OnErr, OnOk, length, map, true, vec_len, vec_capacity};
 ghost use Rattle.uug_conversation.specs.FileView.{shown_file};
 ghost use Rattle.uug_conversation.specs.Holdings.{kept_file};
@@ -22,15 +22,15 @@ use uug_session::{FileView, KeepFault, Spool, Stored, Verdict};
 use uug_spool::Disk;
 use uug_talk::{MODE_MAX, Name};
 
-/// The files of an end over a spool. A file that it gives is named by its copy or its path, or by its name in the public folder; one
-/// that comes goes where its name says, as the public folder was when the session began.
+/// The files of an end over a spool. A file that it gives is named by its copy or its path, or by its name in the
+/// public folder. A received one goes where its name says, with the public folder as it was when the session began.
 #[derive(Drop)]
 pub struct MailSpool<D, A: Allocator> {
     given: Vec<Stored<A>, A>,
     public: PublicFolder<A>,
-    /// Records what was kept, for clauses alone: the bytes are in the spool, and no longer in memory.
+    /// The files that were kept, for clauses alone: the bytes are in the spool, and no longer in memory.
     kept: Vec<Snapshot<Stored<A>>, A>,
-    /// The folders in which it is.
+    /// The folders of the spool.
     pub folder: SpoolFolder<D, A>,
     lenient: bool,
     digests: bool,
@@ -39,7 +39,7 @@ pub struct MailSpool<D, A: Allocator> {
 }
 
 impl<D: Disk, A: Allocator + Copy> MailSpool<D, A> {
-    /// The spool with these files to give, over these folders, that has kept none. It takes no memory.
+    /// Makes the spool with these files to give, over these folders, that has kept none. It takes no memory.
     pub fn new(
         alloc: A,
         given: Vec<Stored<A>, A>,
@@ -158,7 +158,7 @@ fn is_delayed_in<A: Allocator>(public: &PublicFolder<A>, name: &Option<Name>) ->
     }
 }
 
-/// The file under just this name; else that of this name in the public folder.
+/// Returns the file under just this name, or else that of this name in the public folder.
 fn given<'a, A: Allocator>(files: &'a [Stored<A>], name: &Name) -> Option<FileView<'a>>
     ensures { shown_file result ≡ given (map kept_of files.now) name.now }
 {
@@ -191,7 +191,7 @@ fn first_named<'a, A: Allocator>(files: &'a [Stored<A>], name: &Name) -> Option<
     None
 }
 
-/// Makes room for one file more, and makes a file of these bytes.
+/// Makes room for one more file, and makes a file of these bytes.
 fn copy_beside_room<A: Allocator + Copy>(
     kept: &mut Vec<Snapshot<Stored<A>>, A>,
     alloc: A,
@@ -212,7 +212,7 @@ fn copy_beside_room<A: Allocator + Copy>(
     })
 }
 
-/// Adds a file to those that were kept, in room that is there.
+/// Adds a file to those that were kept, in reserved room.
 fn push_kept<A: Allocator>(kept: &mut Vec<Snapshot<Stored<A>>, A>, file: &Stored<A>)
     requires { vec_len kept.old < vec_capacity kept.old }
     ensures { map kept_of (map (λ f. f.value) kept.new.items)

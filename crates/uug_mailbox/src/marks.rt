@@ -1,4 +1,4 @@
-//! The markers of files that have come, and which of them stand.
+//! The markers of received files, and which of them are there.
 ghost use Rattle.std.specs.Prelude.{◌≡◌};
 ghost use Rattle.std.specs.List.{list_any};
 ghost use Rattle.uug_talk.specs.Lines.{lines};
@@ -9,7 +9,8 @@ use uug_digest::hash_text;
 use uug_spool::Room;
 use uug_talk::{Name, split_line};
 
-/// A marker that stood when the session began: its file is in its place, or was used up there, and may come again.
+/// A marker that was there when the session began. Its file is in its place, or was used up there, and may be sent
+/// again.
 #[derive(Drop)]
 pub struct Came<A: Allocator> {
     /// Its name, which is that of its file.
@@ -18,19 +19,19 @@ pub struct Came<A: Allocator> {
     pub text: Vec<u8, A>,
 }
 
-/// The files of this session whose markers stand.
+/// The files of this session whose markers are there.
 #[derive(Clone, Copy, Debug, PartialEq, Eq)]
 pub struct Marks {
-    /// The data that came with the last file, where that is an execution file.
+    /// The data received with the last file, if that is an execution file.
     pub before: Option<Name>,
     /// The last file.
     pub last: Option<Name>,
-    /// Whether the last file is data that had not come before the session.
+    /// True if the last file is data that was not received before the session.
     pub is_new: bool,
 }
 
-/// Whether an execution file that comes leaves the marker of the last file, which is data: the sender has not sent the last
-/// of the two for good before it knows of both.
+/// Returns whether a received execution file leaves the marker of the last file, which is data. The sender has not sent
+/// the last of the two for good before it knows of both.
 pub(crate) fn keeps(room: Room, last: &Option<Name>) -> bool
     ensures { result ≡ keeps room last.now }
 {
@@ -40,14 +41,15 @@ pub(crate) fn keeps(room: Room, last: &Option<Name>) -> bool
     }
 }
 
-/// Whether files of this place are the data of execution files.
+/// Returns whether files of this place are the data of execution files.
 fn is_data(room: Room) -> bool
     ensures { result ≡ is_data room }
 {
     matches!(room, Room::Data | Room::Text)
 }
 
-/// The markers that stand once a file of this place and name has come, which had come before the session or not.
+/// Returns the markers that are there once a file of this place and name is received, which was received before the
+/// session or not.
 pub(crate) fn next_marks(marks: &Marks, room: Room, again: bool, name: &Name) -> Marks
     ensures { result ≡ next_marks marks.now room again name.now }
 {
@@ -63,7 +65,7 @@ pub(crate) fn next_marks(marks: &Marks, room: Room, again: bool, name: &Name) ->
     }
 }
 
-/// Whether this marker has the name.
+/// Returns whether this marker has the name.
 pub(crate) fn is_mark(mark: &Option<Name>, name: &Name) -> bool
     ensures { result ≡ is_mark mark.now name.now }
 {
@@ -73,7 +75,7 @@ pub(crate) fn is_mark(mark: &Option<Name>, name: &Name) -> bool
     }
 }
 
-/// Whether the text of an execution file names a file that has to be there.
+/// Returns whether the text of an execution file names a file that has to be there.
 fn names_data(text: &[u8]) -> bool
     ensures { result ≡ names_data text.now }
 {
@@ -101,9 +103,10 @@ fn has_same_text<A: Allocator>(came: &[Came<A>], text: &[u8]) -> bool
     came.iter().any(|other| other.text.as_slice() == text)
 }
 
-/// Whether a file of this place, name and bytes had come before the session. Its name alone does not tell: names begin anew
-/// with a spool that is made anew. An execution file is new where the data before it is; else it is known by its text as well,
-/// since Taylor UUCP gives it another name at each try: the name of its data is in it.
+/// Returns whether a file of this place, name and bytes was received before the session. Its name alone does not show
+/// that: names begin anew with a spool that is made anew. An execution file is new if the data before it is. Otherwise
+/// it is known by its text as well, because Taylor UUCP gives it another name at each try: the name of its data is in
+/// it.
 pub(crate) fn is_again<A: Allocator>(
     room: Room,
     is_new: bool,

@@ -1,4 +1,4 @@
-//! What a session offers of a line of a C. file.
+//! The jobs that a session offers for a line of a C. file.
 ghost use Rattle.std.specs.Prelude.{◌≡◌};
 ghost use Rattle.uug_talk.specs.Words.{words};
 ghost use Rattle.uug_spool.specs.CommandLines.{command_of};
@@ -13,33 +13,33 @@ use uug_spool::{
 };
 use uug_talk::Name;
 
-/// What a line of a C. file asks for.
+/// The jobs of a line of a C. file.
 #[derive(Clone, Copy, Debug, PartialEq, Eq)]
 pub struct Offer {
     /// The name of the data, if it is a copy.
     pub copy: Option<Name>,
-    /// The job, or that of the data where a command is run with it.
+    /// The job, or that of the data if a command is run with it.
     pub first: Job,
     /// The job that sends the execution file of a command that is run.
     pub second: Option<Job>,
 }
 
-/// Why a session offers nothing of a line of a C. file.
+/// The reason for which a session offers nothing for a line of a C. file.
 #[derive(Clone, Copy, Debug, PartialEq, Eq, Error)]
 pub enum NotOffered {
-    /// It is no command.
+    /// The line is no command.
     #[error("{0}")]
     Bad(CommandFault),
-    /// It has a wildcard expanded at the other system.
+    /// The line has a wildcard expanded at the other system.
     #[error("a wildcard for the other system")]
     Wildcard,
-    /// Its names are quoted, so that one of them has bytes which no command of a session has.
+    /// The names of the line are quoted: one of them may have bytes that no command of a session has.
     #[error("quoted names")]
     Quoted,
-    /// One of its names is longer than a name of a session, or has other bytes, or is that of no data.
+    /// A name of the line is longer than a name of a session, or has other bytes, or is that of no data.
     #[error("a name that no session has")]
     Name,
-    /// Its data is no copy, and the path of its source isn't whole.
+    /// The data of the line is no copy, and the path of its source isn't whole.
     #[error("a path that is not whole")]
     Relative,
 }
@@ -52,7 +52,7 @@ struct JobNames {
     user: Name,
 }
 
-/// The name that a word is.
+/// Returns the name that a word is.
 fn named(word: &[u8]) -> Result<Name, NotOffered>
     ensures { result ≡ named word.now }
 {
@@ -81,7 +81,8 @@ fn words_of(fields: &Fields<'_>) -> Result<JobNames, NotOffered>
     })
 }
 
-/// The name of the copy, where the options say that the data is one of this name. Else it is the file at the source's path.
+/// Returns the name of the copy, if the options say that the data is one of this name. Otherwise the data is the file
+/// at the source's path.
 fn copied(options: &[u8], source: &[u8], temp: &[u8]) -> Result<Option<Name>, NotOffered>
     ensures { result ≡ copied options.now source.now temp.now }
 {
@@ -112,7 +113,7 @@ fn sent(fields: &Fields<'_>, file: &SentFile<'_>) -> Result<Offer, NotOffered>
     Ok(sending(&names, &copy))
 }
 
-/// A job that sends a file, and nothing with it.
+/// Makes a job that sends a file, and nothing with it.
 fn sending(names: &JobNames, copy: &Option<Name>) -> Offer
     ensures { result ≡ sending names.now copy.now }
 {
@@ -143,7 +144,7 @@ fn requested(fields: &Fields<'_>) -> Result<Offer, NotOffered>
     })
 }
 
-/// The name that an execution file has here.
+/// Returns the name that an execution file has here.
 pub fn text_name(options: &[u8], target: &[u8], temp: &[u8]) -> Option<Name>
     ensures { result ≡ text_name options.now target.now temp.now }
 {
@@ -173,8 +174,8 @@ fn executed(fields: &Fields<'_>, file: &SentFile<'_>) -> Result<Offer, NotOffere
     })
 }
 
-/// What a session offers of a line of a C. file, without its line feed. A line that has a command run is two jobs: its data,
-/// and the execution file, whose names are those of the data with an `X`, the same at each try.
+/// Returns the jobs that a session offers for a line of a C. file, without its line feed. A line that has a command run
+/// is two jobs: its data, and the execution file, whose names are those of the data with an `X`, the same at each try.
 pub fn read_offer(line: &[u8]) -> Result<Offer, NotOffered>
     ensures exact { result ≡ offer_of line.now }
 {

@@ -14,15 +14,15 @@ use uug_session::Job;
 pub(crate) struct Parted<A: Allocator, B: Allocator> {
     /// Those whose jobs are done, then those whose jobs have failed, then those that stay.
     pub(crate) order: Vec<OpenLine, B>,
-    /// So many of them are done.
+    /// The number of those that are done.
     pub(crate) done: usize,
-    /// So many behind those have failed.
+    /// The number of those after them that have failed.
     pub(crate) failed: usize,
     /// Those that stay.
     pub(crate) left: Vec<OpenLine, A>,
 }
 
-/// Divides these lines, where these jobs are over, each once: those that were done, and those that have failed.
+/// Divides these lines by the jobs that are over, each once: those that were done, and those that have failed.
 pub(crate) fn divided<A: Allocator + Copy, B: Allocator + Copy>(
     alloc: A,
     spare: B,
@@ -48,7 +48,8 @@ pub(crate) fn divided<A: Allocator + Copy, B: Allocator + Copy>(
     })
 }
 
-/// Appends each line whose job is one of these, once for each of them, to those that go, and each other one to those that stay.
+/// Appends each line whose job is one of these, once for each of them, to those that go, and each other line to those
+/// that stay.
 fn part<A: Allocator, B: Allocator, C: Allocator>(
     spare: B,
     over: &[Job],
@@ -70,7 +71,7 @@ fn part<A: Allocator, B: Allocator, C: Allocator>(
     Ok(())
 }
 
-/// Takes this job out of those that are over, if it is among them. The answer is whether it was.
+/// Removes this job from those that are over, if it is among them. Returns whether it was.
 fn is_taken<A: Allocator>(over: &mut Vec<Job, A>, job: &Option<Job>) -> bool
     ensures { IsTaken result (without_said job.now over.old.items) over.old.items over.new.items }
 {

@@ -1,4 +1,4 @@
-//! Where a file goes that another system sends, by what stands in the public folder when the session begins.
+//! The place of a file that another system sends, by what is in the public folder when the session begins.
 ghost use Rattle.std.specs.Path.{rsplit_once, slash};
 ghost use Rattle.std.specs.Prelude.{◌≡◌, ◌++◌, MatchOption, None, Some, codes};
 ghost use Rattle.uug_mailbox.specs.Places.{deep_by, deep_place, front_of, is_public_last, is_public_name, is_spooled, is_taken, landing, last_part, place_in, placed, shown_public, temp_name, top_place, without_slash};
@@ -14,18 +14,18 @@ use uug_talk::{NAME_MAX, Name};
 /// The most bytes of a path below the public folder: two names, a tilde and two slashes.
 const PATH_MAX: usize = NAME_MAX + 3;
 
-/// Lists what stands in the public folder when a session begins.
+/// The contents of the public folder when a session begins.
 #[derive(Drop)]
 pub struct PublicFolder<A: Allocator> {
     /// The names of its folders.
     pub folders: Vec<Name, A>,
     /// The names under which nothing can be put there.
     pub barred: Vec<Name, A>,
-    /// Tells whether nothing can be put there at all.
+    /// True if nothing can be put there at all.
     pub is_closed: bool,
-    /// Names the files that can't be given now, but may be later.
+    /// The names of the files that can't be given now, but may be later.
     pub delayed: Vec<Name, A>,
-    /// Says that its files could not be listed: each may be given later.
+    /// True if its files could not be listed: each may be given later.
     pub is_unknown: bool,
 }
 
@@ -40,7 +40,7 @@ pub fn split_last(path: &str) -> Option<(&str, &str)>
     }
 }
 
-/// Returns what stands behind the last slash of a name.
+/// Returns the part of a name after the last slash.
 fn last_part(name: &Name) -> &[u8]
     ensures { result.now ≡ last_part name.now }
 {
@@ -61,8 +61,8 @@ fn is_public_name(name: &Name) -> bool
 }
 
 impl<A: Allocator> PublicFolder<A> {
-    /// The place of a file that comes under this name, if it has one: a folder there takes the files whose names begin with its
-    /// own and a slash, and no name with a further slash is taken.
+    /// Returns the place of a file that arrives under this name, if it has one. A folder there takes the files whose
+    /// names begin with its own and a slash. No name with a further slash is taken.
     pub fn place_in(&self, name: &Name) -> Option<Spot>
         ensures { result ≡ place_in (shown_public self.now) name.now }
     {
@@ -115,7 +115,7 @@ impl<A: Allocator> PublicFolder<A> {
         }
     }
 
-    /// The place of this name in a folder there.
+    /// Returns the place of this name in a folder there.
     fn deep_by(&self, name: &Name) -> Option<Spot>
         ensures { result ≡ deep_by (shown_public self.now) name.now (rsplit_once slash name.now) }
     {
@@ -135,8 +135,8 @@ impl<A: Allocator> PublicFolder<A> {
 }
 
 impl<A: Allocator> PublicFolder<A> {
-    /// Returns under which name a file of this name is kept that is sent to this one: in the public folder, or in a folder there, under the
-    /// last part of its own.
+    /// Returns the name under which a file of the one name is kept that is sent to the other. In the public folder, or
+    /// in a folder there, it is kept under the last part of its own name.
     pub fn landing(&self, source: &Name, target: &Name) -> Name
         ensures { result ≡ landing (shown_public self.now) source.now target.now }
     {
@@ -164,7 +164,7 @@ fn is_spooled(target: &Name) -> bool
     }
 }
 
-/// A name without a slash at its end.
+/// Returns a name without a slash at its end.
 fn without_slash(name: &[u8]) -> &[u8]
     ensures { result.now ≡ without_slash name.now }
 {
@@ -174,7 +174,8 @@ fn without_slash(name: &[u8]) -> &[u8]
     }
 }
 
-/// The name with this last part in this folder of the public folder, or right in it where the folder has no name; if that is one.
+/// Returns the name with this last part in this folder of the public folder, or right in the public folder if `folder`
+/// is empty. `None` if that is no name.
 fn below_home(folder: &[u8], last: &[u8]) -> Option<Name>
     ensures { result ≡ name_of (codes "~/" ++ front_of folder.now ++ last.now) }
 {
@@ -206,7 +207,7 @@ fn is_public_last(last: &[u8]) -> bool
     }
 }
 
-/// The name that a file of this place has while it comes: what stands behind the last slash of its own.
+/// Returns the name of a file of this place while it is received: the part of its own name after the last slash.
 pub fn temp_name(target: &Spot) -> Name
     ensures { result ≡ temp_name target.now }
 {

@@ -1,4 +1,4 @@
-//! What is done on the disk when a job is over, before anything is written that acknowledges it.
+//! The operations on the disk when a job is over, before anything is written that acknowledges it.
 ghost use Rattle.std.specs.Prelude.{◌≡◌, ℕ, List, Some, false, OnOk, OnErr};
 ghost use Rattle.uug_spool.specs.Operations.{FrontDone, HasFault, also_all};
 ghost use Rattle.uug_spool.specs.SpoolNames.{data_spot, spot};
@@ -11,7 +11,7 @@ use crate::open_line::{OpenLine, Outcome};
 use uug_spool::{Disk, DiskFailed, Room, Spot, data_spot};
 use uug_talk::Name;
 
-/// Takes a copy away.
+/// Removes a copy.
 fn remove<D: Disk>(disk: &mut D, copy: &Spot) -> Result<(), DiskFailed>
     ensures ok { OnOk result (D.done disk.new
         ≡ also_all (removed_ops copy.now) (D.done disk.old)) }
@@ -57,14 +57,14 @@ fn is_of(copy: &Name, other: &Option<Name>) -> bool
     }
 }
 
-/// Whether one of these lines has this copy.
+/// Returns whether one of these lines has this copy.
 fn has_copy(lines: &[OpenLine], copy: &Name) -> bool
     ensures { result ≡ has_copy copy.now lines.now }
 {
     lines.iter().any(|line| is_of(copy, &line.copy))
 }
 
-/// Whether one of these lines stands in the file of this name.
+/// Returns whether one of these lines is in the file of this name.
 pub(crate) fn has_line(lines: &[OpenLine], file: &Name) -> bool
     ensures { result ≡ has_line file.now lines.now }
 {
@@ -73,7 +73,8 @@ pub(crate) fn has_line(lines: &[OpenLine], file: &Name) -> bool
         .any(|line| line.file.as_bytes() == file.as_bytes())
 }
 
-/// Takes the copy of a job away that is over, unless one of these other lines has it, or preserves it if the job has failed.
+/// Removes the copy of a job that is over, unless one of these other lines has it, or preserves it if the job has
+/// failed.
 fn settle_copy<D: Disk>(
     disk: &mut D,
     copy: &Option<Name>,
@@ -103,7 +104,7 @@ fn settle_copy<D: Disk>(
     }
 }
 
-/// Takes the C. file of this name away, unless one of these lines stands in it.
+/// Removes the C. file of this name, unless one of these lines is in it.
 pub fn settle_file<D: Disk>(
     disk: &mut D,
     file: &Name,
@@ -128,10 +129,11 @@ pub fn settle_file<D: Disk>(
     Ok(())
 }
 
-/// Takes a line off the disk that is over, where these are the other ones that are not. First goes its copy, unless another of
-/// them has it; where the job has failed it is preserved at once. Then the C. file goes, if none of the others stands in it.
-/// Where it is stopped in between, the line has no copy, and so is over for whoever reads it next: wherever a power cut stops it,
-/// the C. file is as it was, or the copy is gone for good, which it is once all is done.
+/// Removes a line that is over from the disk; `others` are those that are not. First its copy goes, unless another of
+/// them has it; if the job has failed, it is preserved at once. Then the C. file goes, if none of the others is in it.
+///
+/// If it is stopped in between, the line has no copy, and is over for whoever reads it next. Wherever a power cut stops
+/// it, the C. file is as it was, or the copy is gone for good. The copy is gone once all is done.
 pub fn settle<D: Disk>(
     disk: &mut D,
     line: &OpenLine,
@@ -156,7 +158,7 @@ pub fn settle<D: Disk>(
     Ok(())
 }
 
-/// The operations of `settle`, in their order.
+/// Performs the operations of `settle`, in their order.
 fn settle_line<D: Disk>(
     disk: &mut D,
     line: &OpenLine,
@@ -177,7 +179,7 @@ fn settle_line<D: Disk>(
     Ok(())
 }
 
-/// Takes the first so many of these lines off the disk, one after the other.
+/// Removes the first `count` of these lines from the disk, one after the other.
 #[tactic(auto, using(crate::proofs::PartingLemmas::one_is_over_in_part))]
 pub(crate) fn settle_first<D: Disk>(
     disk: &mut D,

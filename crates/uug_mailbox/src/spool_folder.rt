@@ -11,27 +11,27 @@ use uug_digest::hash_text;
 use uug_spool::{Disk, DiskFailed, Room, Spot, store};
 use uug_talk::Name;
 
-/// No marker of the session stands.
+/// The marks of a session without markers.
 const NO_MARKS: Marks = Marks {
     before: None,
     last: None,
     is_new: false,
 };
 
-/// The folders of a spool, as one folder that takes the files of another system, each with a marker of its name. The marker of
-/// a file is taken away when the next one comes, which shows that the other system knows of it; that of data stays when its
-/// execution file comes, since both come again where the other system does not know of both.
+/// The folders of a spool, as one folder that takes the files of another system, each with a marker of its name. The
+/// marker of a file is removed when the next one arrives, which shows that the other system knows of it. The marker of
+/// data stays when its execution file arrives: both are sent again if the other system does not know of both.
 #[derive(Drop)]
 pub struct SpoolFolder<D, A: Allocator> {
     pub disk: D,
-    /// The markers that stood when the session began.
+    /// The markers that were there when the session began.
     came: Vec<Came<A>, A>,
-    /// The files of the session whose markers stand.
+    /// The files of the session whose markers are there.
     marks: Marks,
 }
 
 impl<D: Disk, A: Allocator> SpoolFolder<D, A> {
-    /// The folders of this disk, on which these markers stand.
+    /// Makes a folder of the folders of this disk, on which these markers are.
     pub fn new(disk: D, came: Vec<Came<A>, A>) -> Self
         ensures came { came_of result ≡ came.items }
         ensures marks { marks_of result ≡ no_marks }
@@ -43,15 +43,15 @@ impl<D: Disk, A: Allocator> SpoolFolder<D, A> {
         }
     }
 
-    /// The files of the session whose markers stand.
+    /// Returns the files of the session whose markers are there.
     pub fn marks(&self) -> Marks
         ensures { result ≡ marks_of self.now }
     {
         self.marks
     }
 
-    /// Puts a file in this place, and takes the markers of those before away. A file of the spool that had come already is
-    /// dropped: it is in its place, or was used up there.
+    /// Puts a file in this place, and removes the markers of those before. A file of the spool that had arrived already
+    /// is dropped: it is in its place, or was used up there.
     pub fn place(&mut self, target: &Spot, bytes: &[u8]) -> Result<(), DiskFailed>
         ensures ok { OnOk result (D.done self.new.disk
             ≡ also_all (place_ops (marks_of self.old) (came_of self.old) target.now bytes.now)
@@ -71,7 +71,7 @@ impl<D: Disk, A: Allocator> SpoolFolder<D, A> {
         Ok(())
     }
 
-    /// Takes the markers of the session away, when it has ended well.
+    /// Removes the markers of the session, when it has ended well.
     pub fn end(&mut self) -> Result<(), DiskFailed>
         ensures ok { OnOk result (D.done self.new.disk
             ≡ also_all (end_ops (marks_of self.old)) (D.done self.old.disk)) }
@@ -85,7 +85,7 @@ impl<D: Disk, A: Allocator> SpoolFolder<D, A> {
     }
 }
 
-/// Takes the marker of this name away, if there is one.
+/// Removes the marker of this name, if there is one.
 fn remove_marker<D: Disk>(disk: &mut D, mark: &Option<Name>) -> Result<(), DiskFailed>
     ensures ok { OnOk result (D.done disk.new ≡ also_all (mark_ops mark.now) (D.done disk.old)) }
     ensures err { OnErr result (FrontDone (mark_ops mark.now) (D.done disk.old) (D.done disk.new)) }
@@ -99,7 +99,7 @@ fn remove_marker<D: Disk>(disk: &mut D, mark: &Option<Name>) -> Result<(), DiskF
     }
 }
 
-/// Takes the markers that stand away.
+/// Removes the markers that are there.
 pub fn remove_markers<D: Disk>(disk: &mut D, marks: &Marks) -> Result<(), DiskFailed>
     ensures ok { OnOk result (D.done disk.new ≡ also_all (end_ops marks.now) (D.done disk.old)) }
     ensures err { OnErr result (FrontDone (end_ops marks.now) (D.done disk.old) (D.done disk.new)) }
@@ -109,7 +109,7 @@ pub fn remove_markers<D: Disk>(disk: &mut D, marks: &Marks) -> Result<(), DiskFa
     Ok(())
 }
 
-/// Sees on the device which markers stand, where one of these has this name.
+/// Syncs the folder of the markers to disk, if one of these has this name.
 fn see_markers<D: Disk>(disk: &mut D, marks: &Marks, name: &Name) -> Result<(), DiskFailed>
     ensures ok { OnOk result (D.done disk.new
         ≡ also_all (seen_ops marks.now name.now) (D.done disk.old)) }
@@ -123,7 +123,7 @@ fn see_markers<D: Disk>(disk: &mut D, marks: &Marks, name: &Name) -> Result<(), 
     }
 }
 
-/// Takes the markers of the files before away, unless they stay where a file of this place comes.
+/// Removes the markers of the files before, unless they stay when a file of this place arrives.
 fn unmark<D: Disk>(disk: &mut D, marks: &Marks, room: Room, name: &Name) -> Result<(), DiskFailed>
     ensures ok { OnOk result (D.done disk.new
         ≡ also_all (unmark_ops marks.now room name.now) (D.done disk.old)) }
@@ -138,7 +138,8 @@ fn unmark<D: Disk>(disk: &mut D, marks: &Marks, room: Room, name: &Name) -> Resu
     Ok(())
 }
 
-/// Puts a file in this place, unless it had come before the session, when the markers of those before are gone.
+/// Removes the markers of the files before, and then puts a file in this place, unless it was received before the
+/// session.
 #[tactic(auto, using(crate::proofs::OverLemmas::both_done, crate::proofs::OverLemmas::front_of_first, crate::proofs::OverLemmas::front_of_both))]
 fn place_at<D: Disk>(
     disk: &mut D,
@@ -161,7 +162,7 @@ fn place_at<D: Disk>(
     Ok(())
 }
 
-/// Puts a file in this place, unless it had come before the session.
+/// Puts a file in this place, unless it was received before the session.
 fn store_new<D: Disk>(
     disk: &mut D,
     again: bool,

@@ -20,8 +20,8 @@ use uug_session::Job;
 use uug_spool::{Disk, DiskFailed};
 use uug_stream::ToolFault;
 
-/// The jobs of an end over the C. files of a system: their lines that are not over, the texts in which these stand, and the disk
-/// from which one goes that is.
+/// The jobs of an end over the C. files of a system: their lines that are not over, the texts that have these lines,
+/// and the disk from which a line that is over is removed.
 #[derive(Drop)]
 pub struct WorkStore<D, A: Allocator> {
     pub disk: D,
@@ -31,7 +31,7 @@ pub struct WorkStore<D, A: Allocator> {
 }
 
 impl<D: Disk, A: Allocator + Copy> WorkStore<D, A> {
-    /// The store of these lines, which were read of these C. files on this disk.
+    /// Makes the store of these lines, which were read from these C. files on this disk.
     pub fn new(alloc: A, disk: D, lines: Vec<OpenLine, A>, files: Vec<CommandText<A>, A>) -> Self
         ensures lines { lines_of result ≡ lines.items }
         ensures files { files_of result ≡ map shown_text files.items }
@@ -45,16 +45,16 @@ impl<D: Disk, A: Allocator + Copy> WorkStore<D, A> {
         }
     }
 
-    /// The lines that are not over.
+    /// Returns the lines that are not over.
     pub fn lines(&self) -> &[OpenLine]
         ensures { result.now ≡ lines_of self.now }
     {
         self.lines.as_slice()
     }
 
-    /// Takes these jobs out, each once: those that were done, and those that have failed. Of a line with two jobs the copy goes
-    /// with the second of them. A C. file that has lost a line without a copy, and has others, is written anew. After a fault the
-    /// lines are as before, and the disk may have lost some that are over.
+    /// Removes these jobs, each once: those that were done, and those that have failed. If a line has two jobs, its
+    /// copy goes with the second of them. A C. file that has lost a line without a copy, and has others, is written
+    /// anew. After a fault the lines are as before, and the disk may have lost some that are over.
     #[tactic(auto, using(crate::proofs::OverLemmas::none_done, crate::proofs::StoreLemmas::tells_none, crate::proofs::StoreLemmas::tells_all))]
     pub fn settle_jobs<B: Allocator + Copy>(
         &mut self,
@@ -105,7 +105,7 @@ impl<D: Disk, A: Allocator + Copy> WorkStore<D, A> {
     }
 }
 
-/// Tells this of the jobs that have failed, if it is anything.
+/// Appends these notices of failed jobs, if there are any.
 fn tell_some<D: Disk>(disk: &mut D, notice: &[u8]) -> Result<(), DiskFailed>
     ensures ok { OnOk result (D.told disk.new ≡ also_told notice.now (D.told disk.old)) }
     ensures err { OnErr result (TellsSome notice.now (D.told disk.old) (D.told disk.new)) }
@@ -120,7 +120,7 @@ fn tell_some<D: Disk>(disk: &mut D, notice: &[u8]) -> Result<(), DiskFailed>
     disk.tell(notice)
 }
 
-/// Takes the lines off the disk that go, and then writes these C. files anew.
+/// Removes the lines that go from the disk, and then writes these C. files anew.
 #[tactic(auto, using(crate::proofs::OverLemmas::both_done, crate::proofs::OverLemmas::front_of_first, crate::proofs::OverLemmas::front_of_both))]
 fn settle_all<D: Disk, A: Allocator, B: Allocator, C: Allocator>(
     disk: &mut D,
@@ -143,7 +143,7 @@ fn settle_all<D: Disk, A: Allocator, B: Allocator, C: Allocator>(
     Ok(())
 }
 
-/// Takes the lines off the disk that go.
+/// Removes the lines that go from the disk.
 #[tactic(auto, using(crate::proofs::OverLemmas::both_done, crate::proofs::OverLemmas::front_of_first, crate::proofs::OverLemmas::front_of_both))]
 fn settle_parted<D: Disk, A: Allocator, B: Allocator>(
     disk: &mut D,
@@ -172,7 +172,7 @@ impl<D: Disk, A: Allocator + Copy> JobStore for WorkStore<D, A> {
 
     ghost fault_count = { λ store. D.fault_count store.disk };
 
-    /// Takes the jobs off the disk by just the operations that their lines and files say.
+    /// Removes the jobs from the disk by just the operations that their lines and files say.
     fn settle<B: Allocator + Copy>(
         &mut self,
         alloc: B,

@@ -11,7 +11,7 @@ use std::alloc::Allocator;
 use uug_scan::{PIECE_SIZE, READ_LIMIT};
 use uug_stream::{Input, Output, ToolFault, write_all};
 
-/// The same as `play_stream`, with this limit of reads.
+/// Does the same as `play_stream`, with this limit of reads.
 pub fn play_within<A: Allocator + Copy, I: Input, O: Output>(
     alloc: A,
     input: &mut I,
@@ -49,10 +49,10 @@ pub fn play_within<A: Allocator + Copy, I: Input, O: Output>(
     Ok(played.status)
 }
 
-/// Reads the input to its end as a script, plays it, and writes the report. The answer is the program's status: 5 where
-/// the line fooled an end; else 0 where the last session is done at both ends, and 1 where it is not. Nothing is written
-/// before the script was played. Of two faults the one that the work meets first is answered; where a write failed, or
-/// memory ran out in writing, a front of the report was written.
+/// Reads the input to its end as a script, plays it, and writes the report. Returns the program's status: 5 if the line
+/// fooled an end, otherwise 0 if the last session is done at both ends, and 1 if it is not. Nothing is written before
+/// the script was played. Of two faults the one that the work meets first is returned. If a write failed, or memory ran
+/// out in writing, a front of the report was written.
 pub fn play_stream<A: Allocator + Copy, I: Input, O: Output>(
     alloc: A,
     input: &mut I,

@@ -18,7 +18,7 @@ use uug_script::{
 use uug_session::{MemorySpool, Node};
 use uug_stream::ToolFault;
 
-/// What a script came to.
+/// The result of a script.
 #[derive(Drop)]
 pub struct Played<A: Allocator> {
     /// The text of the report.
@@ -27,7 +27,7 @@ pub struct Played<A: Allocator> {
     pub status: u8,
 }
 
-/// The same, and why its jobs are not done.
+/// The result of a script, with the reasons for which its jobs are not done.
 #[derive(Drop)]
 pub struct PlayedVerbosely<A: Allocator> {
     /// The text of the report.
@@ -38,7 +38,7 @@ pub struct PlayedVerbosely<A: Allocator> {
     pub status: u8,
 }
 
-/// The numbers of an end in a session.
+/// Returns the numbers of an end in a session.
 fn end_numbers<A: Allocator>(end: &EndReport<A>) -> EndNumbers
     ensures { result ≡ end_numbers (told.end_shown end.now) }
 {
@@ -50,7 +50,7 @@ fn end_numbers<A: Allocator>(end: &EndReport<A>) -> EndNumbers
     }
 }
 
-/// The numbers of each session.
+/// Returns the numbers of each session.
 fn session_numbers<A: Allocator>(
     alloc: A,
     sessions: &[SessionReport<A>],
@@ -68,7 +68,7 @@ fn session_numbers<A: Allocator>(
     Ok(numbers)
 }
 
-/// What became of the jobs of an end, what it stored, and the number that it keeps.
+/// Returns the numbers of an end's jobs, the files that it stored, and the number that it keeps.
 fn shown_end<A: Allocator + Copy>(node: &Node<MemorySpool<A>, A>) -> ShownEnd<'_, A>
     ensures { end_shown result ≡ end_result (owned_by node.now) }
 {
@@ -82,7 +82,7 @@ fn shown_end<A: Allocator + Copy>(node: &Node<MemorySpool<A>, A>) -> ShownEnd<'_
     }
 }
 
-/// 5 where an end was fooled; else 0 where the last session is done at both ends, and 1 where it is not.
+/// Returns 5 if an end was fooled, otherwise 0 if the last session is done at both ends, and 1 if it is not.
 fn status(sessions: &[SessionNumbers], verdict: LineVerdict) -> u8
     ensures { result ≡ status_by verdict (last_session sessions.now) }
 {
@@ -95,7 +95,7 @@ fn status(sessions: &[SessionNumbers], verdict: LineVerdict) -> u8
     }
 }
 
-/// The text of a report, and the status.
+/// Returns the text of a report, and the status.
 pub fn shown<A: Allocator + Copy>(alloc: A, report: &Report<A>) -> Result<Played<A>, AllocError>
     ensures text { IfOk result (λ played.
         string_bytes played.text ≡ report_text (result_of report.now.told)) }
@@ -115,7 +115,7 @@ pub fn shown<A: Allocator + Copy>(alloc: A, report: &Report<A>) -> Result<Played
     Ok(Played { text, status })
 }
 
-/// Runs what a script says.
+/// Runs a script.
 pub(crate) fn run_script<A: Allocator + Copy>(alloc: A, text: &[u8]) -> Result<Report<A>, ToolFault>
     ensures of { IfOk result (λ report. IsRunOfScript text.now report) }
     ensures fault { IfErr result (IsScriptFault text.now) }
@@ -146,7 +146,7 @@ pub fn play_script<A: Allocator + Copy>(alloc: A, text: &[u8]) -> Result<Played<
     }
 }
 
-/// The text of a report, why its jobs are not done, and the status.
+/// Returns the text of a report, the reasons for which its jobs are not done, and the status.
 fn shown_verbosely<A: Allocator + Copy>(
     alloc: A,
     report: &Report<A>,
@@ -168,7 +168,7 @@ fn shown_verbosely<A: Allocator + Copy>(
     })
 }
 
-/// Plays a script, and says why jobs are not done.
+/// Plays a script, and reports why jobs are not done.
 pub fn play_script_verbosely<A: Allocator + Copy>(
     alloc: A,
     text: &[u8],

@@ -1,4 +1,4 @@
-//! Why the jobs of an end are not done.
+//! The reasons for which the jobs of an end are not done.
 ghost use Rattle.std.specs.Prelude.{◌≡◌, ◌++◌, OnOk, string_bytes};
 ghost use Rattle.uug_conversation.specs.Choice.{fetched_by};
 ghost use Rattle.uug_conversation.specs.FileView.{shown_file};
@@ -13,12 +13,12 @@ use uug_script::add_job_words;
 use uug_session::{End, FileView, Job, MemorySpool, Node, Phase, Spool, Verdict};
 use uug_talk::{FILE_MAX, Name};
 
-/// Why a job is not done.
+/// The reason for which a job is not done.
 #[derive(Clone, Copy, Debug, PartialEq, Eq)]
 pub enum Reason {
-    /// It was given up: the end has no such file to send.
+    /// It was given up: the end has no file of this name to send.
     NoFile,
-    /// It was given up: the other end has no such file to give.
+    /// It was given up: the other end has no file of this name to give.
     NoFileThere,
     /// It was given up: the other end never takes a file of this name.
     Refused,
@@ -28,7 +28,7 @@ pub enum Reason {
     NoPlaceThere,
     /// It is pending: the other end takes a file of this name at another time.
     PutOff,
-    /// It is pending: what came is not the file that was told of.
+    /// It is pending: the received file is not the one that was announced.
     Differs,
     /// It is pending: the session ended before it was done.
     Over,
@@ -52,7 +52,7 @@ fn reason_words(reason: Reason) -> &'static str
     }
 }
 
-/// The file of this name that may be sent, if there is one.
+/// Returns the file of this name that may be sent, if there is one.
 fn given<'a, A: Allocator + Copy>(spool: &'a MemorySpool<A>, name: &Name) -> Option<FileView<'a>>
     ensures { shown_file result ≡ to_give (holdings_of (held_by spool.now)) name.now }
 {
@@ -64,7 +64,7 @@ fn given<'a, A: Allocator + Copy>(spool: &'a MemorySpool<A>, name: &Name) -> Opt
     }
 }
 
-/// The name by which the file of a Send job is fetched.
+/// Returns the name by which the file of a Send job is fetched.
 fn fetched_by<'a>(source: &'a Name, temp: &'a Option<Name>) -> &'a Name
     ensures { result.now ≡ fetched_by source.now temp.now }
 {
@@ -95,7 +95,7 @@ fn failed_request(file: Option<FileView<'_>>) -> Reason
     }
 }
 
-/// Why a job of an end with this spool was given up.
+/// Returns the reason for which a job of an end with this spool was given up.
 fn failed_reason<A: Allocator + Copy>(
     job: &Job,
     own: &MemorySpool<A>,
@@ -133,7 +133,7 @@ fn pending_send(verdict: Verdict, digests: bool, phase: Phase) -> Reason
     }
 }
 
-/// Why a job is pending at an end whose session has come so far.
+/// Returns the reason for which a job is pending at an end in this phase.
 fn pending_reason<A: Allocator + Copy>(job: &Job, phase: Phase, other: &MemorySpool<A>) -> Reason
     ensures { result ≡ pending_reason phase (holdings_of (held_by other.now)) job.now }
 {
@@ -209,8 +209,8 @@ fn add_end<A: Allocator + Copy, B: Allocator>(
     add_pending(text, side, queue.pending(), node.phase(), other.spool())
 }
 
-/// Appends a line for each job of the two ends that is not done: the job, and why it is not. The caller's come first, and of
-/// each end those that were given up.
+/// Appends a line for each job of the two ends that is not done: the job, and the reason. The caller's are first, and
+/// for each end those that were given up.
 pub fn add_reasons<A: Allocator + Copy, B: Allocator>(
     text: &mut String<B>,
     report: &Report<A>,

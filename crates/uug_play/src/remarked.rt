@@ -1,4 +1,4 @@
-//! A script played, with a remark where it is bad or has jobs that are not done.
+//! Plays a script, with a remark if it is bad or has jobs that are not done.
 ghost use Rattle.std.specs.Prelude.{◌≡◌, ℕ, ◌<◌, ◌≤◌, ◌*◌, IfErr, IfOk, IfSome, OnOk, length, string_bytes};
 ghost use Rattle.std.specs.Io.KnownBytes.{Keeps};
 ghost use Rattle.uug_script.specs.IsScript.{IsFirstBad};
@@ -14,7 +14,7 @@ use uug_scan::{PIECE_SIZE, READ_LIMIT};
 use uug_script::script_remark;
 use uug_stream::{Input, Output, ToolFault, write_all};
 
-/// Plays a script, and says why jobs are not done. Where it is bad, `remark` becomes what is wrong with its first bad line.
+/// Plays a script, and reports why jobs are not done. If it is bad, `remark` becomes the error in its first bad line.
 fn play_text<A: Allocator + Copy>(
     alloc: A,
     script: &[u8],
@@ -38,9 +38,8 @@ fn play_text<A: Allocator + Copy>(
     Err(fault)
 }
 
-/// The same as `play_stream`; and `remark` becomes a line for each job that is not done, which says why, or
-/// where the script is bad, what is wrong with its first bad line. For both memory is taken. The faults are those of
-/// `play_stream`.
+/// Does the same as `play_stream`. `remark` becomes a line for each job that is not done, with the reason, or if the
+/// script is bad, the error in its first bad line. Both take memory. The faults are those of `play_stream`.
 pub fn play_remarked<A: Allocator + Copy, I: Input, O: Output>(
     alloc: A,
     input: &mut I,

@@ -19,7 +19,7 @@ use uug_line::{Report, RunFault, settle};
 use uug_scan::{PIECE_SIZE, READ_LIMIT};
 use uug_stream::{Input, Output, ToolFault, write_all};
 
-/// What the report settles to.
+/// Settles the report, and returns its text and the status.
 fn settled<A: Allocator + Copy>(alloc: A, report: Report<A>) -> Result<Played<A>, RunFault>
     requires { CanSettle report }
     ensures { IfOk result (λ last. (setup : SetupValue) (events : List Event)
@@ -32,7 +32,7 @@ fn settled<A: Allocator + Copy>(alloc: A, report: Report<A>) -> Result<Played<A>
     Ok(last?)
 }
 
-/// The text of the report, and after it that of what it settles to, or why it may not.
+/// Returns the text of the report, and after it that of what it settles to, or the reason for which it may not.
 fn shown_settled<A: Allocator + Copy>(alloc: A, report: Report<A>) -> Result<Played<A>, RunFault>
     ensures { IfOk result (λ played. GoesOnFrom report (string_bytes played.text) played.status) }
 {
@@ -55,7 +55,7 @@ fn shown_settled<A: Allocator + Copy>(alloc: A, report: Report<A>) -> Result<Pla
     })
 }
 
-/// Plays a script, and goes on from its report on a line on which nothing more is lost, where it may settle.
+/// Plays a script, and goes on from its report on a line on which nothing more is lost, if it may settle.
 pub fn settle_script<A: Allocator + Copy>(alloc: A, text: &[u8]) -> Result<Played<A>, ToolFault>
     ensures settled { IfOk result (λ played.
         IsSettled text.now (string_bytes played.text) played.status) }
@@ -68,10 +68,10 @@ pub fn settle_script<A: Allocator + Copy>(alloc: A, text: &[u8]) -> Result<Playe
     }
 }
 
-/// Reads the input to its end as a script, plays it, and writes the report. Where the run may settle, it goes on to its end
-/// on a line on which nothing more is lost, and the report of that is written too, whose status is the answer; else a line
-/// that says which condition fails, and the status is that of `play_stream`. Nothing is written before all was played.
-/// Of two faults the one that the work meets first is answered.
+/// Reads the input to its end as a script, plays it, and writes the report. If the run may settle, it goes on to its
+/// end on a line on which nothing more is lost; the report of that is written too, and its status is returned.
+/// Otherwise a line with the condition that fails is written, and the status is that of `play_stream`. Nothing is
+/// written before all was played. Of two faults the one that the work meets first is returned.
 pub fn play_settled<A: Allocator + Copy, I: Input, O: Output>(
     alloc: A,
     input: &mut I,

@@ -1,4 +1,4 @@
-//! Why a report may not settle.
+//! The reasons for which a report may not settle.
 ghost use Rattle.std.specs.Prelude.{◌≡◌, ◌++◌, List, None, IfOk, MatchOption, string_bytes};
 ghost use Rattle.uug_line.specs.declared.event.Event.{Event};
 ghost use Rattle.uug_line.specs.Belongings.{SetupValue};
@@ -30,7 +30,7 @@ pub enum Unsettled {
     OnLine,
 }
 
-/// What keeps the end on the side from settling, but for what is on the line.
+/// Returns the condition that keeps the end on this side from settling, except for what is on the line.
 fn end_unsettled<A: Allocator + Copy>(
     side: Side,
     node: &Node<MemorySpool<A>, A>,
@@ -54,8 +54,8 @@ fn end_unsettled<A: Allocator + Copy>(
     None
 }
 
-/// The first condition of `settle` that the report does not meet: the verdict, what the caller does, what the called end
-/// does, and the line. None where it may settle.
+/// Returns the first condition of `settle` that the report does not meet: the verdict, then the caller, then the called
+/// end, and then the line. `None` if it may settle.
 pub fn why_unsettled<A: Allocator + Copy>(report: &Report<A>) -> Option<Unsettled>
     ensures why { MatchOption result (CanSettle report.now) (λ why. Fails why report.now) }
     // So None is only where the world may settle, of whatever two ends and events the report is.
@@ -94,7 +94,7 @@ fn unsettled_words(why: Unsettled) -> &'static str
     }
 }
 
-/// Adds the line that says so.
+/// Appends the line for this condition.
 pub(crate) fn add_unsettled<A: Allocator>(
     text: &mut String<A>,
     why: Unsettled,

@@ -1,4 +1,4 @@
-//! The whole of an input.
+//! Reads the whole of an input.
 ghost use Rattle.std.specs.Prelude.{◌≡◌, ◌<◌, ◌≤◌, ◌*◌, Err, IfErr, IfOk, IfSome, length};
 ghost use Rattle.uug_play.specs.Whole.{BringsAll, IsReadingFault};
 ghost use Rattle.uug_stream.specs.Fault.{UnlessRead};
@@ -10,7 +10,7 @@ use std::alloc::Allocator;
 use uug_scan::PIECE_SIZE;
 use uug_stream::{Input, ToolFault};
 
-/// Reads an input to its end, in at most so many reads, the one that finds the end among them; an input that takes more
+/// Reads an input to its end, in at most `limit` reads, including the one that finds the end. An input that takes more
 /// is a device's fault.
 pub fn read_whole<A: Allocator, I: Input>(
     alloc: A,

@@ -1,5 +1,5 @@
-//! What no clause says of a detailed scan: streams from outside with their listings, that lines go out before the next read,
-//! faults and the limit in mid-stream, and running out of memory.
+//! Tests of a detailed scan beyond the clauses: streams from outside with their listings, lines that go out before the
+//! next read, faults and the limit in mid-stream, and running out of memory.
 
 use crate::assertions::{assert_same, assert_same_at, assert_so_at};
 use crate::streams::{SlowInput, SlowOutput};
@@ -10,7 +10,8 @@ use uug_refusal::Refusing;
 use uug_scan::{READ_LIMIT, scan_detailed};
 use uug_stream::{Input, MemoryInput, MemoryOutput, Output, ToolFault, WriteFailed};
 
-/// A stream: its first bytes, the byte that fills it up and to how many, and the bytes behind; and its detailed listing.
+/// Streams: the first bytes, the byte that fills it up and to how many, and the bytes after these; and the detailed
+/// listing.
 const STREAMS: [(&[u8], u8, usize, &[u8], &str); 15] = [
     // a greeting, and the start-up of a link
     (
@@ -163,7 +164,7 @@ fn lists_streams_in_detail(rt: HostRuntime) -> Result<(), Fail> {
     Ok(())
 }
 
-/// An input of these bytes, at most so many a read, that fails after so many reads.
+/// Returns an input of these bytes, at most `most` a read, of which the read after `reads` others fails.
 fn in_pieces(bytes: &[u8], most: usize, reads: u32) -> SlowInput<'_> {
     SlowInput {
         bytes,
@@ -173,7 +174,8 @@ fn in_pieces(bytes: &[u8], most: usize, reads: u32) -> SlowInput<'_> {
     }
 }
 
-// How many reads an input grants, and the limit; the answer, how many reads are left, and what has gone out.
+// A row has the reads that an input grants and the limit, then the error, the reads that are left, and what has gone
+// out.
 #[test]
 fn lists_each_read_before_the_next(rt: HostRuntime) {
     for (reads, limit, fault, left, listing) in [
@@ -196,7 +198,7 @@ fn lists_each_read_before_the_next(rt: HostRuntime) {
     }
 }
 
-/// Lets each read in turn fail. How many reads the scan of the line takes.
+/// Lets each read in turn fail. Returns the number of reads that the scan of the line takes.
 fn reads_of_a_scan(rt: &(impl Abort + AllocGlobal)) -> Result<u32, Fail> {
     for reads in 0..100 {
         let mut input = in_pieces(LINE, 4, reads);
@@ -212,7 +214,7 @@ fn reads_of_a_scan(rt: &(impl Abort + AllocGlobal)) -> Result<u32, Fail> {
     Err("a scan that is never done".into())
 }
 
-/// Refuses each write in turn. How many writes the scan of the line takes.
+/// Refuses each write in turn. Returns the number of writes that the scan of the line takes.
 fn writes_of_a_scan(
     rt: &(impl Abort + AllocGlobal),
     refusal: WriteFailed,
@@ -241,7 +243,8 @@ fn writes_of_a_scan(
     Err("a scan that is never done".into())
 }
 
-// Four pieces, and the read that finds the end. The text, and noise with the packet, go out at once; and the last line.
+// The scan takes four pieces, and the read that finds the end. The text, and noise with the packet, go out at once; and
+// the last line.
 #[test]
 fn stops_at_each_fault(rt: HostRuntime) -> Result<(), Fail> {
     assert_same(&rt, reads_of_a_scan(&rt)?, 5);
@@ -258,7 +261,7 @@ fn stops_at_each_fault(rt: HostRuntime) -> Result<(), Fail> {
     Ok(())
 }
 
-/// Refuses each request of a scan in turn: for the bytes that are held, the lines and the output. How many it makes.
+/// Refuses each request of a scan in turn: for the bytes that are held, the lines and the output. Returns their number.
 fn requests_of_a_scan(rt: &impl Abort, alloc: Global) -> Result<u64, Fail> {
     for nth in 1..100 {
         let heap = Refusing::new(alloc, nth);

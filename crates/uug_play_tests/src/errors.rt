@@ -1,5 +1,5 @@
-//! The text of each error of the crates from `uug_stream` and `uug_line` on up to `uug_ladder`, and the status that the program
-//! ends with for each fault of a tool.
+//! The text of each error of the crates from `uug_stream` and `uug_line` on up to `uug_ladder`, and the program's
+//! status for each fault of a tool.
 
 use crate::assertions::{assert_same, assert_same_at};
 use std::alloc::{AllocError, Global};

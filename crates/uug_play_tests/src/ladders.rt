@@ -1,4 +1,4 @@
-//! Ladders of scripts. What this catches beyond the clauses: a wrong definition of what becomes of what is sent.
+//! Ladders of scripts. The tests catch beyond the clauses a wrong definition of the fate of what is sent.
 
 use crate::assertions::{assert_same, assert_same_at};
 use std::alloc::Global;
@@ -8,7 +8,7 @@ use uug_ladder::{Drawn, draw, play_ladder};
 use uug_refusal::Refusing;
 use uug_stream::{MemoryInput, MemoryOutput, ToolFault};
 
-/// What happens while the called end says its name, and the line of that.
+/// Events while the called end sends its name, and the lines of the ladder.
 const TEXTS: [(&str, &str); 8] = [
     (
         "",
@@ -60,11 +60,11 @@ const TEXTS: [(&str, &str); 8] = [
 /// Two ends with nothing to do.
 const ENDS: &str = "caller a 2 32\ncalled b 2 32\n";
 
-/// How a session begins.
+/// The head of a session.
 const HEAD: &str =
     "session 1\nevent  caller                                               called\n";
 
-/// The last lines of what is written of the ends under these events, which stand behind the head.
+/// Returns the lines after the head, for the ends under these events.
 fn lines_of(rt: &impl Abort, alloc: Global, events: &str) -> Result<String<Global>, Fail> {
     let script = format!(in alloc; "{ENDS}{events}")?;
     let mut output = MemoryOutput::new(alloc);
@@ -89,7 +89,7 @@ fn draws_what_becomes_of_a_text(rt: HostRuntime) -> Result<(), Fail> {
     Ok(())
 }
 
-/// A script with so many events.
+/// Returns a script with this many events.
 fn long(alloc: Global, events: usize) -> Result<String<Global>, Fail> {
     let mut script = String::from_str(alloc, ENDS)?;
     for _ in 0..events {
@@ -98,7 +98,7 @@ fn long(alloc: Global, events: usize) -> Result<String<Global>, Fail> {
     Ok(script)
 }
 
-/// How many rungs the ladder of a script with so many events has.
+/// Returns the number of rungs in the ladder of a script with this many events.
 fn rungs(alloc: Global, events: usize) -> Result<usize, Fail> {
     let script = long(alloc, events)?;
     Ok(draw(alloc, script.as_bytes())?.rungs.len())
@@ -110,7 +110,8 @@ fn draws_a_long_script(rt: HostRuntime) -> Result<(), Fail> {
     Ok(())
 }
 
-/// What is answered to a script of which so many requests for memory succeed, and whether all did.
+/// Draws the ladder with a heap that refuses the nth request. Returns the result, whether a request was refused, and
+/// the number of bytes written.
 fn draw_within(alloc: Global, nth: u64, how: Drawn) -> (Result<u8, ToolFault>, bool, usize) {
     let heap = Refusing::new(alloc, nth);
     let mut output = MemoryOutput::new(alloc);
@@ -119,7 +120,7 @@ fn draw_within(alloc: Global, nth: u64, how: Drawn) -> (Result<u8, ToolFault>, b
     (result, heap.was_refused(), output.bytes().len())
 }
 
-/// Refuses each request in turn, after which nothing is written. How many requests there are.
+/// Refuses each request in turn, and asserts that nothing is written then. Returns the number of requests.
 fn requests(rt: &impl Abort, alloc: Global, how: Drawn) -> Result<u64, Fail> {
     for nth in 1..10_000 {
         let (result, was_refused, written) = draw_within(alloc, nth, how);

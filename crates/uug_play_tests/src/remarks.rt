@@ -1,5 +1,5 @@
-//! Remarks on bad scripts, and on jobs that are not done. What this catches beyond the clauses: a text that is wrong in the definition, and a call that
-//! gives up where it need not.
+//! Remarks on bad scripts, and on jobs that are not done. The tests catch beyond the clauses a text that is wrong in
+//! the definition, and a call that gives up where it need not.
 
 use crate::assertions::{assert_same, assert_so};
 use std::alloc::Global;
@@ -8,7 +8,7 @@ use std::test::Fail;
 use uug_play::play_remarked;
 use uug_stream::{MemoryInput, MemoryOutput, ToolFault};
 
-/// Third lines behind two that set up the ends, and what is wrong with them.
+/// Third lines, after two that set up the ends, and the error in each.
 const REMARKS: &[(&[u8], &str)] = &[
     (b"caller a 8 32", "window 8 is not 1 to 7"),
     (b"caller a 0 32", "window 0 is not 1 to 7"),
@@ -72,7 +72,7 @@ fn play(
     play_remarked(alloc, &mut MemoryInput::new(script), output, remark)
 }
 
-/// Checks what is said of a script whose line of this number is bad.
+/// Checks the remark on a script whose line of this number is bad.
 fn check_remark(rt: &(impl Abort + AllocGlobal), script: &[u8], number: usize, expected: &str) {
     let mut output = MemoryOutput::new(rt.alloc());
     let mut remark = String::new(rt.alloc());
@@ -82,7 +82,7 @@ fn check_remark(rt: &(impl Abort + AllocGlobal), script: &[u8], number: usize, e
     assert_same(rt, output.bytes().len(), 0);
 }
 
-/// Lines behind two that set up the ends, of sessions that go as far as they can, and what is said of the jobs then.
+/// Lines after two that set up the ends, of sessions that go as far as they can, and the remarks on the jobs then.
 const REASONS: &[(&[u8], &str)] = &[
     (
         b"send caller x y u\nflow 20",
@@ -119,7 +119,7 @@ const REASONS: &[(&[u8], &str)] = &[
     ),
 ];
 
-/// Checks what is said of the jobs of a script, beside the report of it.
+/// Checks the remarks on the jobs of a script, beside its report.
 fn check_reasons(rt: &(impl Abort + AllocGlobal), script: &[u8], expected: &str) {
     let mut output = MemoryOutput::new(rt.alloc());
     let mut remark = String::new(rt.alloc());
@@ -129,7 +129,7 @@ fn check_reasons(rt: &(impl Abort + AllocGlobal), script: &[u8], expected: &str)
     assert_so(rt, output.bytes().ends_with(b"verdict clean\n"));
 }
 
-/// A script that sets up both ends, and then has these lines.
+/// Returns a script that sets up both ends, and then has these lines.
 fn with_lines(alloc: Global, lines: &[u8]) -> Result<Vec<u8, Global>, Fail> {
     let mut script = Vec::from_slice(alloc, b"caller a 2 32\ncalled b 2 32\n")?;
     script.extend_from_slice(lines)?;

@@ -1,4 +1,4 @@
-//! Texts of reports from outside, and one without memory.
+//! Texts of reports from outside, and of one without memory.
 
 use crate::assertions::{assert_same, assert_so};
 use std::alloc::{Allocator, Global};

@@ -1,5 +1,5 @@
-//! What no clause says of a scan: streams from outside with their listings, that lines go out before the next read, faults
-//! and the limit in mid-stream, and running out of memory.
+//! Tests of a scan beyond the clauses: streams from outside with their listings, lines that go out before the next
+//! read, faults and the limit in mid-stream, and running out of memory.
 
 use crate::assertions::{assert_same, assert_same_at, assert_so_at};
 use crate::streams::{SlowInput, SlowOutput};
@@ -11,14 +11,14 @@ use uug_refusal::Refusing;
 use uug_scan::{scan_stream, scan_within};
 use uug_stream::{Input, MemoryInput, MemoryOutput, Output, ReadFailed, ToolFault, WriteFailed};
 
-/// The packets of a start-up with windows of three and size 64, and of the link behind it.
+/// The packets of a start-up with windows of three and size 64, and of the link after it.
 const LINK: [u8; 42] = [
     0x10, 0x09, 0x6f, 0xaa, 0x3b, 0xf7, 0x10, 0x09, 0x79, 0xaa, 0x31, 0xeb, 0x10, 0x09, 0x7f, 0xaa,
     0x2b, 0xf7, 0x10, 0x09, 0x89, 0xaa, 0x21, 0x0b, 0x10, 0x09, 0x98, 0xaa, 0x12, 0x29, 0x10, 0x09,
     0x90, 0xaa, 0x1a, 0x29, 0x10, 0x09, 0xa2, 0xaa, 0x08, 0x09,
 ];
 
-/// The first bytes of a stream, the byte that fills it up, how many bytes it has then, and its listing.
+/// Streams: the first bytes, the byte that fills it up, the number of bytes then, and the listing.
 const STREAMS: [(&[u8], u8, usize, &str); 15] = [
     (
         &LINK,
@@ -109,8 +109,8 @@ fn lists_streams(rt: HostRuntime) -> Result<(), Fail> {
     Ok(())
 }
 
-/// Short packets of all eight sizes, as far as their messages go, and their lengths: zeros stand behind. Up to 127 missing
-/// bytes are written in one byte and in two.
+/// Short packets of all eight sizes, up to the end of their messages, and their lengths: zeros follow. Up to 127
+/// missing bytes are written in one byte and in two.
 const SHORT_PACKETS: [(&[u8], usize); 11] = [
     (&[0x10, 0x01, 0xa1, 0x0e, 0xc8, 0x66, 0x20], 38),
     (&[0x10, 0x01, 0x38, 0xd0, 0xd0, 0x39, 0xa0, 0x00], 38),
@@ -155,7 +155,7 @@ fn lists_short_packets_of_all_sizes(rt: HostRuntime) -> Result<(), Fail> {
     Ok(())
 }
 
-/// An input of the link, a packet a read, that fails after so many reads.
+/// Returns an input of the link, a packet a read, of which the read after `reads` others fails.
 fn link_in_reads(reads: u32) -> SlowInput<'static> {
     SlowInput {
         bytes: &LINK,
@@ -165,7 +165,8 @@ fn link_in_reads(reads: u32) -> SlowInput<'static> {
     }
 }
 
-// How many reads an input grants, and the limit; the answer, how many reads are left, and what has gone out.
+// A row has the reads that an input grants and the limit, then the error, the reads that are left, and what has gone
+// out.
 #[test]
 fn lists_each_read_before_the_next(rt: HostRuntime) {
     for (reads, limit, fault, left, listing) in [
@@ -188,7 +189,7 @@ fn lists_each_read_before_the_next(rt: HostRuntime) {
     }
 }
 
-/// Lets each read of the link fail in turn. How many reads its scan takes.
+/// Lets each read of the link fail in turn. Returns the number of reads that its scan takes.
 fn reads_of_a_scan(rt: &(impl Abort + AllocGlobal)) -> Result<u32, Fail> {
     for reads in 0..100 {
         let mut input = link_in_reads(reads);
@@ -204,7 +205,7 @@ fn reads_of_a_scan(rt: &(impl Abort + AllocGlobal)) -> Result<u32, Fail> {
     Err("a scan that is never done".into())
 }
 
-/// Refuses each write of the link's listing in turn. How many writes its scan takes.
+/// Refuses each write of the link's listing in turn. Returns the number of writes that its scan takes.
 fn writes_of_a_scan(
     rt: &(impl Abort + AllocGlobal),
     refusal: WriteFailed,
@@ -259,7 +260,7 @@ fn makes_a_refused_write_good(rt: HostRuntime) {
     assert_same(&rt, output.bytes().len(), 304);
 }
 
-/// Refuses each request of a scan in turn: the reader's, the lines' and the output's. How many requests it makes.
+/// Refuses each request of a scan in turn: the reader's, the lines' and the output's. Returns their number.
 fn requests_of_a_scan(rt: &impl Abort, alloc: Global) -> Result<u64, Fail> {
     for nth in 1..100 {
         let heap = Refusing::new(alloc, nth);
@@ -282,7 +283,7 @@ fn passes_on_want_of_memory(rt: HostRuntime) -> Result<(), Fail> {
     Ok(())
 }
 
-/// The text of what is shown is this one.
+/// Asserts that the text of what is shown is this one.
 fn reads_as(
     rt: &(impl Abort + AllocGlobal),
     shown: &impl Display,
@@ -300,7 +301,7 @@ fn says_what_failed(rt: HostRuntime) -> Result<(), Fail> {
     reads_as(&rt, &WriteFailed::Memory, "out of memory")
 }
 
-// Each fault with the status that the program ends with, and what it says on standard error.
+// A row has a fault, the program's status, and the text on standard error.
 #[test]
 fn says_why_a_tool_gave_up(rt: HostRuntime) -> Result<(), Fail> {
     for (fault, status, text) in [

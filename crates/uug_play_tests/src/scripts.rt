@@ -1,5 +1,5 @@
-//! Scripts from outside. What this catches beyond the clauses: a rule that is wrong in the definition, and a reader that
-//! says that it is out of memory where none was refused.
+//! Scripts from outside. The tests catch beyond the clauses a rule that is wrong in the definition, and a reader that
+//! says that it is out of memory when none was refused.
 
 use crate::assertions::{assert_same, assert_so, assert_so_at};
 use std::alloc::{AllocError, Global};
@@ -11,11 +11,11 @@ use uug_script::{ScriptFault, read_script};
 use uug_session::{Job, Spool, Verdict};
 use uug_talk::Name;
 
-/// A file that is sent, over a line that works.
+/// A script that sends a file, over a line that works.
 const SENT: &[u8] =
     b"caller a 2 32\ncalled b 2 32\nfile caller x 0644 -\nsend caller x y u\nflow 20\n";
 
-/// Both ends, on two lines.
+/// The set-up of both ends, on two lines.
 const ENDS: &[u8] = b"caller a 2 32\ncalled b 2 32\n";
 
 /// Lines that are bad as the third one.
@@ -78,7 +78,7 @@ const BAD_LINES: &[&[u8]] = &[
     b"lenient caller 1",
 ];
 
-/// Lines that are good, and how many events they add.
+/// Lines that are good, and the number of events that they add.
 const GOOD_LINES: &[(&[u8], usize)] = &[
     (b"", 0),
     (b"   ", 0),
@@ -103,7 +103,7 @@ const GOOD_LINES: &[(&[u8], usize)] = &[
     (b"lenient called\nlenient caller", 0),
 ];
 
-/// The job of `SENT`.
+/// Returns the job of `SENT`.
 fn sent_job() -> Result<Job, Fail> {
     Ok(Job::Send {
         source: Name::new(b"x")?,
@@ -113,7 +113,7 @@ fn sent_job() -> Result<Job, Fail> {
     })
 }
 
-/// The ends and the job of `SENT`.
+/// Asserts that the set-up has the ends and the job of `SENT`.
 fn assert_setup(rt: &impl Abort, setup: &Setup<Global>, job: Job) -> Result<(), Fail> {
     let (caller, called) = (&setup.caller, &setup.called);
     let (a, b, x) = (Name::new(b"a")?, Name::new(b"b")?, Name::new(b"x")?);
@@ -130,7 +130,7 @@ fn assert_setup(rt: &impl Abort, setup: &Setup<Global>, job: Job) -> Result<(), 
     Ok(())
 }
 
-/// The events of `SENT`: 20 times all that is on the line comes to both ends.
+/// Asserts that these are the events of `SENT`: 20 times all that is on the line passes to both ends.
 fn assert_flow(rt: &impl Abort, events: &[Event]) {
     let n = 1_000_000_000;
     let (side, other) = (Side::Called, Side::Caller);
@@ -149,7 +149,7 @@ fn reads_a_script(rt: HostRuntime) -> Result<(), Fail> {
     checked
 }
 
-/// What the ends say of files of these names, their numbers, and whether they are lenient.
+/// Asserts the verdicts of the ends on files of these names, their numbers, and whether they are lenient.
 fn assert_verdicts(rt: &impl Abort, setup: &Setup<Global>, y: Name, z: Name) {
     let (caller, called) = (&setup.caller, &setup.called);
     assert_same(rt, called.spool.may_keep(&y), Verdict::Never);
@@ -194,7 +194,7 @@ fn answers_the_line_behind_the_last(rt: HostRuntime) {
     }
 }
 
-/// Both ends, this line, and one that is bad.
+/// Returns a script of both ends, this line, and one that is bad.
 fn script_with(alloc: Global, line: &[u8]) -> Result<Vec<u8>, AllocError> {
     let mut text = ENDS.to_vec(alloc)?;
     text.extend_from_slice(line)?;
@@ -212,7 +212,7 @@ fn answers_the_first_bad_line(rt: HostRuntime) -> Result<(), Fail> {
     Ok(())
 }
 
-/// How many events there are in a script with this line.
+/// Returns the number of events in a script with this line.
 fn events_with(alloc: Global, line: &[u8]) -> Result<usize, Fail> {
     let mut text = ENDS.to_vec(alloc)?;
     text.extend_from_slice(line)?;
@@ -264,7 +264,7 @@ const EACH_KIND: &[u8] =
     b"caller a 2 32\ncalled b 2 32\nfile caller x 0644 00ff\nsend caller x y u\n\
 deny called q\nlater called r\nimmovable called s\nflow 3\ncall\n";
 
-/// Refuses each request of a reader in turn. How many requests it makes.
+/// Refuses each request of a reader in turn. Returns their number.
 fn requests_of_a_reader(rt: &impl Abort, alloc: Global) -> Result<u64, Fail> {
     for nth in 1..100 {
         let heap = Refusing::new(alloc, nth);

@@ -1,9 +1,9 @@
-//! Streams that give and take little at a time, fail once, and then work: so a fault that is passed over is seen.
+//! Streams that give and take little at a time, fail once, and then work: a fault that is ignored is seen.
 ghost use Rattle.std.specs.Prelude.{None};
 
 use uug_stream::{Input, Output, ReadFailed, WriteFailed};
 
-/// Gives at most so many bytes at a time. After so many reads one fails, and those behind it give on.
+/// An input that gives at most `most` bytes at a time. The read after `reads` others fails, and later ones give on.
 #[derive(Drop)]
 pub struct SlowInput<'a> {
     pub bytes: &'a [u8],
@@ -35,7 +35,8 @@ impl Input for SlowInput<'_> {
     }
 }
 
-/// Takes at most so many bytes at a time. After so many writes one is refused, and those behind it take on.
+/// An output that takes at most `most` bytes at a time. The write after `writes` others is refused, and later ones take
+/// on.
 #[derive(Drop)]
 pub struct SlowOutput {
     pub most: usize,

@@ -14,7 +14,7 @@ use crate::scan::PIECE_SIZE;
 use std::alloc::{AllocError, Allocator};
 use uug_stream::{Input, Output, ToolFault, write_all};
 
-/// Drops the first bytes, so many.
+/// Drops the first `count` bytes.
 fn drop_front<A: Allocator>(held: &mut Vec<u8, A>, count: usize)
     requires { count ≤ length held.old.items }
     ensures { held.new.items ≡ drop count held.old.items }
@@ -22,7 +22,7 @@ fn drop_front<A: Allocator>(held: &mut Vec<u8, A>, count: usize)
     held.drain(..count);
 }
 
-/// Appends what the bytes that are held tell with a piece behind them. Those that wait are then held.
+/// Appends the lines for the bytes that are held, with a piece after them. Those that wait are held then.
 fn list_piece<A: Allocator>(
     held: &mut Vec<u8, A>,
     noise: &mut Noise,

@@ -1,4 +1,4 @@
-//! What stands at the front of some bytes.
+//! The item at the front of some bytes.
 ghost use Rattle.std.specs.Prelude.{◌≡◌, ◌↔◌, ◌++◌, IsTrue, MatchOption, slice_index};
 ghost use Rattle.uug_packet.specs.declared.header.TheConstants.{CONTROL_K};
 ghost use Rattle.uug_packet.specs.Decoded.{decoded};
@@ -7,30 +7,30 @@ ghost use Rattle.uug_scan.specs.Code.Noise.{IsFront, what_of};
 
 use uug_packet::{CONTROL_K, NoPacket, Packet, decode};
 
-/// What stands at the front of some bytes.
+/// The item at the front of some bytes.
 #[derive(Clone, Copy)]
 pub enum Front<'a> {
-    /// A packet, and how many bytes it takes.
+    /// A packet, and the number of its bytes.
     Packet(Packet<'a>, usize),
     /// The first byte of a damaged packet.
     Damaged(Damage),
-    /// One byte that is no part of a packet.
+    /// A byte that is no part of a packet.
     Noise(NoPacket),
 }
 
-/// What is wrong with a packet whose header is right.
+/// The damage of a packet whose header is right.
 #[derive(Clone, Copy)]
 pub enum Damage {
-    /// The checksum of a data packet.
+    /// The checksum of a data packet is wrong.
     Checksum,
-    /// The length that the field of a data packet says.
+    /// The length in the field of a data packet is wrong.
     Length,
-    /// The checksum of a control packet.
+    /// The checksum of a control packet is wrong.
     Control,
 }
 
 impl Damage {
-    /// The words of its line.
+    /// Returns the words of its line.
     pub fn words(self) -> &'static str
         ensures { result.now
             ≡ words_or_none (plain_words (what_of self) 1) ++ added_words (what_of self) 1 }
@@ -43,14 +43,14 @@ impl Damage {
     }
 }
 
-/// Whether K, at the second place, is that of a control packet.
+/// Returns whether K, at the second place, is that of a control packet.
 fn is_control(bytes: &[u8]) -> bool
     ensures { IsTrue result ↔ (slice_index bytes.now 1 ≡ CONTROL_K) }
 {
     bytes.len() > 1 && bytes[1] == CONTROL_K
 }
 
-/// What stands at the front, or `None` where the bytes wait.
+/// Returns the item at the front, or `None` if the bytes wait.
 pub fn front_of(bytes: &[u8]) -> Option<Front<'_>>
     ensures { MatchOption result (decoded bytes.now ≡ Err NoPacket.Short)
         (λ front. IsFront front bytes.now) }

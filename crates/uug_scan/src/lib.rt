@@ -1,5 +1,5 @@
-//! The listing of a stream, over any input and output: plain, a line for each packet; and detailed, with each line the
-//! place of its bytes, and lines for what the plain listing passes over.
+//! The listing of a stream, over any input and output. The plain one has a line for each packet. The detailed one has
+//! in each line the place of its bytes, and lines for what the plain listing skips.
 #![tactic(auto)]
 
 mod detailed;

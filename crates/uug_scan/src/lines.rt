@@ -98,7 +98,7 @@ fn is_plain(byte: u8) -> bool
     (byte.is_ascii_graphic() || byte == b' ') && byte != b'\\'
 }
 
-/// The character that writes a digit below 16.
+/// Returns the character that writes a digit below 16.
 fn hex_digit(digit: u8) -> char
     requires { digit < 16 }
     ensures { result ≡ digit_char digit }
@@ -118,7 +118,7 @@ fn add_char<A: Allocator>(lines: &mut String<A>, ch: char) -> Result<(), AllocEr
     lines.push(ch)
 }
 
-/// Appends a byte of a text: as it is where it is plain, which only an ASCII character may be, else in hex.
+/// Appends a byte of a text: as it is if it is plain, which only an ASCII character may be, and otherwise in hex.
 pub fn add_byte<A: Allocator>(
     lines: &mut String<A>,
     byte: u8,

@@ -77,7 +77,7 @@ pub fn add_line<A: Allocator>(lines: &mut String<A>, found: &Found<'_>) -> Resul
     }
 }
 
-/// Appends the last line of a listing: how many bytes wait at the end.
+/// Appends the last line of a listing: the number of bytes that wait at the end.
 pub fn add_rest_line<A: Allocator>(lines: &mut String<A>, waiting: usize) -> Result<(), AllocError>
     ensures { OnOk result
         (string_bytes lines.new ≡ string_bytes lines.old ++ waiting_line waiting) }

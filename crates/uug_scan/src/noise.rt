@@ -8,8 +8,8 @@ use crate::lines::{add_noise, add_text};
 use std::alloc::{AllocError, Allocator};
 use uug_talk::Hail;
 
-/// The noise behind the last line: where it begins, how many bytes it has so far, and what was heard of a handshake text
-/// in it.
+/// The noise after the last line: its beginning, the number of its bytes up to now, and the part of a handshake text
+/// heard in it.
 #[derive(Drop)]
 pub struct Noise {
     pub start: usize,
@@ -17,7 +17,7 @@ pub struct Noise {
     pub hail: Hail,
 }
 
-/// No noise yet, from this place on.
+/// Returns noise without bytes, from this place on.
 pub fn noise_from(start: usize) -> Noise
     ensures { result ≡ noise_at start }
 {
@@ -28,7 +28,7 @@ pub fn noise_from(start: usize) -> Noise
     }
 }
 
-/// Ends the noise in front of so many bytes: its line is appended. Returns where those bytes begin.
+/// Ends the noise in front of `size` bytes: its line is appended. Returns the place where those bytes begin.
 pub fn end_noise<A: Allocator>(
     lines: &mut String<A>,
     noise: &mut Noise,
@@ -46,7 +46,7 @@ pub fn end_noise<A: Allocator>(
     Ok(at)
 }
 
-/// Hears one byte more. Of a text that is too long nothing is heard.
+/// Hears one more byte. Nothing is heard of a text that is too long.
 fn listen(hail: &mut Hail, byte: u8)
     requires { is_whole hail.old ≡ false }
     ensures { hail.new ≡ heard_with hail.old byte }
@@ -54,7 +54,7 @@ fn listen(hail: &mut Hail, byte: u8)
     let _ = hail.push(&[byte]);
 }
 
-/// Where a text is whole, appends its line, behind that of the noise in front of it.
+/// Appends the line of a text, if it is complete, after the line of the noise in front of it.
 fn settle<A: Allocator>(lines: &mut String<A>, noise: &mut Noise) -> Result<(), AllocError>
     requires places { HasPlaces noise.old 0 }
     requires within { heard_size noise.old.hail ≤ noise.old.size }
@@ -72,7 +72,7 @@ fn settle<A: Allocator>(lines: &mut String<A>, noise: &mut Noise) -> Result<(), 
     Ok(())
 }
 
-/// One byte of noise more, which may end a text.
+/// Hears one more byte of noise, which may end a text.
 pub fn hear<A: Allocator>(
     lines: &mut String<A>,
     noise: &mut Noise,

@@ -13,7 +13,7 @@ use crate::noise::{Noise, end_noise, hear};
 use std::alloc::{AllocError, Allocator};
 use uug_packet::Packet;
 
-/// Appends the line of a packet that takes so many bytes.
+/// Appends the line of a packet of `size` bytes.
 fn add_packet_line<A: Allocator>(
     lines: &mut String<A>,
     noise: &mut Noise,
@@ -45,7 +45,7 @@ fn add_damage_line<A: Allocator>(
     add_place(lines, at, 1)
 }
 
-/// Appends what the bytes at the front tell, whose first byte this is, and says how many they are.
+/// Appends the lines for the item at the front, whose first byte is `byte`. Returns the number of its bytes.
 fn add_front<A: Allocator>(
     lines: &mut String<A>,
     noise: &mut Noise,
@@ -75,7 +75,7 @@ fn add_front<A: Allocator>(
     }
 }
 
-/// Appends what the bytes tell, up to where they wait, and says how many bytes that is.
+/// Appends the lines for the bytes, up to where they wait. Returns the number of bytes up to there.
 pub fn add_parts<A: Allocator>(
     lines: &mut String<A>,
     noise: &mut Noise,
@@ -97,7 +97,7 @@ pub fn add_parts<A: Allocator>(
     Ok(passed)
 }
 
-/// Appends the last line: how many bytes wait at the end.
+/// Appends the last line: the number of bytes that wait at the end.
 pub fn add_rest<A: Allocator>(
     lines: &mut String<A>,
     noise: &mut Noise,

@@ -10,10 +10,10 @@ use std::alloc::{AllocError, Allocator};
 use uug_reader::{READER_SIZE, Reader};
 use uug_stream::{Input, Output, ToolFault, write_all};
 
-/// How many times an input is read, the read that finds its end among them.
+/// The most reads of an input, including the one that finds its end.
 pub const READ_LIMIT: u32 = 1_000_000_000;
 
-/// How many bytes are read at a time, at most.
+/// The most bytes of one read.
 pub const PIECE_SIZE: usize = 4096;
 
 /// Appends the line of each item that the reader finds, up to where its bytes wait.
@@ -33,7 +33,7 @@ fn list_items<A: Allocator>(
     Ok(())
 }
 
-/// Gives a whole piece to the reader, and appends the lines of what it then finds.
+/// Gives a whole piece to the reader, and appends the lines of what it finds then.
 fn list_piece<A: Allocator>(
     reader: &mut Reader<&A>,
     piece: &[u8],
@@ -55,7 +55,7 @@ fn list_piece<A: Allocator>(
     Ok(())
 }
 
-/// The same as `scan_stream`, with this limit of reads.
+/// Does the same as `scan_stream`, with this limit of reads.
 pub fn scan_within<A: Allocator, I: Input, O: Output>(
     alloc: A,
     input: &mut I,
@@ -95,9 +95,9 @@ pub fn scan_within<A: Allocator, I: Input, O: Output>(
     Err(ToolFault::Device)
 }
 
-/// Reads the input to its end, and writes the listing of its bytes: a line for each packet, and one with the
-/// number of bytes that wait at the end. What one read brought is listed before the next. Of two faults the one
-/// that the work meets first is answered; how much was written before a fault is left open.
+/// Reads the input to its end, and writes the listing of its bytes: a line for each packet, and one with the number of
+/// bytes that wait at the end. What one read brought is listed before the next. Of two faults the one that the work
+/// meets first is returned; how much was written before a fault is left open.
 pub fn scan_stream<A: Allocator, I: Input, O: Output>(
     alloc: A,
     input: &mut I,

@@ -1,17 +1,17 @@
-//! What is wrong with a line of a script.
+//! The error in a line of a script.
 use crate::field::Field;
 
-/// What is wrong with a line: of several things the first.
+/// The first error in a line.
 #[derive(Clone, Copy, Debug, PartialEq, Eq)]
 pub(crate) enum Complaint<'a> {
     /// The line is too long.
     TooLong,
-    /// No statement begins with this word.
+    /// The first word, with which no statement begins.
     Unknown(&'a [u8]),
-    /// The word is not what stands in its place.
+    /// The field that is expected, and the word in its place that doesn't fit.
     Wrong(Field, &'a [u8]),
-    /// The line ends before this.
+    /// The field before which the line ends.
     Missing(Field),
-    /// The word stands behind the last one that the statement has.
+    /// The first word after those that the statement has.
     TooMany(&'a [u8]),
 }

@@ -1,4 +1,4 @@
-//! What the lines of a script said so far.
+//! The statements of a script up to the present line.
 ghost use Rattle.std.specs.Prelude.{◌≡◌, [], ◌∷◌, ◌++◌, OnOk, IfOk, IfErr, Some};
 ghost use Rattle.uug_script.specs.Fields.{hex_bytes};
 ghost use Rattle.uug_script.specs.Meaning.{place as placed_line, job as job_line, number as number_line, quiet as quiet_line, short as short_line, lenient as lenient_line, digest as digest_line};
@@ -19,14 +19,14 @@ use uug_link::Announce;
 use uug_session::{Job, MemorySpool, Queue, QueueFault, Spool};
 use uug_talk::Name;
 
-/// What an end is called, and what it announces.
+/// The name of an end, and its announcement.
 #[derive(Clone, Copy, Debug)]
 pub(crate) struct EndPlace {
     name: Name,
     announce: Announce,
 }
 
-/// What was said of an end.
+/// The statements about an end.
 #[derive(Drop)]
 pub(crate) struct EndDraft<A: Allocator> {
     place: Option<EndPlace>,
@@ -34,13 +34,13 @@ pub(crate) struct EndDraft<A: Allocator> {
     spool: MemorySpool<A>,
     /// The number of its conversations.
     number: Option<u32>,
-    /// Whether it is quiet on repeats.
+    /// True if it is quiet on repeats.
     quiet: bool,
-    /// Whether its commands are short.
+    /// True if its commands are short.
     short: bool,
 }
 
-/// What was said.
+/// The statements of a script.
 #[derive(Drop)]
 pub(crate) struct Draft<A: Allocator> {
     caller: EndDraft<A>,
@@ -48,7 +48,7 @@ pub(crate) struct Draft<A: Allocator> {
     events: Vec<Event, A>,
 }
 
-/// The bytes that a word writes in hexadecimal digits; a dash writes none.
+/// Decodes a word of hexadecimal digits; a dash stands for no bytes.
 fn decode_bytes<A: Allocator>(alloc: A, hex: &[u8]) -> Result<Vec<u8, A>, LineFault>
     ensures bytes { IfOk result (λ bytes. hex_bytes hex.now ≡ Some bytes.items) }
     ensures fault { IfErr result (λ fault. Refuses fault (hex_bytes hex.now)) }
@@ -181,7 +181,7 @@ impl<A: Allocator + Copy> EndDraft<A> {
         }
     }
 
-    /// Adds what a line says of the end.
+    /// Adds a statement about the end.
     fn add(&mut self, alloc: A, line: &EndStatement<'_>) -> Result<(), LineFault>
         ensures ok { OnOk result
             (end_line_added line.now (said_of_end self.old) ≡ Some (said_of_end self.new)) }
@@ -203,7 +203,7 @@ impl<A: Allocator + Copy> EndDraft<A> {
         }
     }
 
-    /// What the end is set up with, or `None` where it is not placed.
+    /// Returns the set-up of the end, or `None` if it is not placed.
     fn complete(self) -> Option<EndSetup<A>>
         ensures { end_said_by result ≡ end_completed (place_by self.place) (said_of_end self) }
     {
@@ -233,7 +233,7 @@ fn add_event<A: Allocator>(events: &mut Vec<Event, A>, event: Event) -> Result<(
     Ok(())
 }
 
-/// So many times all bytes for the called end, and then all for the caller.
+/// Adds `turns` times two events: all bytes pass to the called end, then all to the caller.
 fn add_flow<A: Allocator>(events: &mut Vec<Event, A>, turns: u32) -> Result<(), AllocError>
     ensures { OnOk result (events.new.items ≡ events.old.items ++ flow_events turns) }
 {
@@ -251,7 +251,7 @@ fn add_flow<A: Allocator>(events: &mut Vec<Event, A>, turns: u32) -> Result<(), 
 }
 
 impl<A: Allocator + Copy> Draft<A> {
-    /// Nothing said yet. It takes no memory.
+    /// Makes an empty draft. It takes no memory.
     pub(crate) fn new(alloc: A) -> Self
         ensures { said_by result ≡ nothing_said }
     {
@@ -262,7 +262,7 @@ impl<A: Allocator + Copy> Draft<A> {
         }
     }
 
-    /// Adds what a line says.
+    /// Adds the statement of a line.
     fn add(&mut self, alloc: A, line: &Statement<'_>) -> Result<(), LineFault>
         ensures ok { OnOk result
             (line_added line.now (said_by self.old) ≡ Some (said_by self.new)) }
@@ -278,7 +278,7 @@ impl<A: Allocator + Copy> Draft<A> {
         }
     }
 
-    /// Adds what a line of the script says. A bad line is refused, and what was said is then of no more use.
+    /// Adds the statement of a line of the script. A bad line is an error; the draft is of no more use then.
     pub(crate) fn add_text(&mut self, alloc: A, line: &[u8]) -> Result<(), LineFault>
         ensures ok { OnOk result
             (text_added line.now (said_by self.old) ≡ Some (said_by self.new)) }
@@ -291,7 +291,7 @@ impl<A: Allocator + Copy> Draft<A> {
         }
     }
 
-    /// The script, or `None` where an end is not placed.
+    /// Returns the script, or `None` if an end is not placed.
     pub(crate) fn complete(self) -> Option<Script<A>>
         ensures { script_said_by result ≡ completed (said_by self) }
     {

@@ -5,28 +5,28 @@ ghost use Rattle.uug_script.specs.declared.fault.LineFault.TheVariants.{Memory a
 use std::alloc::AllocError;
 use thiserror::Error;
 
-/// Why there is no script.
+/// An error of reading a script.
 #[derive(Clone, Copy, Debug, PartialEq, Eq, Error)]
 pub enum ScriptFault {
     /// The first bad line, counted from 1.
     #[error("bad script at line {0}")]
     Bad(usize),
-    /// There is no memory for what the script says.
+    /// Memory ran out.
     #[error("out of memory")]
     Memory,
 }
 
-/// Why a line was not taken.
+/// An error of adding a line.
 #[derive(Clone, Copy, Debug, PartialEq, Eq)]
 pub(crate) enum LineFault {
-    /// The line is bad, by itself or behind the lines before it.
+    /// The line is bad, by itself or after the lines before it.
     Bad,
-    /// There is no memory for what it says.
+    /// Memory ran out.
     Memory,
 }
 
 impl LineFault {
-    /// The fault of the script whose line this was.
+    /// Returns the error of the script whose line this was.
     pub(crate) fn at(self, line: usize) -> ScriptFault
         ensures { result ≡ fault_at line self }
     {

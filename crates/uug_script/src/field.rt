@@ -1,8 +1,8 @@
-//! What a word of a line has to be.
+//! The kinds of words in a line.
 ghost use Rattle.std.specs.Prelude.{◌≡◌};
 ghost use Rattle.uug_script.specs.Remarks.{noun, wanted};
 
-/// What a word of a line has to be.
+/// The kind of a word in a line.
 #[derive(Clone, Copy, Debug, PartialEq, Eq)]
 pub(crate) enum Field {
     /// `caller` or `called`.
@@ -23,12 +23,12 @@ pub(crate) enum Field {
     Turns,
     /// The number of a conversation.
     Number,
-    /// One byte in hexadecimal digits.
+    /// A byte in hexadecimal digits.
     Byte,
 }
 
 impl Field {
-    /// What such a word is called.
+    /// Returns the noun for the kind.
     pub(crate) fn noun(self) -> &'static str
         ensures { result.now ≡ noun self }
     {
@@ -44,7 +44,7 @@ impl Field {
         }
     }
 
-    /// What it has to be.
+    /// Returns a description of the words that fit.
     pub(crate) fn wanted(self) -> &'static str
         ensures { result.now ≡ wanted self }
     {

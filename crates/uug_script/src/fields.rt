@@ -1,4 +1,4 @@
-//! What single words of a line say.
+//! Reads single words of a line.
 ghost use Rattle.std.specs.Prelude.{◌≡◌, ◌≤◌, IfSome};
 ghost use Rattle.std.specs.Str.{bytes_eq};
 ghost use Rattle.uug_script.specs.Fields.{side_of, mode_of_word, byte_of, window_of, announcement_of};
@@ -14,14 +14,14 @@ use uug_talk::{Name, read_mode, read_number};
 /// The most octal digits of a mode in a script.
 pub(crate) const MODE_DIGITS: usize = 4;
 
-/// Whether a word is this one.
+/// Returns whether a word is this one.
 pub(crate) fn spells(word: &[u8], text: &[u8]) -> bool
     ensures { result ≡ bytes_eq word.now text.now }
 {
     word == text
 }
 
-/// `caller` or `called`.
+/// Reads `caller` or `called`. `None` if it is neither.
 pub(crate) fn read_side(word: &[u8]) -> Option<Side>
     ensures { result ≡ side_of word.now }
 {
@@ -34,14 +34,14 @@ pub(crate) fn read_side(word: &[u8]) -> Option<Side>
     }
 }
 
-/// The name that a word is.
+/// Reads a name. `None` if the word is none.
 pub(crate) fn read_name(word: &[u8]) -> Option<Name>
     ensures { result ≡ name_of word.now }
 {
     Name::new(word).ok()
 }
 
-/// The mode that one to four octal digits write.
+/// Reads a mode of one to four octal digits. `None` if the word is none.
 pub(crate) fn read_short_mode(word: &[u8]) -> Option<Mode>
     ensures { mode_bits result ≡ mode_of_word word.now }
 {
@@ -52,7 +52,7 @@ pub(crate) fn read_short_mode(word: &[u8]) -> Option<Mode>
     Some(Mode { bits })
 }
 
-/// The byte that two hexadecimal digits write.
+/// Reads a byte of two hexadecimal digits. `None` if the word is none.
 pub(crate) fn read_byte(word: &[u8]) -> Option<u8>
     ensures { result ≡ byte_of word.now }
 {
@@ -60,7 +60,7 @@ pub(crate) fn read_byte(word: &[u8]) -> Option<u8>
     Some(byte)
 }
 
-/// The window that a word writes, 1 to 7.
+/// Reads a window, 1 to 7. `None` if the word is none.
 pub(crate) fn read_window(word: &[u8]) -> Option<u8>
     ensures { result ≡ window_of word.now }
 {
@@ -71,7 +71,7 @@ pub(crate) fn read_window(word: &[u8]) -> Option<u8>
     Some(window as u8)
 }
 
-/// The announcement of a window and of the packet size that a word writes.
+/// Makes the announcement of a window and of the packet size in a word. `None` if the word is no packet size.
 pub(crate) fn read_announce(window: u8, size: &[u8]) -> Option<Announce>
     ensures { announced_by result ≡ announcement_of window size.now }
 {

@@ -1,4 +1,4 @@
-//! A job as the line of a script that gives it.
+//! Writes a job as the line of a script.
 ghost use Rattle.std.specs.Prelude.{◌≡◌, ◌∷◌, [], ◌++◌, OnOk, codes, string_bytes};
 ghost use Rattle.uug_talk.specs.Words.{joined};
 ghost use Rattle.uug_session.specs.PhaseWords.{side_word};

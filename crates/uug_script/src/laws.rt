@@ -16,7 +16,8 @@ ghost use Rattle.uug_script.specs.ReadLine.{line_of};
 ghost use Rattle.uug_script.specs.Script.{ScriptSays};
 ghost use Rattle.uug_script.specs.ScriptOf.{script_of};
 
-/// A text is one script, or has one first bad line: what it is, is read of it, and what is read of it, it is.
+/// States that a text has one reading: it is one script, or has one first bad line. The reader finds it, and what the
+/// reader finds is so.
 pub fn one_reading_of_scripts()
     ensures script { (text : List ℕ) (script : ScriptSays) →
         IsScript text script → script_of text ≡ Ok script }
@@ -26,8 +27,7 @@ pub fn one_reading_of_scripts()
     ensures read_bad { (text : List ℕ) (n : ℕ) → script_of text ≡ Err n → IsFirstBad text n }
 {}
 
-/// A line says something, or a complaint is made of it: of each line one of the two. A good line has no complaint, and a
-/// bad one has one.
+/// States that each line either says something or has a complaint. A good line has no complaint, and a bad one has one.
 pub fn a_bad_line_has_a_complaint()
     ensures good { (line : List ℕ) (m : LineMeaning) → TextSays line m → line_of line ≡ Ok m }
     ensures says { (line : List ℕ) (m : LineMeaning) → line_of line ≡ Ok m → TextSays line m }
@@ -37,14 +37,14 @@ pub fn a_bad_line_has_a_complaint()
         → TextSays line m → ⊥ }
 {}
 
-/// The words that are written of a job are those of a line that gives it.
+/// States that the words written for a job are those of a line that gives it.
 pub fn a_job_is_written_as_a_line_says_it()
     ensures { (side : Side) (given : Job) → HasNames given
         → LineSays (job_words side given) (of_end side (job given)) }
 {}
 
-/// Each limit of a script is this number: of the bytes that one event passes or drops, of the turns of one `flow`, and of
-/// the octal digits of a mode, and of the bytes of a word that a remark shows. That of a line is of `uug_talk`.
+/// States the limits of a script: the bytes that one event passes or drops, the turns of one `flow`, the octal digits
+/// of a mode, and the bytes of a word that a remark shows. The limit of a line is in `uug_talk`.
 pub fn limits()
     ensures bytes { BYTES_MAX ≡ 1000000000 }
     ensures turns { TURNS_MAX ≡ 100000 }

@@ -1,4 +1,4 @@
-//! Scripts of sessions as texts, what is wrong with a bad one, and the text of a report.
+//! Scripts of sessions as texts, the errors of a bad one, and the text of a report.
 #![tactic(auto)]
 
 mod complaint;

@@ -1,4 +1,4 @@
-//! What a line of a script says, or what is wrong with it.
+//! Reads a line of a script.
 ghost use Rattle.std.specs.Prelude.{◌≡◌, MatchResult, Ok, Err};
 ghost use Rattle.std.specs.Result.{result_err, result_ok};
 ghost use Rattle.uug_talk.specs.Words.{words};
@@ -22,50 +22,50 @@ use uug_talk::{LINE_MAX, NUMBER_MAX, Name, split_word};
 /// The most bytes that one event passes or drops.
 pub const BYTES_MAX: u32 = 1_000_000_000;
 
-/// The most turns that one line has flow.
+/// The most turns of one `flow` line.
 pub const TURNS_MAX: u32 = 100_000;
 
-/// What a line says.
+/// The statement of a line.
 #[derive(Clone, Copy, Debug)]
 pub(crate) enum Statement<'a> {
-    /// Nothing: it has no word, or is a comment.
+    /// A line without a word, or a comment.
     Nothing,
-    /// Something of an end's set-up.
+    /// A part of an end's set-up.
     End(Side, EndStatement<'a>),
-    /// What happens next.
+    /// An event.
     Event(Event),
-    /// So many times all bytes for the called end come to it, and then all for the caller.
+    /// The number of turns. In each, all bytes pass to the called end, and then all to the caller.
     Flow(u32),
 }
 
-/// What a line says of an end's set-up.
+/// A statement about an end's set-up.
 #[derive(Clone, Copy, Debug)]
 pub(crate) enum EndStatement<'a> {
-    /// What the end is called, and what it announces.
+    /// The name of the end, and its announcement.
     Place(Name, Announce),
-    /// A file to give, its bytes as they are written.
+    /// A file to give, with its bytes in hexadecimal digits as written.
     File(Name, Mode, &'a [u8]),
     /// A job.
     Job(Job),
-    /// A file of this name is never taken.
+    /// The name of a file that is never taken.
     Deny(Name),
-    /// A file of this name is not taken now.
+    /// The name of a file that is not taken now.
     Later(Name),
-    /// A file of this name can't be put in its place.
+    /// The name of a file that can't be put in its place.
     Immovable(Name),
     /// The number of its conversations.
     Number(u32),
-    /// It is quiet on repeats.
+    /// The end is quiet on repeats.
     Quiet,
-    /// Its commands are short.
+    /// The end's commands are short.
     Short,
-    /// It refuses what it can't read, and goes on.
+    /// The end refuses what it can't read, and goes on.
     Lenient,
-    /// It tells digests of its files, and compares those that it is told.
+    /// The end announces digests of its files, and compares those that it receives.
     Digest,
 }
 
-/// `caller NAME WINDOW SIZE`, or the same of the called end.
+/// Reads `caller NAME WINDOW SIZE`, or the same of the called end.
 fn read_place(side: Side, text: &[u8]) -> Result<Statement<'_>, Complaint<'_>>
     ensures { read_as result ≡ known (place_of side (words text.now)) }
 {
@@ -78,7 +78,7 @@ fn read_place(side: Side, text: &[u8]) -> Result<Statement<'_>, Complaint<'_>>
     Ok(Statement::End(side, EndStatement::Place(name, announce)))
 }
 
-/// `file SIDE NAME MODE HEX`.
+/// Reads `file SIDE NAME MODE HEX`.
 fn read_file(text: &[u8]) -> Result<Statement<'_>, Complaint<'_>>
     ensures { read_as result ≡ known (file_of (words text.now)) }
 {
@@ -92,7 +92,7 @@ fn read_file(text: &[u8]) -> Result<Statement<'_>, Complaint<'_>>
     Ok(Statement::End(side, EndStatement::File(name, mode, hex)))
 }
 
-/// `send SIDE SOURCE TARGET USER [TEMP]`.
+/// Reads `send SIDE SOURCE TARGET USER [TEMP]`.
 fn read_send(text: &[u8]) -> Result<Statement<'_>, Complaint<'_>>
     ensures { read_as result ≡ known (send_of (words text.now)) }
 {
@@ -113,7 +113,7 @@ fn read_send(text: &[u8]) -> Result<Statement<'_>, Complaint<'_>>
     Ok(Statement::End(side, EndStatement::Job(job)))
 }
 
-/// `request SIDE SOURCE TARGET USER`.
+/// Reads `request SIDE SOURCE TARGET USER`.
 fn read_request(text: &[u8]) -> Result<Statement<'_>, Complaint<'_>>
     ensures { read_as result ≡ known (request_of (words text.now)) }
 {
@@ -133,7 +133,7 @@ fn read_request(text: &[u8]) -> Result<Statement<'_>, Complaint<'_>>
     Ok(Statement::End(side, EndStatement::Job(job)))
 }
 
-/// A side and a name, and no more.
+/// Reads a side and a name, and no more.
 fn read_side_and_name(text: &[u8]) -> Result<(Side, Name), Complaint<'_>>
     ensures { MatchResult result (λ found. side_and_name (words text.now) ≡ Ok found)
         (λ fault. side_and_name (words text.now) ≡ Err (shown fault)) }
@@ -145,7 +145,7 @@ fn read_side_and_name(text: &[u8]) -> Result<(Side, Name), Complaint<'_>>
     Ok((side, name))
 }
 
-/// A side and a number that is at most this one, and no more.
+/// Reads a side and a number that is at most `most`, and no more.
 fn read_side_and_number(field: Field, most: u32, text: &[u8]) -> Result<(Side, u32), Complaint<'_>>
     ensures { MatchResult result (λ found. side_and_number field most (words text.now) ≡ Ok found)
         (λ fault. side_and_number field most (words text.now) ≡ Err (shown fault)) }
@@ -156,7 +156,7 @@ fn read_side_and_number(field: Field, most: u32, text: &[u8]) -> Result<(Side, u
     Ok((side, number))
 }
 
-/// A side and a byte, and no more.
+/// Reads a side and a byte, and no more.
 fn read_side_and_byte(text: &[u8]) -> Result<(Side, u8), Complaint<'_>>
     ensures { MatchResult result (λ found. side_and_byte (words text.now) ≡ Ok found)
         (λ fault. side_and_byte (words text.now) ≡ Err (shown fault)) }
@@ -167,7 +167,7 @@ fn read_side_and_byte(text: &[u8]) -> Result<(Side, u8), Complaint<'_>>
     Ok((side, byte))
 }
 
-/// A side, and no more.
+/// Reads a side, and no more.
 fn read_one_side(text: &[u8]) -> Result<Side, Complaint<'_>>
     ensures { MatchResult result (λ found. one_side (words text.now) ≡ Ok found)
         (λ fault. one_side (words text.now) ≡ Err (shown fault)) }
@@ -177,7 +177,7 @@ fn read_one_side(text: &[u8]) -> Result<Side, Complaint<'_>>
     Ok(side)
 }
 
-/// `call`.
+/// Reads `call`.
 fn read_call(text: &[u8]) -> Result<Statement<'_>, Complaint<'_>>
     ensures { read_as result ≡ known (call_of (words text.now)) }
 {
@@ -185,7 +185,7 @@ fn read_call(text: &[u8]) -> Result<Statement<'_>, Complaint<'_>>
     Ok(Statement::Event(Event::Call))
 }
 
-/// `flow N`.
+/// Reads `flow N`.
 fn read_flow(text: &[u8]) -> Result<Statement<'_>, Complaint<'_>>
     ensures { read_as result ≡ known (flow_of (words text.now)) }
 {
@@ -194,7 +194,7 @@ fn read_flow(text: &[u8]) -> Result<Statement<'_>, Complaint<'_>>
     Ok(Statement::Flow(turns))
 }
 
-/// `deny SIDE NAME`.
+/// Reads `deny SIDE NAME`.
 fn read_deny(text: &[u8]) -> Result<Statement<'_>, Complaint<'_>>
     ensures { read_as result ≡ known (deny_of (words text.now)) }
 {
@@ -202,7 +202,7 @@ fn read_deny(text: &[u8]) -> Result<Statement<'_>, Complaint<'_>>
     Ok(Statement::End(side, EndStatement::Deny(name)))
 }
 
-/// `later SIDE NAME`.
+/// Reads `later SIDE NAME`.
 fn read_later(text: &[u8]) -> Result<Statement<'_>, Complaint<'_>>
     ensures { read_as result ≡ known (later_of (words text.now)) }
 {
@@ -210,7 +210,7 @@ fn read_later(text: &[u8]) -> Result<Statement<'_>, Complaint<'_>>
     Ok(Statement::End(side, EndStatement::Later(name)))
 }
 
-/// `immovable SIDE NAME`.
+/// Reads `immovable SIDE NAME`.
 fn read_immovable(text: &[u8]) -> Result<Statement<'_>, Complaint<'_>>
     ensures { read_as result ≡ known (immovable_of (words text.now)) }
 {
@@ -218,7 +218,7 @@ fn read_immovable(text: &[u8]) -> Result<Statement<'_>, Complaint<'_>>
     Ok(Statement::End(side, EndStatement::Immovable(name)))
 }
 
-/// `number SIDE N`.
+/// Reads `number SIDE N`.
 fn read_number_line(text: &[u8]) -> Result<Statement<'_>, Complaint<'_>>
     ensures { read_as result ≡ known (number_line_of (words text.now)) }
 {
@@ -226,7 +226,7 @@ fn read_number_line(text: &[u8]) -> Result<Statement<'_>, Complaint<'_>>
     Ok(Statement::End(side, EndStatement::Number(number)))
 }
 
-/// `quiet SIDE`.
+/// Reads `quiet SIDE`.
 fn read_quiet(text: &[u8]) -> Result<Statement<'_>, Complaint<'_>>
     ensures { read_as result ≡ known (quiet_of (words text.now)) }
 {
@@ -234,7 +234,7 @@ fn read_quiet(text: &[u8]) -> Result<Statement<'_>, Complaint<'_>>
     Ok(Statement::End(side, EndStatement::Quiet))
 }
 
-/// `short SIDE`.
+/// Reads `short SIDE`.
 fn read_short(text: &[u8]) -> Result<Statement<'_>, Complaint<'_>>
     ensures { read_as result ≡ known (short_of (words text.now)) }
 {
@@ -242,7 +242,7 @@ fn read_short(text: &[u8]) -> Result<Statement<'_>, Complaint<'_>>
     Ok(Statement::End(side, EndStatement::Short))
 }
 
-/// `lenient SIDE`.
+/// Reads `lenient SIDE`.
 fn read_lenient(text: &[u8]) -> Result<Statement<'_>, Complaint<'_>>
     ensures { read_as result ≡ known (lenient_of (words text.now)) }
 {
@@ -250,7 +250,7 @@ fn read_lenient(text: &[u8]) -> Result<Statement<'_>, Complaint<'_>>
     Ok(Statement::End(side, EndStatement::Lenient))
 }
 
-/// `digest SIDE`.
+/// Reads `digest SIDE`.
 fn read_digest(text: &[u8]) -> Result<Statement<'_>, Complaint<'_>>
     ensures { read_as result ≡ known (digest_of (words text.now)) }
 {
@@ -258,7 +258,7 @@ fn read_digest(text: &[u8]) -> Result<Statement<'_>, Complaint<'_>>
     Ok(Statement::End(side, EndStatement::Digest))
 }
 
-/// `pass SIDE N`.
+/// Reads `pass SIDE N`.
 fn read_pass(text: &[u8]) -> Result<Statement<'_>, Complaint<'_>>
     ensures { read_as result ≡ known (pass_of (words text.now)) }
 {
@@ -266,7 +266,7 @@ fn read_pass(text: &[u8]) -> Result<Statement<'_>, Complaint<'_>>
     Ok(Statement::Event(Event::Pass { side, n }))
 }
 
-/// `drop SIDE N`.
+/// Reads `drop SIDE N`.
 fn read_drop(text: &[u8]) -> Result<Statement<'_>, Complaint<'_>>
     ensures { read_as result ≡ known (drop_of (words text.now)) }
 {
@@ -274,7 +274,7 @@ fn read_drop(text: &[u8]) -> Result<Statement<'_>, Complaint<'_>>
     Ok(Statement::Event(Event::Drop { side, n }))
 }
 
-/// `flip SIDE HH`.
+/// Reads `flip SIDE HH`.
 fn read_flip(text: &[u8]) -> Result<Statement<'_>, Complaint<'_>>
     ensures { read_as result ≡ known (flip_of (words text.now)) }
 {
@@ -282,7 +282,7 @@ fn read_flip(text: &[u8]) -> Result<Statement<'_>, Complaint<'_>>
     Ok(Statement::Event(Event::Flip { side, mask }))
 }
 
-/// `insert SIDE HH`.
+/// Reads `insert SIDE HH`.
 fn read_insert(text: &[u8]) -> Result<Statement<'_>, Complaint<'_>>
     ensures { read_as result ≡ known (insert_of (words text.now)) }
 {
@@ -290,7 +290,7 @@ fn read_insert(text: &[u8]) -> Result<Statement<'_>, Complaint<'_>>
     Ok(Statement::Event(Event::Insert { side, byte }))
 }
 
-/// `timeout SIDE`.
+/// Reads `timeout SIDE`.
 fn read_timeout(text: &[u8]) -> Result<Statement<'_>, Complaint<'_>>
     ensures { read_as result ≡ known (timeout_of (words text.now)) }
 {
@@ -298,7 +298,7 @@ fn read_timeout(text: &[u8]) -> Result<Statement<'_>, Complaint<'_>>
     Ok(Statement::Event(Event::Timeout { side }))
 }
 
-/// `hangup SIDE`.
+/// Reads `hangup SIDE`.
 fn read_hang_up(text: &[u8]) -> Result<Statement<'_>, Complaint<'_>>
     ensures { read_as result ≡ known (hang_up_of (words text.now)) }
 {
@@ -306,7 +306,7 @@ fn read_hang_up(text: &[u8]) -> Result<Statement<'_>, Complaint<'_>>
     Ok(Statement::Event(Event::HangUp { side }))
 }
 
-/// A line of an end's set-up, or of an event, by its first word.
+/// Reads a line of an end's set-up or of an event, by its first word.
 fn read_by<'a>(first: &'a [u8], rest: &'a [u8]) -> Result<Statement<'a>, Complaint<'a>>
     ensures { read_as result ≡ known (line_by first.now (words rest.now)) }
 {
@@ -341,7 +341,7 @@ fn read_by<'a>(first: &'a [u8], rest: &'a [u8]) -> Result<Statement<'a>, Complai
     }
 }
 
-/// A line of an event, by its first word.
+/// Reads a line of an event, by its first word.
 fn read_event<'a>(first: &'a [u8], rest: &'a [u8]) -> Result<Statement<'a>, Complaint<'a>>
     ensures { read_as result ≡ known (event_by first.now (words rest.now)) }
 {
@@ -366,7 +366,7 @@ fn read_event<'a>(first: &'a [u8], rest: &'a [u8]) -> Result<Statement<'a>, Comp
     }
 }
 
-/// What a line says, by its words.
+/// Reads the words of a line. A line without words, or a comment, is no statement.
 fn read_words(line: &[u8]) -> Result<Statement<'_>, Complaint<'_>>
     ensures { read_as result ≡ known (line_of_words (words line.now)) }
 {
@@ -379,7 +379,7 @@ fn read_words(line: &[u8]) -> Result<Statement<'_>, Complaint<'_>>
     read_by(first, rest)
 }
 
-/// What a line says, or the first thing that is wrong with it.
+/// Reads a line. Returns the first error in a bad one.
 pub(crate) fn read_line(line: &[u8]) -> Result<Statement<'_>, Complaint<'_>>
     ensures said { meaning_of result ≡ result_ok (line_of line.now) }
     ensures wrong { complaint_in result ≡ result_err (line_of line.now) }

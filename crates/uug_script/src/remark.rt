@@ -1,4 +1,4 @@
-//! What is wrong with a script, as a text.
+//! Describes the errors of a script as texts.
 ghost use Rattle.std.specs.Prelude.{◌≡◌, ◌++◌, IfOk, OnOk, codes, string_bytes};
 ghost use Rattle.std.specs.Char.{is_ascii_graphic};
 ghost use Rattle.std.specs.List.{list_all};
@@ -11,7 +11,7 @@ use crate::line::read_line;
 use std::alloc::{AllocError, Allocator};
 use uug_talk::split_line;
 
-/// The longest word that is told.
+/// The length of the longest word that is shown.
 const SHOWN_MAX: usize = 40;
 
 fn are_visible(word: &[u8]) -> bool
@@ -39,7 +39,7 @@ fn add_word<A: Allocator>(text: &mut String<A>, word: &[u8]) -> Result<(), Alloc
     write!(text, " {word}")
 }
 
-/// Appends that the word is not what it has to be.
+/// Appends that the word doesn't fit the field.
 fn add_wrong<A: Allocator>(
     text: &mut String<A>,
     field: Field,
@@ -82,7 +82,7 @@ fn add_unexpected<A: Allocator>(text: &mut String<A>, word: &[u8]) -> Result<(),
     add_word(text, word)
 }
 
-/// Appends what is wrong with a line.
+/// Appends the error of a line.
 fn add_complaint<A: Allocator>(
     text: &mut String<A>,
     complaint: &Complaint<'_>,
@@ -99,7 +99,7 @@ fn add_complaint<A: Allocator>(
     }
 }
 
-/// The line of this number, counted from 1.
+/// Returns the line of this number, counted from 1.
 fn line_at(script: &[u8], number: usize) -> Option<&[u8]>
     ensures { line_shown result ≡ line_at number script.now }
 {
@@ -114,8 +114,8 @@ fn line_at(script: &[u8], number: usize) -> Option<&[u8]>
     Some(line)
 }
 
-/// What is wrong with the first bad line of a script, whose number is counted from 1, as a text: of several things the
-/// first. One behind the last line is that of an end that is not set up.
+/// Returns a text for the first error in the first bad line of a script, whose number is counted from 1. The number
+/// after the last line is that of an end that is not set up.
 pub fn script_remark<A: Allocator>(
     alloc: A,
     script: &[u8],

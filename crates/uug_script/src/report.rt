@@ -11,40 +11,40 @@ use uug_line::{LineVerdict, Side};
 use uug_session::{Phase, Stored, phase_word, side_word};
 use uug_talk::mode_digits;
 
-/// What one end did in one session.
+/// The counts of one end in one session.
 #[derive(Clone, Copy, Debug)]
 pub struct EndNumbers {
-    /// How many messages it sent, each counted once.
+    /// The number of messages that it sent, each counted once.
     pub sent: usize,
-    /// How many messages it took.
+    /// The number of messages that it took.
     pub taken: usize,
     /// The most packets that it had unacknowledged.
     pub most: usize,
-    /// Where its session stands.
+    /// The phase of its session.
     pub phase: Phase,
 }
 
-/// One session.
+/// The counts of one session.
 #[derive(Clone, Copy, Debug)]
 pub struct SessionNumbers {
-    /// What the caller did.
+    /// The counts of the caller.
     pub caller: EndNumbers,
-    /// What the called end did.
+    /// The counts of the called end.
     pub called: EndNumbers,
 }
 
-/// What became of the jobs of an end, the files that it has stored, in order, and the number that it keeps.
+/// The numbers of an end's jobs, the files that it has stored, in order, and the number that it keeps.
 #[derive(Drop)]
 pub struct ShownEnd<'a, A: Allocator> {
-    /// How many jobs are pending.
+    /// The number of pending jobs.
     pub pending: usize,
-    /// How many jobs were done.
+    /// The number of jobs that were done.
     pub struck: usize,
-    /// How many jobs were given up.
+    /// The number of jobs that were given up.
     pub failed: usize,
     /// The stored files.
     pub stored: &'a [Stored<A>],
-    /// The number of its next conversation, where it keeps one.
+    /// The number of its next conversation, if it keeps one.
     pub number: Option<u32>,
 }
 
@@ -53,11 +53,11 @@ pub struct ShownEnd<'a, A: Allocator> {
 pub struct ShownReport<'a, A: Allocator> {
     /// The sessions, in order.
     pub sessions: &'a [SessionNumbers],
-    /// The caller as it stands.
+    /// The caller in its present state.
     pub caller: ShownEnd<'a, A>,
-    /// The called end as it stands.
+    /// The called end in its present state.
     pub called: ShownEnd<'a, A>,
-    /// Whether the line fooled an end.
+    /// The verdict: whether the line fooled an end.
     pub verdict: LineVerdict,
 }
 
@@ -131,7 +131,7 @@ fn add_jobs_line<A: Allocator, B: Allocator>(
     )
 }
 
-/// The digits of a file's bytes, or a dash where there is none.
+/// Returns the hexadecimal digits of a file's bytes, or a dash if there are none.
 fn hex_text<A: Allocator>(alloc: A, bytes: &[u8]) -> Result<String<A>, AllocError>
     ensures { IfOk result (λ text. string_bytes text ≡ hex_text bytes.now) }
 {
@@ -178,7 +178,7 @@ fn add_stored<A: Allocator + Copy, B: Allocator>(
     Ok(())
 }
 
-/// Appends the line of an end's number, where it keeps one.
+/// Appends the line of an end's number, if it keeps one.
 fn add_number_line<A: Allocator>(
     text: &mut String<A>,
     side: Side,
@@ -210,8 +210,8 @@ fn add_verdict_line<A: Allocator>(
     }
 }
 
-/// The text of a report: the sessions, then what became of the jobs of the caller and of the called end, then the files
-/// that they stored, then the numbers that they keep, and last the verdict.
+/// Returns the text of a report: the sessions, then the jobs of the caller and of the called end, then the files that
+/// they stored, then the numbers that they keep, and last the verdict.
 fn report_text<A: Allocator + Copy, B: Allocator>(
     alloc: A,
     report: &ShownReport<'_, B>,
@@ -230,7 +230,7 @@ fn report_text<A: Allocator + Copy, B: Allocator>(
     Ok(text)
 }
 
-/// Appends the text of a report. Out of memory leaves the string as it was.
+/// Appends the text of a report. If memory runs out, the string stays as it was.
 pub fn add_report<A: Allocator + Copy, B: Allocator>(
     alloc: A,
     text: &mut String<A>,

@@ -8,16 +8,17 @@ use std::alloc::Allocator;
 use uug_line::{Event, Setup};
 use uug_talk::split_line;
 
-/// What a script says: the two ends, and what happens.
+/// A script: the two ends and the events.
 #[derive(Drop)]
 pub struct Script<A: Allocator> {
     /// The two ends.
     pub setup: Setup<A>,
-    /// What happens, in order.
+    /// The events, in order.
     pub events: Vec<Event, A>,
 }
 
-/// Reads a script. The first bad line in order is answered, the line behind the last one where an end is not placed.
+/// Reads a script. Returns the number of the first bad line as the error, or that of the line after the last one if an
+/// end is not placed.
 pub fn read_script<A: Allocator + Copy>(alloc: A, text: &[u8]) -> Result<Script<A>, ScriptFault>
     // What is read is what the text says.
     ensures script { IfOk result (λ script. IsScript text.now (script_said script)) }

@@ -1,4 +1,4 @@
-//! The words of a line, taken from its front: each is what has to stand in its place, or the line is wrong there.
+//! Takes words from the front of a line. A word that is not what its place needs is an error.
 ghost use Rattle.std.specs.Prelude.{◌≡◌, ◌==◌, ◌&&◌, ◌||◌, ◌%◌, ◌∷◌, [], IfErr, IfOk, MatchBool, MatchResult, None, Some, Ok, Err, codes, length};
 ghost use Rattle.std.specs.Char.{is_ascii_hexdigit};
 ghost use Rattle.std.specs.List.{list_all};
@@ -20,7 +20,7 @@ use uug_line::Side;
 use uug_link::Announce;
 use uug_talk::{Name, read_number, split_word};
 
-/// A side.
+/// Takes a side.
 pub(crate) fn take_side(text: &[u8]) -> Result<(Side, &[u8]), Complaint<'_>>
     ensures { taken result ≡ side_at (words text.now) }
 {
@@ -29,7 +29,7 @@ pub(crate) fn take_side(text: &[u8]) -> Result<(Side, &[u8]), Complaint<'_>>
     Ok((side, rest))
 }
 
-/// The word in front, which has to be this.
+/// Takes the next word. The error is that this field is missing.
 pub(crate) fn take_word(field: Field, text: &[u8]) -> Result<(&[u8], &[u8]), Complaint<'_>>
     ensures word { MatchResult result
         (λ found. words text.now ≡ found.0.now ∷ words found.1.now) (λ fault. words text.now ≡ []) }
@@ -38,7 +38,7 @@ pub(crate) fn take_word(field: Field, text: &[u8]) -> Result<(&[u8], &[u8]), Com
     split_word(text).ok_or(Complaint::Missing(field))
 }
 
-/// The name that the word is.
+/// Reads the word as a name.
 pub(crate) fn name_in(word: &[u8]) -> Result<Name, Complaint<'_>>
     ensures name { MatchResult result (λ name. name_of word.now ≡ Some name)
         (λ fault. name_of word.now ≡ None) }
@@ -47,7 +47,7 @@ pub(crate) fn name_in(word: &[u8]) -> Result<Name, Complaint<'_>>
     read_name(word).ok_or(Complaint::Wrong(Field::Name, word))
 }
 
-/// The name of a copy, if there is one more word, and no more.
+/// Reads the name of a copy, if there is one more word, and no more.
 pub(crate) fn read_copy(text: &[u8]) -> Result<Option<Name>, Complaint<'_>>
     ensures { MatchResult result (λ temp. copy_of (words text.now) ≡ Ok temp)
         (λ fault. copy_of (words text.now) ≡ Err (shown fault)) }
@@ -61,7 +61,7 @@ pub(crate) fn read_copy(text: &[u8]) -> Result<Option<Name>, Complaint<'_>>
     Ok(Some(name))
 }
 
-/// A window.
+/// Takes a window.
 pub(crate) fn take_window(text: &[u8]) -> Result<(u8, &[u8]), Complaint<'_>>
     ensures { taken result ≡ window_at (words text.now) }
 {
@@ -70,7 +70,7 @@ pub(crate) fn take_window(text: &[u8]) -> Result<(u8, &[u8]), Complaint<'_>>
     Ok((window, rest))
 }
 
-/// The announcement of a window and of the packet size that the word is.
+/// Makes the announcement of a window and of the packet size in the word.
 pub(crate) fn announce_in(window: u8, word: &[u8]) -> Result<Announce, Complaint<'_>>
     ensures announced { MatchResult result
         (λ announce. announcement_of window word.now ≡ Some (announced announce))
@@ -80,7 +80,7 @@ pub(crate) fn announce_in(window: u8, word: &[u8]) -> Result<Announce, Complaint
     read_announce(window, word).ok_or(Complaint::Wrong(Field::Size, word))
 }
 
-/// The mode that the word is.
+/// Reads the word as a mode.
 pub(crate) fn mode_in(word: &[u8]) -> Result<Mode, Complaint<'_>>
     ensures mode { MatchResult result (λ mode. mode_of_word word.now ≡ Some mode.bits)
         (λ fault. mode_of_word word.now ≡ None) }
@@ -102,7 +102,7 @@ fn looks_hex(word: &[u8]) -> bool
     spells(word, b"-") || word.len() % 2 == 0 && are_hex_digits(word)
 }
 
-/// Whether the word writes bytes.
+/// Returns whether the word writes bytes.
 fn is_hex(word: &[u8]) -> bool
     ensures { MatchBool result (hex_bytes word.now ≡ Some (bytes_of word.now))
         (hex_bytes word.now ≡ None) }
@@ -110,7 +110,7 @@ fn is_hex(word: &[u8]) -> bool
     looks_hex(word)
 }
 
-/// Bytes in hexadecimal digits, as they are written.
+/// Takes bytes in hexadecimal digits, and returns the digits as written.
 pub(crate) fn take_hex(text: &[u8]) -> Result<(&[u8], &[u8]), Complaint<'_>>
     ensures exact { MatchResult result
         (λ found. hex_at (words text.now) ≡ Ok (bytes_of found.0.now, words found.1.now))
@@ -124,7 +124,7 @@ pub(crate) fn take_hex(text: &[u8]) -> Result<(&[u8], &[u8]), Complaint<'_>>
     Ok((word, rest))
 }
 
-/// A number that is at most this one.
+/// Takes a number that is at most `most`.
 pub(crate) fn take_number(
     field: Field,
     most: u32,
@@ -137,7 +137,7 @@ pub(crate) fn take_number(
     Ok((number, rest))
 }
 
-/// One byte in hexadecimal digits.
+/// Takes one byte of two hexadecimal digits.
 pub(crate) fn take_byte(text: &[u8]) -> Result<(u8, &[u8]), Complaint<'_>>
     ensures { taken result ≡ byte_at (words text.now) }
 {
@@ -146,7 +146,7 @@ pub(crate) fn take_byte(text: &[u8]) -> Result<(u8, &[u8]), Complaint<'_>>
     Ok((byte, rest))
 }
 
-/// No more words.
+/// Checks that no words are left.
 pub(crate) fn take_end(text: &[u8]) -> Result<(), Complaint<'_>>
     ensures { MatchResult result (λ _. ends (words text.now) ≡ Ok tt)
         (λ fault. ends (words text.now) ≡ Err (shown fault)) }

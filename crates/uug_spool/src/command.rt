@@ -1,4 +1,4 @@
-//! The lines of a C. file: what is to be done for another system.
+//! The lines of a C. file: the work for another system.
 ghost use Rattle.std.specs.Prelude.{◌≡◌, ◌++◌, IfOk, OnOk, Ok, Err, MatchResult};
 ghost use Rattle.uug_talk.specs.Words.{words};
 ghost use Rattle.uug_spool.specs.CommandLines.{command_of, execute_of, fields_read, file_read, has_option, is_named, name_said, notify_in, notify_of, request_of, send_of};
@@ -11,14 +11,14 @@ use std::alloc::{AllocError, Allocator};
 use thiserror::Error;
 use uug_talk::{read_mode, split_word};
 
-/// What each command of a C. file has: the words of its line, as they are written there.
+/// The fields that each command of a C. file has: the words of its line, as written.
 #[derive(Clone, Copy, Debug, PartialEq, Eq)]
 pub struct Fields<'a> {
     /// The file's name where it comes from.
     pub source: &'a [u8],
     /// The file's name where it goes to.
     pub target: &'a [u8],
-    /// Whom the file belongs to.
+    /// The user that the file belongs to.
     pub user: &'a [u8],
     /// A dash, and the letters of the options.
     pub options: &'a [u8],
@@ -31,13 +31,13 @@ pub enum Command<'a> {
     Send(Fields<'a>, SentFile<'a>),
     /// `R`: a file is asked for.
     Request(Fields<'a>),
-    /// `X`: the other system is asked to send what a wildcard names.
+    /// `X`: the other system is asked to send the files that a wildcard names.
     Expand(Fields<'a>),
     /// `E`: a file is sent, and a command run with it. The command's words are separated by one or more spaces.
     Execute(Fields<'a>, SentFile<'a>, &'a [u8]),
 }
 
-/// Why a line of a C. file is no command.
+/// An error in a line of a C. file.
 #[derive(Clone, Copy, Debug, PartialEq, Eq, Error)]
 pub enum CommandFault {
     /// The first word is no `S`, `R`, `X` or `E`.
@@ -57,15 +57,15 @@ pub enum CommandFault {
     Mode,
 }
 
-/// Whether this letter is among the options.
+/// Returns whether this letter is among the options.
 pub fn has_option(options: &[u8], letter: u8) -> bool
     ensures { result ≡ has_option letter options.now }
 {
     options.contains(&letter)
 }
 
-/// The bytes that a word stands for which is a name, with these options: where `q` is among them a backslash and three octal
-/// digits are one byte.
+/// Returns the bytes of the name that a word stands for, with these options. If `q` is among them, a backslash and
+/// three octal digits are one byte.
 pub fn name_said<A: Allocator>(
     alloc: A,
     options: &[u8],
@@ -92,7 +92,7 @@ fn add_name<A: Allocator>(
     }
 }
 
-/// Whether a word is a name, with these options. Two quotation marks are an empty field, and no name.
+/// Returns whether a word is a name, with these options. Two quotation marks are an empty field, and no name.
 fn is_named(options: &[u8], word: &[u8]) -> bool
     ensures { result ≡ is_named options.now word.now }
 {
@@ -145,7 +145,7 @@ fn read_file<'a>(
     Ok(SentFile { temp, mode, notify })
 }
 
-/// The field that a word says: nothing where it is two quotation marks.
+/// Returns the field of a word, which is empty if the word is two quotation marks.
 fn notify_of(word: &[u8]) -> &[u8]
     ensures { result.now ≡ notify_of word.now }
 {
@@ -172,7 +172,7 @@ fn read_send(text: &[u8]) -> Result<Command<'_>, CommandFault>
     Ok(Command::Send(fields, file))
 }
 
-/// The field of NOTIFY at the front of a text, which may lack.
+/// Returns the field of NOTIFY at the front of a text, or nothing if it is missing.
 fn notify_in(text: &[u8]) -> &[u8]
     ensures { result.now ≡ notify_in (words text.now) }
 {
@@ -213,12 +213,12 @@ fn read_execute(text: &[u8]) -> Result<Command<'_>, CommandFault>
     Ok(Command::Execute(fields, file, command))
 }
 
-/// Reads a line of a C. file, without its line feed. Its words are separated by one or more spaces; those that follow the
-/// last one needed are read past.
+/// Reads a line of a C. file, without its line feed. Its words are separated by one or more spaces; those after the
+/// last one needed are skipped.
 ///
-/// Another first word is refused as `Unknown`, then too few words, or options without a dash, as `Fields`, then a name that
-/// is none as `Name`; then, where a file is sent, the name of its copy as `Temp`, its mode as `Mode`, and whom to tell as
-/// `Name`.
+/// The errors in their order: `Unknown` for another first word; `Fields` for too few words, or options without a dash;
+/// `Name` for a name that is none. Then, if a file is sent, `Temp` for the name of its copy, `Mode` for its mode, and
+/// `Name` for whom to notify.
 pub fn read_command(line: &[u8]) -> Result<Command<'_>, CommandFault>
     ensures exact { MatchResult result
         (λ command. command_of line.now ≡ Ok (shown command))

@@ -33,7 +33,7 @@ fn add_copy<A: Allocator>(text: &mut Vec<u8, A>, file: &SentFile<'_>) -> Result<
     add_word(text, &mode_digits(file.mode))
 }
 
-/// The field of NOTIFY in the middle of a line: two quotation marks where it is empty.
+/// Returns the field of NOTIFY in the middle of a line: two quotation marks if it is empty.
 fn notify_field(notify: &[u8]) -> &[u8]
     ensures { result.now ≡ notify_field notify.now }
 {
@@ -57,7 +57,7 @@ fn add_send<A: Allocator>(
     Ok(())
 }
 
-/// Appends the line of a command of this letter that has the fields alone.
+/// Appends the line of a command of this letter that has only the fields.
 fn add_request<A: Allocator>(
     text: &mut Vec<u8, A>,
     letter: u8,
@@ -72,7 +72,7 @@ fn add_request<A: Allocator>(
     Ok(())
 }
 
-/// Appends whom to tell, the size and the words of a command that is run.
+/// Appends whom to notify, the size and the words of a command that is run.
 fn add_run<A: Allocator>(
     text: &mut Vec<u8, A>,
     notify: &[u8],

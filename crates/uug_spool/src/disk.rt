@@ -1,27 +1,27 @@
-//! The folders of a spool, and what can be done to them.
+//! The folders of a spool, and the operations on them.
 ghost use Rattle.std.specs.Prelude.{◌≡◌, ℕ, ◌≤◌, [], ◌∷◌, List, Option, OnOk, OnErr};
 ghost use Rattle.uug_spool.specs.Operations.{FrontDone, HasFault, Op, TellsSome, also_done, also_told, folder_synced, made, renamed, synced, unlinked};
 
 use crate::spool_names::{Room, Spot};
 use thiserror::Error;
 
-/// The device behind a spool failed.
+/// The error of a spool whose device failed.
 #[derive(Clone, Copy, Debug, PartialEq, Eq, Error)]
 #[error("device fault")]
 pub struct DiskFailed;
 
 /// The folders of a spool. After a fault a call may have been done or not.
 pub trait Disk {
-    /// What was done, in order, where the disk tells it.
+    /// The operations that were done, in order, if the disk reports them.
     ghost done: { Self → Option (List Op) };
 
-    /// What is told of jobs that have failed, where the disk tells that.
+    /// The notices of failed jobs, if the disk reports them.
     ghost told: { Self → Option (List ℕ) };
 
-    /// How many faults its device had.
+    /// The number of faults of its device.
     ghost fault_count: { Self → ℕ };
 
-    /// Makes a file of this name, which is none there, and writes it whole.
+    /// Makes a file of this name, which must not exist yet, and writes it whole.
     fn make(&mut self, spot: &Spot, bytes: &[u8]) -> Result<(), DiskFailed>
         ensures ok { OnOk result (done self.new
             ≡ also_done (made spot.now bytes.now) (done self.old)) }
@@ -33,7 +33,7 @@ pub trait Disk {
             (HasFault u64.MAX (fault_count self.old) (fault_count self.new)) }
         ensures grows { fault_count self.old ≤ fault_count self.new };
 
-    /// Sees the bytes of a file on the device.
+    /// Syncs the file to disk.
     fn sync(&mut self, spot: &Spot) -> Result<(), DiskFailed>
         ensures ok { OnOk result (done self.new ≡ also_done (synced spot.now) (done self.old)) }
         ensures err { OnErr result (FrontDone (synced spot.now ∷ [])
@@ -44,7 +44,7 @@ pub trait Disk {
             (HasFault u64.MAX (fault_count self.old) (fault_count self.new)) }
         ensures grows { fault_count self.old ≤ fault_count self.new };
 
-    /// Gives a file another place, where it stands for one that had it.
+    /// Renames a file, replacing any file of that name.
     fn rename(&mut self, from: &Spot, to: &Spot) -> Result<(), DiskFailed>
         ensures ok { OnOk result (done self.new
             ≡ also_done (renamed from.now to.now) (done self.old)) }
@@ -56,7 +56,7 @@ pub trait Disk {
             (HasFault u64.MAX (fault_count self.old) (fault_count self.new)) }
         ensures grows { fault_count self.old ≤ fault_count self.new };
 
-    /// Gives a file another place, as `rename` does, if it is there. That there is none is no fault.
+    /// Renames a file, as `rename` does, if it exists. A missing file is no fault.
     fn put_away(&mut self, from: &Spot, to: &Spot) -> Result<(), DiskFailed>
         ensures ok { OnOk result (done self.new
             ≡ also_done (renamed from.now to.now) (done self.old)) }
@@ -68,7 +68,7 @@ pub trait Disk {
             (HasFault u64.MAX (fault_count self.old) (fault_count self.new)) }
         ensures grows { fault_count self.old ≤ fault_count self.new };
 
-    /// Takes a name away. That there is none is no fault.
+    /// Removes a name. A missing file is no fault.
     fn unlink(&mut self, spot: &Spot) -> Result<(), DiskFailed>
         ensures ok { OnOk result (done self.new ≡ also_done (unlinked spot.now) (done self.old)) }
         ensures err { OnErr result (FrontDone (unlinked spot.now ∷ [])
@@ -79,7 +79,7 @@ pub trait Disk {
             (HasFault u64.MAX (fault_count self.old) (fault_count self.new)) }
         ensures grows { fault_count self.old ≤ fault_count self.new };
 
-    /// Sees the names of a folder on the device.
+    /// Syncs the names of a folder to disk.
     fn sync_folder(&mut self, room: Room) -> Result<(), DiskFailed>
         ensures ok { OnOk result (done self.new ≡ also_done (folder_synced room) (done self.old)) }
         ensures err { OnErr result (FrontDone (folder_synced room ∷ [])
@@ -90,7 +90,7 @@ pub trait Disk {
             (HasFault u64.MAX (fault_count self.old) (fault_count self.new)) }
         ensures grows { fault_count self.old ≤ fault_count self.new };
 
-    /// Appends this to what is told of jobs that have failed, and sees it on the device. After a fault some of it may be told.
+    /// Appends to the notices of failed jobs, and syncs them to disk. After a fault some of the bytes may be there.
     fn tell(&mut self, bytes: &[u8]) -> Result<(), DiskFailed>
         ensures ok { OnOk result (told self.new ≡ also_told bytes.now (told self.old)) }
         ensures err { OnErr result (TellsSome bytes.now (told self.old) (told self.new)) }

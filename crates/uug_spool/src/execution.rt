@@ -1,4 +1,4 @@
-//! The execution file that goes with the data of an `E` line to a system that runs no such command.
+//! The execution file that goes with the data of an `E` line to a system without that command.
 ghost use Rattle.std.specs.Prelude.{◌≡◌, ◌++◌, ◌∷◌, ◌+◌, ◌≤◌, [], IfOk, OnOk, length};
 ghost use Rattle.uug_talk.specs.Words.{words};
 ghost use Rattle.uug_talk.specs.Lines.{ended};
@@ -12,7 +12,7 @@ use arrayvec::ArrayVec;
 use std::alloc::{AllocError, Allocator};
 use uug_talk::{NAME_MAX, Name, split_word};
 
-/// The name of data, with these letters in place of its `D.`.
+/// Returns the name of data with these letters in place of its `D.`, if it is a name.
 fn renamed_data(letters: &[u8], name: &[u8]) -> Option<Name>
     requires { length letters.now ≤ NAME_MAX }
     ensures { result ≡ renamed_data letters.now name.now }
@@ -30,16 +30,16 @@ fn renamed_data(letters: &[u8], name: &[u8]) -> Option<Name>
     }
 }
 
-/// The name that the execution file gets at the other system, by the name that the data gets there: an `X` in place of its
-/// `D`. It is the same at each try.
+/// Returns the name that the execution file gets at the other system, by the name that the data gets there: an `X` in
+/// place of its `D`. It is the same at each try.
 pub fn execution_target(target: &[u8]) -> Option<Name>
     ensures { result ≡ execution_target target.now }
 {
     renamed_data(b"X.", target)
 }
 
-/// The name under which the execution file is sent, by that of the data: `D.X` in place of its `D.`. It is the same at each
-/// try.
+/// Returns the name under which the execution file is sent, by that of the data: `D.X` in place of its `D.`. It is the
+/// same at each try.
 pub fn execution_temp(temp: &[u8]) -> Option<Name>
     ensures { result ≡ execution_temp temp.now }
 {
@@ -61,7 +61,7 @@ fn add_line<A: Allocator>(
     Ok(())
 }
 
-/// Appends a line of this letter, where it is among the options.
+/// Appends a line of this letter, if it is among the options.
 fn add_flag<A: Allocator>(
     text: &mut Vec<u8, A>,
     letter: u8,
@@ -76,7 +76,7 @@ fn add_flag<A: Allocator>(
     }
 }
 
-/// Appends the line of the requestor, where the options say that NOTIFY is one.
+/// Appends the line of the requestor, if the options say that NOTIFY is one.
 fn add_requestor<A: Allocator>(
     text: &mut Vec<u8, A>,
     options: &[u8],
@@ -138,7 +138,7 @@ fn add_command<A: Allocator>(text: &mut Vec<u8, A>, command: &[u8]) -> Result<()
     Ok(())
 }
 
-/// Appends the lines that the options and NOTIFY say.
+/// Appends the lines for the options and NOTIFY.
 fn add_options<A: Allocator>(
     text: &mut Vec<u8, A>,
     options: &[u8],
@@ -153,9 +153,9 @@ fn add_options<A: Allocator>(
     add_flag(text, b'e', options)
 }
 
-/// The execution file of an `E` line of this node, in this order: `U` with the user and the node, `F` and `I` with the name
-/// that the data gets at the other system, `N` and `Z` as the options have them, `R` with whom to tell, `e`, and `C` with
-/// the command. Names stand there as in the line, so those of a line with option `q` are quoted.
+/// Returns the execution file of an `E` line of this node, in this order: `U` with the user and the node, `F` and `I`
+/// with the name that the data gets at the other system, `N` and `Z` as the options have them, `R` with whom to notify,
+/// `e`, and `C` with the command. Names are written as in the line: those of a line with option `q` are quoted.
 pub fn execution_text<A: Allocator>(
     alloc: A,
     node: &Name,

@@ -14,45 +14,46 @@ ghost use Rattle.uug_spool.specs.declared.status.Status.{Status};
 ghost use Rattle.uug_spool.specs.declared.spool_names.Spot.{Spot};
 ghost use Rattle.uug_spool.specs.declared.spool_names.TheConstants.{FAR_NAME_MAX, OWN_DATA_MAX, OWN_TEXT_MAX};
 
-/// The limits of names are these.
+/// States the limits of names.
 pub fn limits()
     ensures own_data { OWN_DATA_MAX ≡ 6 }
     ensures own_text { OWN_TEXT_MAX ≡ 7 }
     ensures far_name { FAR_NAME_MAX ≡ 14 }
 {}
 
-/// The order in which C. files are taken is one, and no two names are on a par.
+/// States that C. files are taken in one order, in which no two names are equal.
 pub fn jobs_are_taken_in_one_order()
     ensures order { IsTotalOrder work_order }
     ensures names { (name other : List ℕ) → work_order name other ≡ Equal → name ≡ other }
 {}
 
-/// The word of a name is well quoted, and stands for the name.
+/// States that the word of a name is well quoted, and stands for the name.
 pub fn what_is_quoted_is_read()
     ensures well { (name : List ℕ) → All (λ b. b < 256) name → is_well_quoted (quoted name) ≡ true }
     ensures name { (name : List ℕ) → All (λ b. b < 256) name → unquoted (quoted name) ≡ name }
 {}
 
-/// The line of a command is read as the command, where its words are words, its names are well quoted, and its copy and its
-/// mode are such.
+/// States that the line of a command is read as the command. Its words must be words, its names well quoted, and its
+/// copy and its mode valid.
 pub fn written_commands_are_read()
     ensures { (line : Line) → IsLine line → command_of (line_of line) ≡ Ok line }
 {}
 
-/// The line of a status is read as the status, whatever the system is called.
+/// States that the line of a status is read as the status, whatever the name of the system.
 pub fn written_statuses_are_read()
     ensures { (s : Status) (system : List ℕ) → IsStatus s
         → status_of (status_line s system) ≡ Some s }
 {}
 
-/// Whatever stood in the folders before, and wherever a power cut stops it: the place of a file that came has what it had before
-/// or the whole file, and no new file without its marker; and once all is done the file is there, whole.
+/// States that a received file is whole, whatever was in the folders before and wherever a power cut stops `store`. The
+/// place of the file has what it had before or the whole file, and no new file is without its marker. Once all is done,
+/// the file is there, complete.
 pub fn a_file_that_came_is_whole()
     ensures { (temp : List ℕ) (target : Spot) (text bytes : List ℕ) (s : Standing) → is_place target.room ≡ true
         → StoredSafely temp target text bytes s }
 {}
 
-/// A file that was taken away stays away once its folder was seen on the device.
+/// States that a removed file stays away once its folder is synced to disk.
 pub fn a_file_stays_away()
     ensures { (place : Spot) (s : Standing)
         → IsGoneThere place (after_all (unlinked place ∷ folder_synced place.room ∷ []) s) }

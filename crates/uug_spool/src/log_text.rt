@@ -7,52 +7,52 @@ use crate::moment::{Moment, add_moment};
 use crate::parts::{add_named, add_number, add_text};
 use std::alloc::{AllocError, Allocator};
 
-/// What stands in front of a line of a log.
+/// The head of a line of a log.
 #[derive(Clone, Copy, Debug, PartialEq, Eq)]
 pub struct LogHead<'a> {
     /// The program that writes it.
     pub program: &'a [u8],
-    /// The other system; empty where it isn't known.
+    /// The other system; empty if it isn't known.
     pub system: &'a [u8],
-    /// Whom the job belongs to; empty where there is none.
+    /// The user that the job belongs to; empty if there is none.
     pub user: &'a [u8],
-    /// When it is written.
+    /// The moment of writing.
     pub moment: Moment,
     /// The process that writes it.
     pub process: u32,
 }
 
-/// What a line of a log tells.
+/// The event of a line of a log.
 #[derive(Clone, Copy, Debug, PartialEq, Eq)]
 pub enum LogEvent<'a> {
     /// The system is called at this port.
     Calls(&'a [u8]),
     /// The other end has let this one in.
     LoggedIn,
-    /// Somebody calls with this login, at this port.
+    /// A call arrives with this login, at this port.
     Called(&'a [u8], &'a [u8]),
-    /// The session begins: the size and the window of the packets of this end, and those of the other's.
+    /// The session begins: the size and the window of the packets of this end, and those of the other one.
     Agreed((u16, u8), (u16, u8)),
-    /// A file of so many bytes is sent.
+    /// The file of this name is sent: its number of bytes.
     Sends(&'a [u8], u64),
-    /// A file is received, of so many bytes where that was told.
+    /// The file of this name is received: its number of bytes, if that was announced.
     Receives(&'a [u8], Option<u64>),
-    /// How many packets were sent, how many of them again, and how many received.
+    /// The number of packets sent, of those sent again, and of those received.
     Packets(u64, u64, u64),
-    /// The session is over after so many seconds; so many bytes of files went.
+    /// The session is over: its seconds, and the bytes of files that went.
     Over(u64, u64),
-    /// What has failed.
+    /// An error.
     Fault(&'a [u8]),
 }
 
-/// A word, or a dash where it is empty.
+/// Returns a word, or a dash if it is empty.
 fn or_dash(word: &[u8]) -> &[u8]
     ensures { result.now ≡ or_dash word.now }
 {
     if word.is_empty() { b"-" } else { word }
 }
 
-/// Appends a word, or a dash where it is empty, and a text.
+/// Appends a word, or a dash if it is empty, and a text.
 fn add_dashed<A: Allocator>(
     line: &mut Vec<u8, A>,
     word: &[u8],
@@ -63,7 +63,7 @@ fn add_dashed<A: Allocator>(
     add_named(line, or_dash(word), text)
 }
 
-/// Appends what stands in front of a line.
+/// Appends the head of a line.
 fn add_head<A: Allocator>(line: &mut Vec<u8, A>, head: &LogHead<'_>) -> Result<(), AllocError>
     ensures { OnOk result (line.new.items ≡ line.old.items ++ head_text (shown_head head.now)) }
 {
@@ -75,7 +75,7 @@ fn add_head<A: Allocator>(line: &mut Vec<u8, A>, head: &LogHead<'_>) -> Result<(
     add_text(line, b") ")
 }
 
-/// Bytes in a second; none where no second has passed.
+/// Returns the bytes per second, or 0 if no second has passed.
 fn rate(bytes: u64, seconds: u64) -> u64
     ensures { result ≡ rate bytes seconds }
 {
@@ -128,7 +128,7 @@ fn add_agreed<A: Allocator>(
     add_text(line, b")")
 }
 
-/// Appends how many bytes a file has.
+/// Appends the number of bytes of a file.
 fn add_bytes<A: Allocator>(line: &mut Vec<u8, A>, bytes: u64) -> Result<(), AllocError>
     ensures { OnOk result (line.new.items ≡ line.old.items ++ bytes_text bytes) }
 {
@@ -136,7 +136,7 @@ fn add_bytes<A: Allocator>(line: &mut Vec<u8, A>, bytes: u64) -> Result<(), Allo
     add_text(line, b" bytes)")
 }
 
-/// Appends how many bytes a file has, where that was told.
+/// Appends the number of bytes of a file, if that was announced.
 fn add_size<A: Allocator>(line: &mut Vec<u8, A>, bytes: Option<u64>) -> Result<(), AllocError>
     ensures { OnOk result (line.new.items ≡ line.old.items ++ size_text bytes) }
 {
@@ -176,7 +176,7 @@ fn add_over<A: Allocator>(
     add_text(line, b" bps)")
 }
 
-/// Appends what a line tells of a system.
+/// Appends the event of a line.
 fn add_event<A: Allocator>(
     line: &mut Vec<u8, A>,
     system: &[u8],
@@ -206,8 +206,8 @@ fn add_event<A: Allocator>(
     }
 }
 
-/// A line of a log: which program writes it, of which system and for whom (a dash where there is none), when and by which
-/// process, and what has happened. It is to be appended by one write.
+/// Returns a line of a log: the program that writes it, the system and the user (a dash if there is none), the moment
+/// and the process, and the event. It is to be appended by one write.
 pub fn log_line<A: Allocator>(
     alloc: A,
     head: &LogHead<'_>,

@@ -7,22 +7,22 @@ use crate::disk::{Disk, DiskFailed};
 use crate::spool_names::{Room, Spot};
 use std::alloc::Allocator;
 
-/// What was done to the folders of a spool.
+/// An operation on the folders of a spool.
 #[derive(Drop)]
 pub enum Operation<A: Allocator> {
     /// This file was made, with these bytes.
     Made(Spot, Vec<u8, A>),
-    /// Its bytes were seen on the device.
+    /// Its bytes were synced to disk.
     Synced(Spot),
-    /// The first place's file was given the second one.
+    /// The file at the first place was renamed to the second one.
     Renamed(Spot, Spot),
-    /// This name was taken away.
+    /// This name was removed.
     Unlinked(Spot),
-    /// The names of this folder were seen on the device.
+    /// The names of this folder were synced to disk.
     FolderSynced(Room),
 }
 
-/// A spool in memory, of which one operation may fail. It keeps what was done and told, and no files.
+/// A spool in memory, of which one operation may fail. It keeps the operations and the notices, and no files.
 #[derive(Drop)]
 pub struct MemoryDisk<A: Allocator> {
     operations: Vec<Operation<A>, A>,
@@ -33,7 +33,7 @@ pub struct MemoryDisk<A: Allocator> {
 }
 
 impl<A: Allocator + Copy> MemoryDisk<A> {
-    /// A disk of which the operation after so many fails, and those behind it are done again.
+    /// Makes a disk on which the operation after `fails_after` others fails, and those after it are done again.
     pub fn new(alloc: A, fails_after: u64) -> Self
         ensures ops { ops_of result ≡ [] }
         ensures told { told_of result ≡ [] }
@@ -47,14 +47,14 @@ impl<A: Allocator + Copy> MemoryDisk<A> {
         }
     }
 
-    /// What was done, in order.
+    /// Returns the operations that were done, in order.
     pub fn operations(&self) -> &[Operation<A>]
         ensures { map op_of result.now ≡ ops_of self.now }
     {
         self.operations.as_slice()
     }
 
-    /// What was told of jobs that have failed.
+    /// Returns the notices of failed jobs.
     pub fn told(&self) -> &[u8]
         ensures { result.now ≡ told_of self.now }
     {
@@ -72,7 +72,7 @@ impl<A: Allocator + Copy> MemoryDisk<A> {
         DiskFailed
     }
 
-    /// Whether the next operation is the one that fails.
+    /// Returns whether the next operation is the one that fails.
     fn is_faulty(&mut self) -> bool
         ensures ops { ops_of self.new ≡ ops_of self.old }
         ensures told { told_of self.new ≡ told_of self.old }
@@ -85,7 +85,7 @@ impl<A: Allocator + Copy> MemoryDisk<A> {
         false
     }
 
-    /// Keeps that this was done, unless it fails.
+    /// Notes that this was done, unless it fails.
     fn note(&mut self, operation: Operation<A>) -> Result<(), DiskFailed>
         ensures ok { OnOk result (ops_of self.new ≡ ops_of self.old ++ op_of operation ∷ []) }
         ensures err { OnErr result (ops_of self.new ≡ ops_of self.old) }

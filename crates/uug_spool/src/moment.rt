@@ -23,14 +23,14 @@ pub struct Moment {
     pub hundredths: u8,
 }
 
-/// The last two decimal digits of a number.
+/// Returns the last two decimal digits of a number.
 pub(crate) fn two_digits(number: u32) -> [u8; 2]
     ensures { result ≡ two_digits number }
 {
     [b'0' + (number / 10 % 10) as u8, b'0' + (number % 10) as u8]
 }
 
-/// The text of a moment.
+/// Returns the text of a moment.
 fn moment_text(moment: &Moment) -> [u8; 22]
     ensures { result ≡ moment_text moment.now }
 {

@@ -2,10 +2,10 @@
 ghost use Rattle.std.specs.Prelude.{true, ◌≡◌, ◌<◌, ◌≤◌};
 ghost use Rattle.uug_spool.specs.Sequence.{digit, digit_value, is_digit, next_sequence, sequence_value};
 
-/// There are so many numbers: four digits of base 36.
+/// The count of the numbers: four digits of base 36.
 const NUMBERS: u32 = 1_679_616;
 
-/// Whether a byte is a digit of base 36: `0` to `9` or `A` to `Z`.
+/// Returns whether a byte is a digit of base 36: `0` to `9` or `A` to `Z`.
 fn is_digit(byte: u8) -> bool
     ensures { result ≡ is_digit byte }
 {
@@ -35,7 +35,7 @@ fn digit(value: u32) -> u8
     }
 }
 
-/// The number that a text says; 0 where it isn't four digits of base 36.
+/// Returns the number in a text, or 0 if it isn't four digits of base 36.
 fn sequence_value(text: &[u8]) -> u32
     ensures value { result ≡ sequence_value text.now }
     ensures within { result < 1679616 }
@@ -49,8 +49,8 @@ fn sequence_value(text: &[u8]) -> u32
     46_656 * digit_value(*a) + 1_296 * digit_value(*b) + 36 * digit_value(*c) + digit_value(*d)
 }
 
-/// The number after the one that the text of SEQF says, as four digits of base 36. `ZZZZ` is followed by `0000`. A text
-/// that says none counts as `0000`.
+/// Returns the number after the one in the text of SEQF, as four digits of base 36. After `ZZZZ` comes `0000`. A text
+/// without a number counts as `0000`.
 pub fn next_sequence(text: &[u8]) -> [u8; 4]
     ensures { result ≡ next_sequence text.now }
 {

@@ -1,4 +1,4 @@
-//! The names of the files of a spool: where a file goes that another system sends, and how data is called there.
+//! The names of the files of a spool: the place of a file that another system sends, and the names of data there.
 ghost use Rattle.std.specs.Prelude.{◌≡◌, ◌+◌, ◌≤◌, ◌++◌, length};
 ghost use Rattle.uug_spool.specs.SpoolNames.{data_spot, far_name, has_slash, has_two_dots, is_data_name, is_system_name, local_name, public_spot, spool_spot, spot_of};
 ghost use Rattle.uug_spool.specs.declared.spool_names.TheConstants.{FAR_NAME_MAX};
@@ -16,7 +16,7 @@ pub const OWN_TEXT_MAX: usize = 7;
 /// The most bytes of a name that data gets at another system.
 pub const FAR_NAME_MAX: usize = 14;
 
-/// So many letters of a node's name are in the names that its files get at another system.
+/// The most letters of a node's name in the names that its files get at another system.
 const NODE_LETTERS: usize = 7;
 
 /// A folder of a spool, or the public one.
@@ -26,15 +26,15 @@ pub enum Room {
     Commands,
     /// The system's `D.`: data.
     Data,
-    /// The system's `D.X`: data whose name begins so.
+    /// The system's `D.X`: data whose name begins with these letters.
     Text,
     /// The system's `X.`: execution files.
     Execution,
     /// The public folder.
     Public,
-    /// `.Temp`, the system's folder there: files that come.
+    /// `.Temp`, the system's folder there: files that are being received.
     Temporary,
-    /// `.Received`, the system's folder there: a marker for each file that has come.
+    /// `.Received`, the system's folder there: a marker for each received file.
     Marked,
     /// `.Preserve`, the system's folder there: data of jobs that have failed.
     Preserved,
@@ -43,25 +43,25 @@ pub enum Room {
 /// The place of a file: a room, and the name in it.
 #[derive(Clone, Copy, Debug, PartialEq, Eq)]
 pub struct Spot {
-    /// Where it is.
+    /// The room of the file.
     pub room: Room,
     /// Its name there.
     pub name: Name,
 }
 
-/// Why no file is taken under a name.
+/// The reason for which no file is taken under a name.
 #[derive(Clone, Copy, Debug, PartialEq, Eq, Error)]
 pub enum Barred {
-    /// It is a path that may lead elsewhere, or names a folder.
+    /// The name is a path that may lead elsewhere, or names a folder.
     #[error("not a name in the public folder or the spool")]
     Path,
-    /// It is the name of a C. file.
+    /// The name is that of a C. file.
     #[error("the name of a job")]
     Commands,
-    /// It is a name that this system gives to its own data.
+    /// The name is one that this system gives to its own data.
     #[error("the name of data of this system")]
     Ours,
-    /// It begins with a dot in the public folder.
+    /// The name begins with a dot in the public folder.
     #[error("a hidden name")]
     Hidden,
 }
@@ -72,7 +72,7 @@ fn has_slash(name: &[u8]) -> bool
     name.contains(&b'/')
 }
 
-/// Whether two dots stand side by side somewhere in a name.
+/// Returns whether a name has two dots side by side.
 fn has_two_dots(name: &[u8]) -> bool
     ensures { result ≡ has_two_dots name.now }
 {
@@ -86,11 +86,11 @@ fn has_two_dots(name: &[u8]) -> bool
     false
 }
 
-/// The place of a file that another system sends under this name.
+/// Returns the place of a file that another system sends under this name.
 ///
-/// `D.` and `X.` names without a slash are in the spool, but those that this system gives to its own data. `~/x`, `/x` and
-/// `x` are `x` in the public folder. All else is barred: C. names, two dots side by side, any other slash, a dot in front,
-/// and the public folder itself.
+/// `D.` and `X.` names without a slash are in the spool, except those that this system gives to its own data. `~/x`,
+/// `/x` and `x` are `x` in the public folder. All else is barred: C. names, two dots side by side, any other slash, a
+/// dot in front, and the public folder itself.
 pub fn spot_of(target: &Name) -> Result<Spot, Barred>
     ensures { result ≡ spot_of target.now }
 {
@@ -111,7 +111,7 @@ pub fn spot_of(target: &Name) -> Result<Spot, Barred>
     }
 }
 
-/// The place of a file of the spool, where names of at most so many bytes are this system's own.
+/// Returns the place of a file of the spool, where names of at most `own_max` bytes are this system's own.
 fn spool_spot(room: Room, own_max: usize, name: &Name) -> Result<Spot, Barred>
     ensures { result ≡ spool_spot room own_max name.now }
 {
@@ -125,7 +125,7 @@ fn spool_spot(room: Room, own_max: usize, name: &Name) -> Result<Spot, Barred>
     Ok(Spot { room, name: *name })
 }
 
-/// A name without the public folder or the root in front.
+/// Returns a name without the prefix of the public folder or the root.
 pub fn local_name(name: &[u8]) -> &[u8]
     ensures { result.now ≡ local_name name.now }
 {
@@ -138,7 +138,7 @@ pub fn local_name(name: &[u8]) -> &[u8]
     }
 }
 
-/// The place of a file of this name in the public folder.
+/// Returns the place of a file of this name in the public folder.
 fn public_spot(name: &[u8]) -> Result<Spot, Barred>
     ensures { result ≡ public_spot name.now }
 {
@@ -157,15 +157,15 @@ fn public_spot(name: &[u8]) -> Result<Spot, Barred>
     }
 }
 
-/// Whether a name may be that of data in a spool, or of a file that is being received there: `D.` and more, without a slash
-/// and without two dots side by side.
+/// Returns whether a name may be that of data in a spool, or of a file that is being received there: `D.` and more,
+/// without a slash and without two dots side by side.
 pub fn is_data_name(name: &[u8]) -> bool
     ensures { result ≡ is_data_name name.now }
 {
     name.len() > 2 && name.starts_with(b"D.") && !has_slash(name) && !has_two_dots(name)
 }
 
-/// The place of data of this name for another system.
+/// Returns the place of data of this name for another system.
 pub fn data_spot(name: &Name) -> Spot
     ensures { result ≡ data_spot name.now }
 {
@@ -177,7 +177,7 @@ pub fn data_spot(name: &Name) -> Spot
     Spot { room, name: *name }
 }
 
-/// Whether the name of a system may be that of its folder in a spool: no slash, and no dot in front.
+/// Returns whether the name of a system may be that of its folder in a spool: no slash, and no dot in front.
 pub fn is_system_name(name: &Name) -> bool
     ensures { result ≡ is_system_name name.now }
 {
@@ -185,8 +185,8 @@ pub fn is_system_name(name: &Name) -> bool
     !has_slash(bytes) && !bytes.starts_with(b".")
 }
 
-/// The name that a file of this node gets at another system: the kind of the file (`D` or `X`), a dot, the first seven
-/// letters of the node's name, the grade and the number.
+/// Returns the name that a file of this node gets at another system: the kind of the file (`D` or `X`), a dot, the
+/// first seven letters of the node's name, the grade and the number.
 pub fn far_name(kind: u8, node: &Name, grade: u8, number: [u8; 4]) -> ArrayVec<u8, FAR_NAME_MAX>
     ensures { result.items ≡ far_name kind node.now grade number }
 {

@@ -8,34 +8,34 @@ use crate::moment::{Moment, add_moment, two_digits};
 use crate::parts::{add_named, add_number};
 use std::alloc::{AllocError, Allocator};
 
-/// Of which file a line of the statistics is.
+/// The file of a line of the statistics.
 #[derive(Clone, Copy, Debug, PartialEq, Eq)]
 pub struct StatsHead<'a> {
-    /// Whom the job belongs to.
+    /// The user that the job belongs to.
     pub user: &'a [u8],
     /// The other system.
     pub system: &'a [u8],
-    /// When the file had gone.
+    /// The moment at which the file had gone.
     pub moment: Moment,
     /// The port of the line.
     pub port: &'a [u8],
 }
 
-/// Which way a file goes.
+/// The direction of a file.
 #[derive(Clone, Copy, Debug, PartialEq, Eq)]
 pub enum Course {
-    /// To the other system.
+    /// Sent to the other system.
     Sent,
-    /// From the other system.
+    /// Received from the other system.
     Received,
 }
 
-/// How much of a file went, and how long that took.
+/// The amount of a file that went, and the time that it took.
 #[derive(Clone, Copy, Debug, PartialEq, Eq)]
 pub struct Amount {
-    /// So many bytes.
+    /// The number of bytes.
     pub bytes: u32,
-    /// So many thousandths of a second.
+    /// The number of milliseconds.
     pub thousandths: u32,
 }
 
@@ -54,7 +54,7 @@ fn failure_text(has_failed: bool) -> &'static [u8]
     if has_failed { b"failed after " } else { b"" }
 }
 
-/// Bytes in a second; none where no time has passed.
+/// Returns the bytes per second, or 0 if no time has passed.
 fn speed(bytes: u32, thousandths: u32) -> u64
     ensures { result ≡ speed bytes thousandths }
 {
@@ -65,7 +65,7 @@ fn speed(bytes: u32, thousandths: u32) -> u64
     }
 }
 
-/// Appends a time in seconds, with three digits behind the point.
+/// Appends a time in seconds, with three digits after the point.
 fn add_seconds<A: Allocator>(line: &mut Vec<u8, A>, thousandths: u32) -> Result<(), AllocError>
     ensures { OnOk result (line.new.items ≡ line.old.items ++ seconds_text thousandths) }
 {
@@ -74,7 +74,7 @@ fn add_seconds<A: Allocator>(line: &mut Vec<u8, A>, thousandths: u32) -> Result<
     line.extend_from_slice(&[b'.', b'0' + (thousandths / 100 % 10) as u8, tens, last])
 }
 
-/// Appends how much of a file went, and how long that took.
+/// Appends the amount of a file that went, and the time that it took.
 fn add_amount<A: Allocator>(line: &mut Vec<u8, A>, amount: Amount) -> Result<(), AllocError>
     ensures { OnOk result (line.new.items
         ≡ line.old.items ++ amount_text amount.bytes amount.thousandths) }
@@ -86,7 +86,7 @@ fn add_amount<A: Allocator>(line: &mut Vec<u8, A>, amount: Amount) -> Result<(),
     line.extend_from_slice(b" bytes/sec)")
 }
 
-/// Appends whose file it is, and when it had gone.
+/// Appends the user, the system and the moment of a file.
 fn add_file<A: Allocator>(line: &mut Vec<u8, A>, head: &StatsHead<'_>) -> Result<(), AllocError>
     ensures { OnOk result (line.new.items ≡ line.old.items ++ head.now.user.now ++ codes " "
         ++ head.now.system.now ++ codes " (" ++ moment_text head.now.moment ++ codes ") ") }
@@ -97,8 +97,8 @@ fn add_file<A: Allocator>(line: &mut Vec<u8, A>, head: &StatsHead<'_>) -> Result
     line.extend_from_slice(b") ")
 }
 
-/// The line of a file in the statistics: whom it belongs to, the system, when it had gone, whether it failed, which way it
-/// went, how many bytes of it in which time, and the port. It is to be appended by one write.
+/// Returns the line of a file in the statistics: the user, the system, the moment at which it had gone, whether it
+/// failed, its direction, the bytes that went and the time, and the port. It is to be appended by one write.
 pub fn stats_line<A: Allocator>(
     alloc: A,
     head: &StatsHead<'_>,

@@ -1,4 +1,4 @@
-//! How the last call with a system went, as its status file says, which `uustat -m` prints.
+//! The result of the last call with a system, as in its status file, which `uustat -m` prints.
 ghost use Rattle.std.specs.Prelude.{◌≡◌, ◌++◌, ◌∷◌, [], IfOk, OnOk};
 ghost use Rattle.std.specs.Fmt.{decimal};
 ghost use Rattle.uug_spool.specs.StatusTexts.{capped, is_due, state_digit, state_of, state_text, status_failed, status_line, status_of, wait_after};
@@ -7,15 +7,15 @@ use crate::parts::{add_named, add_number};
 use std::alloc::{AllocError, Allocator};
 use uug_talk::{NUMBER_MAX, Name, read_number, split_word};
 
-/// Each call in a row that failed puts off the next one by so many seconds more.
+/// The seconds by which each failed call in a row puts off the next one.
 const SECONDS_PER_TRY: u64 = 600;
 
-/// How a call went.
+/// The result of a call.
 #[derive(Clone, Copy, Debug, PartialEq, Eq)]
 pub enum CallState {
-    /// It was done, or the other end said that it will call back.
+    /// The call was done, or the other end said that it will call back.
     Complete,
-    /// There is no such device, or it is in use.
+    /// The device does not exist, or is in use.
     PortUnavailable,
     /// Nobody answered.
     DialFailed,
@@ -25,22 +25,22 @@ pub enum CallState {
     HandshakeFailed,
     /// The session broke.
     CallFailed,
-    /// It goes on.
+    /// The call goes on.
     Talking,
-    /// Now the system may not be called.
+    /// The system may not be called now.
     WrongTime,
 }
 
-/// What the status file of a system says.
+/// The contents of the status file of a system.
 #[derive(Clone, Copy, Debug, PartialEq, Eq)]
 pub struct Status {
-    /// How the last call went.
+    /// The result of the last call.
     pub state: CallState,
-    /// How many calls in a row have failed.
+    /// The number of calls in a row that have failed.
     pub tries: u32,
-    /// When the last call was, in seconds since 1970.
+    /// The time of the last call, in seconds since 1970.
     pub time: u32,
-    /// So many seconds later the next one may be.
+    /// The seconds after the last call until the next one may be.
     pub wait: u32,
 }
 
@@ -84,7 +84,7 @@ fn add_numbers<A: Allocator>(line: &mut Vec<u8, A>, status: &Status) -> Result<(
     add_number(line, b" ", u64::from(status.wait))
 }
 
-/// The text of the status file of a system: a line.
+/// Returns the text of the status file of a system: one line.
 pub fn status_line<A: Allocator>(
     alloc: A,
     status: &Status,
@@ -117,8 +117,8 @@ fn state_of(code: &[u8]) -> Option<CallState>
     }
 }
 
-/// What the text of a status file says, if its first four words are a digit from 0 to 7 and three numbers of at most 32
-/// bits. What stands behind them is read past.
+/// Reads the text of a status file, if its first four words are a digit from 0 to 7 and three numbers of at most 32
+/// bits. Words after these are skipped.
 pub fn read_status(text: &[u8]) -> Option<Status>
     ensures { result ≡ status_of text.now }
 {
@@ -144,7 +144,7 @@ fn capped(number: u64) -> u32
     }
 }
 
-/// How long to wait after so many calls in a row that failed, the last one so.
+/// Returns the seconds to wait after this many failed calls in a row, the last with this result.
 fn wait_after(state: CallState, tries: u32) -> u32
     ensures { result ≡ wait_after state tries }
 {
@@ -154,8 +154,8 @@ fn wait_after(state: CallState, tries: u32) -> u32
     }
 }
 
-/// The status after a call of this end that failed so, at this time: one more than failed in a row before, and ten minutes
-/// to wait for each of them; none where it was the wrong time to call.
+/// Returns the status after a call of this end that failed with this result, at this time. One more call in a row has
+/// failed than before. The wait is ten minutes for each of them, or none if it was the wrong time to call.
 pub fn status_failed(state: CallState, before: Option<Status>, time: u32) -> Status
     ensures { result ≡ status_failed state before time }
 {
@@ -172,7 +172,7 @@ pub fn status_failed(state: CallState, before: Option<Status>, time: u32) -> Sta
     }
 }
 
-/// Whether the system may be called again at this time.
+/// Returns whether the system may be called again at this time.
 pub fn is_due(status: &Status, now: u32) -> bool
     ensures { result ≡ is_due status.now now }
 {

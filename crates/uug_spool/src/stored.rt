@@ -1,4 +1,4 @@
-//! What is done on the disk before it is answered that a file has come.
+//! The operations on the disk before a received file is acknowledged.
 ghost use Rattle.std.specs.Prelude.{◌≡◌, true, OnOk, OnErr};
 ghost use Rattle.uug_spool.specs.DiskOrder.{finished_ops, replaced_ops, stored_ops};
 ghost use Rattle.uug_spool.specs.Operations.{FrontDone, HasFault, also_all};
@@ -9,11 +9,11 @@ use crate::disk::{Disk, DiskFailed};
 use crate::spool_names::{Room, Spot};
 use uug_talk::Name;
 
-/// Puts a file that came into its place. It is renamed only where its bytes, and a marker of its name with this text, were
-/// seen on the device; and then its place is. A file of this name that was left over goes first.
+/// Puts a received file into its place. It is renamed only after its bytes, and a marker of its name with this text,
+/// were synced to disk; then its place is synced. A left-over file of this name is removed first.
 ///
-/// Wherever this is stopped by a power cut, the place has what it had before or the whole file, and no new file without its
-/// marker; and once it is done the file is there, whole.
+/// Wherever a power cut stops this, the place has what it had before or the whole file, and no new file is without its
+/// marker. Once it is done, the file is there, complete.
 #[tactic(auto, using(crate::proofs::StoredSafelyLemmas::stays_safe, crate::proofs::StoredSafelyLemmas::stays_marked, crate::proofs::StoredSafelyLemmas::all_stays_safe, crate::proofs::StoredSafelyLemmas::all_stays_marked, crate::proofs::StoredSafelyLemmas::is_there))]
 pub fn store<D: Disk>(
     disk: &mut D,
@@ -40,7 +40,7 @@ pub fn store<D: Disk>(
     Ok(())
 }
 
-/// The operations of `store`, in their order.
+/// Performs the operations of `store`, in their order.
 fn store_marked<D: Disk>(
     disk: &mut D,
     temp: &Name,
@@ -76,7 +76,7 @@ fn store_marked<D: Disk>(
     Ok(())
 }
 
-/// Puts a file into its place that stood whole beside its marker when this end was stopped.
+/// Puts a file into its place that was complete beside its marker when this end was stopped.
 pub fn finish<D: Disk>(disk: &mut D, temp: &Name, target: &Spot) -> Result<(), DiskFailed>
     ensures ok { OnOk result (D.done disk.new
         ≡ also_all (finished_ops temp.now target.now) (D.done disk.old)) }
@@ -96,11 +96,11 @@ pub fn finish<D: Disk>(disk: &mut D, temp: &Name, target: &Spot) -> Result<(), D
     Ok(())
 }
 
-/// Puts a file of these bytes in the place of one that stands there. It is renamed only where its bytes were seen on the device;
-/// and then its place is. A file of its name among those that come goes first.
+/// Replaces a file with one of these bytes. It is renamed only after its bytes were synced to disk; then its place is
+/// synced. A file of its name among those being received is removed first.
 ///
-/// Wherever this is stopped by a power cut, the place has what it had before or the whole file; and once it is done the file
-/// is there, whole.
+/// Wherever a power cut stops this, the place has what it had before or the whole file. Once it is done, the file is
+/// there, complete.
 #[tactic(auto, using(crate::proofs::ReplacedLemmas::stays_safe, crate::proofs::ReplacedLemmas::all_stays_safe, crate::proofs::ReplacedLemmas::is_there))]
 pub fn replace<D: Disk>(disk: &mut D, target: &Spot, bytes: &[u8]) -> Result<(), DiskFailed>
     ensures ok { OnOk result (D.done disk.new
@@ -120,7 +120,7 @@ pub fn replace<D: Disk>(disk: &mut D, target: &Spot, bytes: &[u8]) -> Result<(),
     Ok(())
 }
 
-/// The operations of `replace`, in their order.
+/// Performs the operations of `replace`, in their order.
 fn replace_synced<D: Disk>(disk: &mut D, target: &Spot, bytes: &[u8]) -> Result<(), DiskFailed>
     ensures ok { OnOk result (D.done disk.new
         ≡ also_all (replaced_ops target.now bytes.now) (D.done disk.old)) }

@@ -1,5 +1,5 @@
-//! Assertions that tests call, and the names that they make. What is called is proved once, here, and so at far less cost
-//! than in each test.
+//! Assertions that tests call, and the names that they make. An assertion is proved once, here, at far less cost than
+//! in each test.
 ghost use Rattle.std.specs.Prelude.{IsTrue};
 
 use std::alloc::Allocator;
@@ -7,12 +7,12 @@ use std::fmt::{Debug, Display};
 use std::process::Abort;
 use uug_talk::Name;
 
-/// Both are the same.
+/// Asserts that both are the same.
 pub fn assert_same<T: PartialEq + Debug + Copy>(rt: &impl Abort, seen: T, expected: T) {
     assert_eq!(rt; seen, expected);
 }
 
-/// Both are the same, at this place of a table.
+/// Asserts that both are the same, at this place of a table.
 pub fn assert_same_at<T: PartialEq + Debug + Copy, P: Display + Copy>(
     rt: &impl Abort,
     seen: T,
@@ -22,19 +22,19 @@ pub fn assert_same_at<T: PartialEq + Debug + Copy, P: Display + Copy>(
     assert_eq!(rt; seen, expected, "at {place}");
 }
 
-/// This is so, at this place of a table or a loop.
+/// Asserts that this is true, at this place of a table or a loop.
 pub fn assert_so_at<P: Display + Copy>(rt: &impl Abort, fact: bool, place: P)
     ensures { IsTrue fact }
 {
     assert!(rt; fact, "at {place}");
 }
 
-/// The bytes are those of a text, which the table has at this place.
+/// Asserts that the bytes are those of a text, which the table has at this place.
 pub fn assert_bytes<A: Allocator>(rt: &impl Abort, seen: &Vec<u8, A>, expected: &str, place: &str) {
     assert_same_at(rt, seen.as_slice(), expected.as_bytes(), place);
 }
 
-/// The name of a text that is one.
+/// Returns the name of a text that is one.
 pub fn name(rt: &impl Abort, text: &str) -> Name {
     Name::new(text.as_bytes()).expect(rt, "a name")
 }

@@ -1,5 +1,5 @@
-//! The lines of C. files. What this catches beyond the clauses: a rule that is wrong in the definition, and a call that
-//! answers that memory ran out where none was refused.
+//! The lines of C. files. The tests catch beyond the clauses a rule that is wrong in the definition, and a call that
+//! reports that memory ran out when none was refused.
 
 use crate::assertions::{assert_bytes, assert_same, assert_same_at};
 use std::alloc::Global;
@@ -10,7 +10,7 @@ use uug_spool::{
 };
 use uug_talk::split_word;
 
-/// Lines, and the line that is written of the command, or why there is none.
+/// Lines, and the line that is written for the command, or the error.
 const LINES: [(&str, Result<&str, CommandFault>); 39] = [
     // as they were found on the disk
     (
@@ -175,7 +175,7 @@ fn reads_a_wildcard(rt: HostRuntime) {
     }
 }
 
-/// A command has these two words.
+/// Asserts that a command has these two words.
 fn assert_words(rt: &impl Abort, command: &[u8], [first, second]: [&[u8]; 2]) {
     let Some((word, behind)) = split_word(command) else {
         assert_same(rt, command, first);
@@ -197,7 +197,7 @@ fn reads_a_batch_of_news(rt: HostRuntime) {
     }
 }
 
-/// Why a line is no command, as it is said.
+/// The errors of lines, and their texts.
 const FAULTS: [(CommandFault, &str); 5] = [
     (CommandFault::Unknown, "unknown command"),
     (CommandFault::Fields, "missing words or options"),

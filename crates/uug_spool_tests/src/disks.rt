@@ -1,5 +1,5 @@
-//! What is done on the disk, and in which order, where each operation fails in turn. The clauses say what is done until then;
-//! these rows say it of folders whose names are known.
+//! The operations on the disk, and their order, when each operation fails in turn. The clauses say what is done until
+//! then; these rows say it of folders whose names are known.
 
 use crate::assertions::{assert_same_at, assert_so_at, name};
 use std::alloc::Global;
@@ -7,7 +7,7 @@ use std::process::Abort;
 use uug_mailbox::{OpenLine, Outcome, settle};
 use uug_spool::{MemoryDisk, Operation, Room, Spot, finish, store};
 
-/// What is done to the folders.
+/// An operation on the folders.
 #[derive(Clone, Copy)]
 enum Step {
     Make(Room, &'static str, &'static str),
@@ -36,7 +36,7 @@ fn is_step(operation: &Operation<Global>, step: Step) -> bool {
     }
 }
 
-/// Just the first so many of these steps were done.
+/// Asserts that just the first `count` of these steps were done.
 fn assert_steps(rt: &impl Abort, disk: &MemoryDisk<Global>, steps: &[Step], count: usize) {
     assert_same_at(rt, disk.operations().len(), count, count);
     for (operation, step) in disk.operations().iter().zip(steps.iter()) {
@@ -49,7 +49,7 @@ fn spot(rt: &impl Abort, room: Room, text: &str) -> Spot {
     Spot { room, name }
 }
 
-/// A mail that came as D.0001 is put in its place.
+/// The steps that put a mail in its place, which arrived as D.0001.
 const STORED: [Step; 9] = [
     Step::Unlink(Room::Temporary, "D.0001"),
     Step::Make(Room::Temporary, "D.0001", "a mail\n"),
@@ -62,14 +62,14 @@ const STORED: [Step; 9] = [
     Step::SyncFolder(Room::Temporary),
 ];
 
-/// The steps of a mail that was whole on the disk, with its marker.
+/// The steps for a mail that was complete on the disk, with its marker.
 const FINISHED: [Step; 3] = [
     Step::Rename(Room::Temporary, "D.0001", Room::Data, "D.alphaN0001"),
     Step::SyncFolder(Room::Data),
     Step::SyncFolder(Room::Temporary),
 ];
 
-/// Stores the mail, where this step fails.
+/// Stores the mail with a disk on which the step after `failing` others fails, and asserts what was done.
 fn assert_stored(rt: &impl Abort, alloc: Global, failing: u64, count: usize) {
     let mut disk = MemoryDisk::new(alloc, failing);
     let target = spot(rt, Room::Data, "D.alphaN0001");
@@ -97,8 +97,8 @@ fn marks_before_it_renames(rt: HostRuntime) {
     }
 }
 
-/// Whether a line has a copy, how its job is over, in which file another line stands that is not, whether that one has the
-/// same copy, and the steps.
+/// The columns: whether a line has a copy, the outcome of its job, the file of another line that is not over, whether
+/// that one has the same copy, and the steps.
 type Row = (bool, Outcome, &'static str, bool, &'static [Step]);
 
 const ROWS: [Row; 7] = [
@@ -175,7 +175,7 @@ fn open_line(rt: &impl Abort, file: &str, has_copy: bool) -> OpenLine {
     }
 }
 
-/// Settles the line of a row, where the step behind so many fails.
+/// Settles the line of a row with a disk on which the step after `count` others fails, and asserts what was done.
 fn assert_settled(rt: &impl Abort, alloc: Global, row: Row, count: usize) {
     let (has_copy, outcome, other, has_same_copy, steps) = row;
     let mut disk = MemoryDisk::new(alloc, count as u64);

@@ -1,5 +1,5 @@
-//! Execution files. What this catches beyond the clauses: a rule that is wrong in the definition, and a call that answers
-//! that memory ran out where none was refused.
+//! Execution files. The tests catch beyond the clauses a rule that is wrong in the definition, and a call that reports
+//! that memory ran out when none was refused.
 
 use crate::assertions::{assert_bytes, assert_same, assert_same_at, name};
 use std::alloc::Global;

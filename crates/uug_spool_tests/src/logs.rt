@@ -1,12 +1,12 @@
-//! The lines of logs and of statistics. What this catches beyond the clauses: a rule that is wrong in the definition, and a
-//! call that answers that memory ran out where none was refused.
+//! The lines of logs and of statistics. The tests catch beyond the clauses a rule that is wrong in the definition, and
+//! a call that reports that memory ran out when none was refused.
 
 use crate::assertions::assert_bytes;
 use std::alloc::Global;
 use std::process::Abort;
 use uug_spool::{Amount, Course, LogEvent, LogHead, Moment, StatsHead, log_line, stats_line};
 
-/// The seconds of a minute of 26 November 2026, and the hundredths of one.
+/// Returns the moment of this second and these hundredths in a minute of 26 November 2026.
 pub(crate) fn moment(second: u8, hundredths: u8) -> Moment {
     Moment {
         year: 2026,
@@ -19,7 +19,7 @@ pub(crate) fn moment(second: u8, hundredths: u8) -> Moment {
     }
 }
 
-/// Whose line it is: the system, the user, and when.
+/// The head of a line: the system, the user, the second, the hundredths, and the process.
 type Place<'a> = (&'a str, &'a str, u8, u8, u32);
 
 /// The lines of two sessions, as uucico wrote them.
@@ -118,7 +118,7 @@ fn writes_lines_of_a_log(rt: HostRuntime) {
     }
 }
 
-/// Of which file a line is: the system, the port, and the hundredths of its second.
+/// The file of a line: the system, the port, and the hundredths of its second.
 type File<'a> = (&'a str, &'a str, u8);
 
 /// Lines of statistics, as uucico wrote them.

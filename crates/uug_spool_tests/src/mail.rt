@@ -1,4 +1,4 @@
-//! The lines of C. files as the jobs of a session, and the places of the files that come.
+//! The lines of C. files as the jobs of a session, and the places of received files.
 
 use crate::assertions::{assert_same_at, assert_so_at, name};
 use std::alloc::Global;
@@ -125,10 +125,11 @@ fn reads_the_lines_of_a_file(rt: HostRuntime) {
 
 // ---- the taker's folders
 
-/// A file, and its bytes, where they matter.
+/// A file, and its bytes, if they matter.
 type Coming = (&'static str, &'static str);
 
-/// Markers that stand when the session begins, the files that come, how many of them get their places, and how many markers go.
+/// The markers that are there when the session begins, the files that arrive, the number of them that get their places,
+/// and the number of markers that go.
 type Arrival = (&'static [Coming], &'static [Coming], usize, usize);
 
 const TEXT: &str = "U uucp alpha\nF D.alphaN0001\nI D.alphaN0001\nC rmail u\n";

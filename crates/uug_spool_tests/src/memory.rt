@@ -1,4 +1,4 @@
-//! Calls of which one request for memory is refused: each says so, and can be made again.
+//! Calls for which one request for memory is refused: each reports it, and can be made again.
 
 use crate::assertions::{assert_same_at, assert_so_at, name};
 use crate::logs::moment;
@@ -84,8 +84,7 @@ fn write_status(heap: Heap<'_>, system: &Name) -> bool {
     status_line(heap, &status, system).is_ok()
 }
 
-/// Makes the call. Whether it was done.
-/// Reads the lines of a C. file, and settles their jobs.
+/// Reads the lines of a C. file, and settles their jobs. Returns whether it was done.
 fn settle_mail(heap: Heap<'_>, node: &Name) -> bool {
     let Ok(data) = Name::new(b"D.0001") else {
         return true;
@@ -103,6 +102,7 @@ fn settle_mail(heap: Heap<'_>, node: &Name) -> bool {
         .is_ok()
 }
 
+/// Makes the call. Returns whether it was done.
 fn make(heap: Heap<'_>, node: &Name, call: Call) -> bool {
     match call {
         Call::Name => name_said(heap, b"-Cq", LINE).is_ok(),
@@ -116,7 +116,7 @@ fn make(heap: Heap<'_>, node: &Name, call: Call) -> bool {
     }
 }
 
-/// Refuses the nth request of the call, which says so and can be made again. Whether there was one.
+/// Refuses the nth request of the call, which reports it and can be made again. Returns whether there was one.
 fn refuse(rt: &impl Abort, heap: Heap<'_>, node: &Name, (call, nth): (Call, u64)) -> bool {
     heap.refuse(nth);
     let is_done = make(heap, node, call);
@@ -130,7 +130,7 @@ fn refuse(rt: &impl Abort, heap: Heap<'_>, node: &Name, (call, nth): (Call, u64)
 /// More requests than any of the calls makes.
 const ENOUGH: u64 = 100;
 
-/// Refuses each request of the call in turn. How many it makes.
+/// Refuses each request of the call in turn. Returns their number.
 fn requests(rt: &impl Abort, heap: Heap<'_>, node: &Name, call: Call) -> u64 {
     for nth in 1..ENOUGH {
         if !refuse(rt, heap, node, (call, nth)) {

@@ -1,5 +1,5 @@
-//! The names of a spool's files, their grades and numbers. What this catches beyond the clauses: a rule that is wrong in the
-//! definition.
+//! The names of a spool's files, their grades and numbers. The tests catch beyond the clauses a rule that is wrong in
+//! the definition.
 
 use crate::assertions::{assert_bytes, assert_same, assert_same_at, name};
 use std::alloc::Global;
@@ -10,7 +10,7 @@ use uug_spool::{
     work_order,
 };
 
-/// Names that another system sends, and where each goes.
+/// Names that another system sends, and the place of each.
 const PLACES: [(&str, Result<(Room, &str), Barred>); 35] = [
     // what a mail and a news batch come as
     ("D.alphaN000A", Ok((Room::Data, "D.alphaN000A"))),
@@ -72,7 +72,7 @@ fn puts_files_in_their_places(rt: HostRuntime) {
     }
 }
 
-/// Why a name is barred, as it is said.
+/// The reasons for which names are barred, and their texts.
 const BARRED: [(Barred, &str); 4] = [
     (Barred::Path, "not a name in the public folder or the spool"),
     (Barred::Commands, "the name of a job"),

@@ -1,4 +1,4 @@
-//! Jobs that are put off or given up: what stays of them, whom it is told, and on which day.
+//! Jobs that are put off or given up: what stays of them, the addressees of the notices, and the day.
 
 use crate::assertions::{assert_same_at, assert_so_at, name};
 use crate::logs::moment;
@@ -17,7 +17,7 @@ use uug_talk::Name;
 const MAIL: &str =
     "E D.0001 D.alphaN0001 uucp -CNZR D.0001 0666 sender@here.org 0 rmail rcpt1@there.org";
 
-/// A line that has a command run, and whom it is told that this was given up.
+/// A line that has a command run, and the addressee of the notice that this was given up.
 const ASKERS: [(&str, &str); 7] = [
     (MAIL, "sender@here.org"),
     // no option says that the name is who asks
@@ -64,7 +64,7 @@ fn mail(rt: &impl Abort) -> Execution {
     read_execution(MAIL.as_bytes()).expect(rt, "a command")
 }
 
-/// A job of another line is told its own user.
+/// Asserts that the notice of another line's job goes to its own user.
 #[test]
 fn tells_the_user_of_another_job(rt: HostRuntime) {
     let other = Job::Request {
@@ -82,7 +82,7 @@ fn tells_the_user_of_another_job(rt: HostRuntime) {
     );
 }
 
-/// Which of a command's two jobs have failed, its data first.
+/// The jobs of a command that have failed: its data, and its text.
 const FAILED: [(bool, bool, &str); 3] = [
     (true, true, "both"),
     (true, false, "its data"),
@@ -97,7 +97,7 @@ fn told(command: &Execution, failed: &[Job]) -> usize {
         .count()
 }
 
-/// One mail is enough where a command fails with its data.
+/// Asserts that one mail is enough when a command fails with its data.
 #[test]
 fn tells_once_of_a_command(rt: HostRuntime) {
     let command = mail(&rt);
@@ -137,7 +137,7 @@ fn names_data(operation: &Operation<Global>, text: &str) -> bool {
     }
 }
 
-/// All that is offered of these lines is done. The others, their data and their C. file stay.
+/// Asserts that all that is offered of these lines is done. The others, their data and their C. file stay.
 fn assert_held(rt: &impl Abort, alloc: Global, unread: &[Name], offered: usize, held: &str) {
     let lines = read_lines(rt, alloc, unread);
     let queue = queue_of(alloc, lines.as_slice(), 1024).expect(rt, "memory");
@@ -165,7 +165,7 @@ fn puts_off_what_can_not_be_read(rt: HostRuntime) {
 
 // ---- the day of a mail
 
-/// Years, months and days, and what they are called.
+/// Years, months and days, and their names.
 const DAYS: [(u16, u8, u8, &str, &str); 8] = [
     (2026, 11, 27, "Fri", "Nov"),
     (2000, 2, 29, "Tue", "Feb"),

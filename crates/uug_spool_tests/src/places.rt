@@ -7,7 +7,7 @@ use uug_mailbox::{MailSpool, PublicFolder, SpoolFolder};
 use uug_session::{KeepFault, Spool};
 use uug_spool::MemoryDisk;
 
-/// A source, a target, and the name in the public folder of the place where the file goes.
+/// A source, a target, and the name of the file's place in the public folder.
 const ROWS: [(&str, &str, Option<&str>); 9] = [
     ("/srv/f", "~/x", Some("x")),
     ("/srv/f", "~/", Some("f")),

@@ -1,4 +1,4 @@
-//! C. files of which lines are over that have no copy.
+//! C. files with lines that are over and have no copy.
 
 use crate::assertions::{assert_same, assert_so_at, name};
 use std::alloc::Global;
@@ -8,7 +8,7 @@ use uug_spool::{MemoryDisk, Operation};
 
 type Store = WorkStore<MemoryDisk<Global>, Global>;
 
-/// The store of a C. file with so many lines, all of the same words but for the number of the file.
+/// Makes the store of a C. file with `count` lines, all with the same words but for the number of the file.
 fn store_of(rt: &impl Abort, alloc: Global, count: u32) -> Store {
     let mut text = String::new(alloc);
     for i in 0..count {
@@ -42,7 +42,7 @@ fn lines_written(store: &Store) -> Option<usize> {
     written
 }
 
-/// Settles as many jobs as a session offers, where it offers so many.
+/// Settles the jobs that a session offers, at most `most`. Returns their number.
 fn settle_session(rt: &impl Abort, alloc: Global, store: &mut Store, most: usize) -> usize {
     let queue = queue_of(alloc, store.lines(), most).expect(rt, "memory");
     let done = store.settle_jobs(alloc, queue.pending(), &[], b"");

@@ -1,12 +1,12 @@
-//! Status files. What this catches beyond the clauses: a rule that is wrong in the definition, and a call that answers that
-//! memory ran out where none was refused.
+//! Status files. The tests catch beyond the clauses a rule that is wrong in the definition, and a call that reports
+//! that memory ran out when none was refused.
 
 use crate::assertions::{assert_bytes, assert_same, assert_same_at, name};
 use std::alloc::Global;
 use std::process::Abort;
 use uug_spool::{CallState, Status, is_due, read_status, status_failed, status_line};
 
-/// A status: how the call went, how often it failed, when it was, and how long to wait.
+/// A status: the result of the call, the number of failures, the time, and the seconds to wait.
 type Row = (CallState, u32, u32, u32);
 
 fn status((state, tries, time, wait): Row) -> Status {
@@ -72,7 +72,7 @@ fn writes_and_reads_statuses(rt: HostRuntime) {
     }
 }
 
-/// Texts that say no status.
+/// Texts without a status.
 const STRANGE: [&str; 12] = [
     "",
     "\n",
@@ -101,7 +101,7 @@ fn reads_no_strange_status(rt: HostRuntime) {
     );
 }
 
-/// How a call failed, what the file said before, when it was, and what it says then.
+/// The result of a failed call, the status in the file before, the time, and the status then.
 const FAILURES: [(CallState, Option<Row>, u32, Row); 7] = [
     // as uucico wrote it
     (
@@ -158,7 +158,7 @@ fn counts_failed_calls(rt: HostRuntime) {
     }
 }
 
-/// The time of a call and how long to wait, a time, and whether the system may be called then.
+/// The time of a call and the seconds to wait, a time, and whether the system may be called then.
 const TIMES: [((u32, u32), u32, bool); 6] = [
     ((1000, 600), 1599, false),
     ((1000, 600), 1600, true),

@@ -1,5 +1,5 @@
-//! Two ends over spools in memory, each of which is stopped at each of its operations in turn, and the line behind each answer; then
-//! both go on over a good line. Each mail is delivered once, and no file is lost.
+//! Two ends over spools in memory. Each is stopped at each of its operations in turn, and the line after each answer;
+//! then both go on over a good line. Each mail is delivered once, and no file is lost.
 
 use crate::assertions::{assert_same_at, assert_so_at, name};
 use std::alloc::Global;
@@ -17,7 +17,7 @@ const MAIL: &str = "E D.0001 D.alphaN0001 uucp -CN D.0001 0666 u@here 0 rmail v@
 
 const COPIES: &str = "S /a a uucp -C D.0002 0644 \nS /b b uucp -C D.0003 0644 \n";
 
-/// What comes: the data of the mail, its execution file, and both copies.
+/// The files that arrive: the data of the mail, its execution file, and both copies.
 const TARGETS: [&str; 4] = ["D.alphaN0001", "X.alphaN0001", "a", "b"];
 
 /// The bytes of each.
@@ -30,31 +30,31 @@ const BYTES: [&str; 4] = [
 
 // ---- where a session is stopped
 
-/// What stops a session.
+/// The event that stops a session.
 #[derive(Clone, Copy, PartialEq, Eq)]
 enum Stop {
-    /// The sender's operation behind so many fails.
+    /// The sender's operation after this many others fails.
     Sender(u64),
-    /// The taker's operation behind so many fails.
+    /// The taker's operation after this many others fails.
     Taker(u64),
-    /// The answer for this job does not come to the sender.
+    /// The answer for this job does not reach the sender.
     Unheard(usize),
-    /// The sender has it, and its acknowledgement does not come to the taker.
+    /// The answer reaches the sender, and its acknowledgement does not reach the taker.
     Unacknowledged(usize),
     Nothing,
 }
 
-/// So many operations has a whole session of the sender, and of the taker, and so many jobs.
+/// The number of operations in a whole session of the sender, that of the taker, and that of the jobs.
 const SENDER: u64 = 10;
 
 const TAKER: u64 = 40;
 
 const JOBS: u64 = 4;
 
-/// So many stops there are.
+/// The number of stops.
 const STOPS: u64 = SENDER + TAKER + JOBS + JOBS;
 
-/// The stop of this number; behind the last one nothing stops it.
+/// Returns the stop of this number; after the last one nothing stops the session.
 fn stop_of(number: u64) -> Stop {
     if number < SENDER {
         Stop::Sender(number)
@@ -88,16 +88,16 @@ fn taker_fails_after(stop: Stop) -> u64 {
 
 // ---- what both have
 
-/// What the taker has of a file.
+/// The state of a file at the taker.
 #[derive(Clone, Copy)]
 struct Taken {
-    /// It is whole beside its place.
+    /// It is complete beside its place.
     is_held: bool,
-    /// Its marker stands.
+    /// Its marker is there.
     is_marked: bool,
     /// It is in its place.
     is_there: bool,
-    /// So often it was put there.
+    /// The number of times that it was put there.
     placed: u32,
 }
 
@@ -108,14 +108,14 @@ const NOTHING: Taken = Taken {
     placed: 0,
 };
 
-/// What stands on both disks.
+/// The state of both disks.
 #[derive(Clone, Copy)]
 struct World {
-    /// Which of the sender's files are there.
+    /// True for each of the sender's files that is there.
     there: [bool; 5],
-    /// What the taker has of each that comes.
+    /// The state of each file that arrives at the taker.
     taken: [Taken; 4],
-    /// So often the mail was delivered.
+    /// The number of times that the mail was delivered.
     delivered: u32,
 }
 
@@ -123,7 +123,7 @@ fn is_name(name: &Name, text: &str) -> bool {
     name.as_bytes() == text.as_bytes()
 }
 
-/// This was done to the sender's files.
+/// Notes an operation on the sender's files.
 fn note(world: &mut World, operation: &Operation<Global>) {
     let Operation::Unlinked(spot) = operation else {
         return;
@@ -135,7 +135,7 @@ fn note(world: &mut World, operation: &Operation<Global>) {
     }
 }
 
-/// This was done to what the taker has of one file.
+/// Notes an operation on one file of the taker.
 fn change(taken: &mut Taken, operation: &Operation<Global>) {
     match operation {
         Operation::Made(spot, _) if spot.room == Room::Marked => taken.is_marked = true,
@@ -151,7 +151,7 @@ fn change(taken: &mut Taken, operation: &Operation<Global>) {
     }
 }
 
-/// Whether this was done to the file of this name.
+/// Returns whether this was done to the file of this name.
 fn is_of(operation: &Operation<Global>, file: &str) -> bool {
     match operation {
         Operation::Made(spot, _)
@@ -162,7 +162,7 @@ fn is_of(operation: &Operation<Global>, file: &str) -> bool {
     }
 }
 
-/// This was done to the taker's files.
+/// Notes an operation on the taker's files.
 fn see(world: &mut World, operation: &Operation<Global>) {
     for i in 0..TARGETS.len() {
         if is_of(operation, TARGETS[i]) {
@@ -183,7 +183,7 @@ fn see_all(world: &mut World, disk: &MemoryDisk<Global>) {
     }
 }
 
-/// The mail is delivered, if its execution file and its data are there, and then they are not.
+/// Delivers the mail, if its execution file and its data are there; then they are not.
 fn deliver(world: &mut World) {
     if world.taken[0].is_there && world.taken[1].is_there {
         world.taken[0].is_there = false;
@@ -207,7 +207,7 @@ fn add_lines(
     }
 }
 
-/// The sender's lines that are open.
+/// Returns the sender's lines that are open.
 fn read(rt: &impl Abort, alloc: Global, world: &World) -> Vec<OpenLine, Global> {
     let mut there = Vec::new(alloc);
     for i in 0..FILES.len() {
@@ -229,7 +229,7 @@ const MARKERS: [&str; 2] = [
     "U uucp alpha\nF D.alphaN0001\nI D.alphaN0001\nC rmail v@there\n",
 ];
 
-/// The markers of the taker that stand, but those of files in the public folder.
+/// Returns the markers of the taker that are there, except those of files in the public folder.
 fn markers(rt: &impl Abort, alloc: Global, world: &World) -> Vec<Came<Global>, Global> {
     let mut came = Vec::new(alloc);
     for i in 0..MARKERS.len() {
@@ -245,8 +245,8 @@ fn markers(rt: &impl Abort, alloc: Global, world: &World) -> Vec<Came<Global>, G
     came
 }
 
-/// Puts the file of a marker in its place, if it stands whole beside it, and takes the marker away of one in the public folder.
-/// Whether all was done.
+/// Puts the file of a marker in its place, if it is complete beside it. Removes the marker of a file in the public
+/// folder. Returns whether all was done.
 fn finish_one(rt: &impl Abort, disk: &mut MemoryDisk<Global>, file: &str, is_held: bool) -> bool {
     let file = name(rt, file);
     let place = spot_of(&file).expect(rt, "a place");
@@ -263,7 +263,7 @@ fn finish_one(rt: &impl Abort, disk: &mut MemoryDisk<Global>, file: &str, is_hel
     disk.unlink(&marker).is_ok() && disk.sync_folder(Room::Marked).is_ok()
 }
 
-/// Finishes what another session has left. Whether all was done.
+/// Finishes what another session has left. Returns whether all was done.
 fn finish_all(rt: &impl Abort, disk: &mut MemoryDisk<Global>, world: &World) -> bool {
     for i in 0..TARGETS.len() {
         let Taken {
@@ -284,7 +284,7 @@ type Sender = WorkStore<MemoryDisk<Global>, Global>;
 
 type Taker = SpoolFolder<MemoryDisk<Global>, Global>;
 
-/// The taker takes the file of this job. Whether it is in its place.
+/// Takes the file of this job at the taker. Returns whether it is in its place.
 fn take(taker: &mut Taker, job: &Job) -> bool {
     let Job::Send { target, .. } = job else {
         return false;
@@ -300,7 +300,7 @@ fn take(taker: &mut Taker, job: &Job) -> bool {
     false
 }
 
-/// The file of this job is sent, and struck. Whether the session goes on.
+/// Sends the file of this job, and strikes the job. Returns whether the session goes on.
 fn send(
     alloc: Global,
     sender: &mut Sender,
@@ -314,7 +314,7 @@ fn send(
         && stop != Stop::Unacknowledged(i)
 }
 
-/// All jobs in turn. Whether none was stopped.
+/// Sends all jobs in turn. Returns whether none was stopped.
 fn send_all(
     rt: &impl Abort,
     alloc: Global,
@@ -331,20 +331,20 @@ fn send_all(
     true
 }
 
-/// The sender takes each C. file away, of whose lines none is left. Whether all was done.
+/// Removes each C. file that has no line left, at the sender. Returns whether all was done.
 fn tidy(rt: &impl Abort, disk: &mut MemoryDisk<Global>) -> bool {
     settle_file(disk, &name(rt, FILES[0]), &[]).is_ok()
         && settle_file(disk, &name(rt, FILES[1]), &[]).is_ok()
 }
 
-/// Both have said that they are done. Whether all was done then.
+/// Ends the session after both have said that they are done. Returns whether all was done then.
 fn end(rt: &impl Abort, sender: &mut Sender, taker: &mut Taker) -> bool {
     let is_tidy = tidy(rt, &mut sender.disk);
     let has_ended = taker.end().is_ok();
     is_tidy && has_ended
 }
 
-/// One session, and what it leaves. Whether it was not stopped.
+/// Runs one session, and notes what it leaves. Returns whether it was not stopped.
 fn session(rt: &impl Abort, alloc: Global, world: &mut World, stop: Stop) -> bool {
     let came = markers(rt, alloc, world);
     let mut taker = SpoolFolder::new(MemoryDisk::new(alloc, taker_fails_after(stop)), came);
@@ -367,7 +367,7 @@ const BEGINNING: World = World {
     delivered: 0,
 };
 
-/// All has come: the mail once, and nothing is left of it at either end.
+/// Asserts that all has arrived: the mail once, and nothing is left of it at either end.
 fn assert_all_came(rt: &impl Abort, world: &World, number: u64) {
     assert_same_at(rt, world.there, [false; 5], number);
     assert_same_at(rt, world.delivered, 1, number);
@@ -380,7 +380,7 @@ fn assert_all_came(rt: &impl Abort, world: &World, number: u64) {
     );
 }
 
-/// A session that is stopped, and one that is not.
+/// Runs a session that is stopped, and one that is not, and asserts that all has arrived.
 fn assert_stopped(rt: &impl Abort, alloc: Global, number: u64) {
     let mut world = BEGINNING;
     let is_done = session(rt, alloc, &mut world, stop_of(number));
@@ -399,7 +399,8 @@ fn delivers_each_mail_once(rt: HostRuntime) {
     }
 }
 
-/// Two sessions that are stopped, and one that is not. What had come is delivered in the end alone, or between them.
+/// Runs two sessions that are stopped, and one that is not, and asserts that all has arrived. What had arrived is
+/// delivered only in the end, or between them too.
 fn assert_stopped_twice(rt: &impl Abort, alloc: Global, (first, second): (u64, u64)) {
     let mut world = BEGINNING;
     session(rt, alloc, &mut world, stop_of(first));
