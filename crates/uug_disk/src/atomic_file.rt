@@ -1,4 +1,4 @@
-//! A file of the system in the place of another, whole or not at all.
+//! A file of the system that replaces another, as a whole or not at all.
 ghost use Rattle.std.specs.Prelude.{◌≡◌, IfOk};
 ghost use Rattle.uug_disk.specs.Parts.{written_bytes};
 
@@ -11,8 +11,8 @@ use std::os::unix::fs::{MetadataExt, fchown};
 use std::rt::Files;
 use std::{fs, io};
 
-/// Writes a file beside `path`, sees it on the device, and puts it in the place of `path`, which is in the folder `dir`.
-/// Then the folder is seen on the device, too. Where that alone fails the file is in its place.
+/// Writes a file beside `path`, syncs it to disk, and renames it to `path`, which is in the folder `dir`. Then syncs
+/// the folder. If that alone fails the file is in its place.
 pub(crate) fn replace_file<'b, R: Files, A: Allocator>(
     rt: &R,
     part: &mut PartPath<A>,
@@ -35,10 +35,11 @@ pub(crate) fn replace_file<'b, R: Files, A: Allocator>(
     }
 }
 
-/// The same, where others append to the file at `path`: what it has behind `read_len` bytes stays behind the new ones. The new
-/// file has its mode and its owner, as far as the system lets it. The old one is locked meanwhile, so who holds its lock appends to a file that stays in its place. For what is appended without the lock
-/// it is looked once more when the new file is in its place, and again when the folder is on the device, since who has
-/// opened the old file still writes there.
+/// Does the same while others append to the file at `path`. What that file has after `read_len` bytes stays after the
+/// new ones. The new file gets its mode and its owner, as far as the system permits. The old file is locked during
+/// that: a process that holds its lock appends to a file that stays in its place. Bytes that are appended without the
+/// lock are looked for once the new file is in its place, and again once the folder is on disk, since a process that
+/// has opened the old file still writes there.
 pub(crate) fn replace_appended<'b, R: Files<File = File>, A: Allocator>(
     rt: &R,
     part: &mut PartPath<A>,
@@ -62,8 +63,8 @@ pub(crate) fn replace_appended<'b, R: Files<File = File>, A: Allocator>(
     }
 }
 
-/// Appends to the file at `path`, which is in the folder `dir` and is made where it is not there, and sees both on the device.
-/// Where the file can't have all of it, it is as before, if that can be.
+/// Appends to the file at `path`, which is in the folder `dir`, and syncs both to disk. A missing file is created. If
+/// the file can't have all of the bytes, it is as before, if that is possible.
 pub(crate) fn append_at<'b, R: Files<File = File>>(
     rt: &R,
     dir: &str,
@@ -76,7 +77,7 @@ pub(crate) fn append_at<'b, R: Files<File = File>>(
     append_whole(rt, &file, dir, bytes)
 }
 
-/// Appends bytes in one write, and sees them on the device. Where that fails none of them stays.
+/// Appends bytes in one write, and syncs them to disk. If that fails they are removed, if that is possible.
 pub(crate) fn append_whole<'b, R: Files>(
     rt: &R,
     file: &File,
@@ -93,7 +94,7 @@ pub(crate) fn append_whole<'b, R: Files>(
     appended
 }
 
-/// Appends bytes in one write, which may take only a part of them, and sees them on the device.
+/// Appends bytes in one write, which may take only a part of them, and syncs them to disk.
 fn append_synced<'b, R: Files>(
     rt: &R,
     file: &File,
@@ -109,7 +110,7 @@ fn append_synced<'b, R: Files>(
     Ok(written)
 }
 
-/// Writes all of this to a file, and sees it on the device.
+/// Writes all bytes to a file, and syncs it to disk.
 pub(crate) fn write_synced<'b, R: Files>(
     file: &mut R::File,
     bytes: &'b [u8],
@@ -121,12 +122,12 @@ pub(crate) fn write_synced<'b, R: Files>(
     Ok(written)
 }
 
-/// Sees a folder on the device.
+/// Syncs a folder to disk.
 pub(crate) fn see_folder<R: Files>(rt: &R, dir: &str) -> io::Result<()> {
     File::open(rt, dir)?.sync_all()
 }
 
-/// Sees a folder on the device, and before and after it adds to the file at `path` what was appended late to the old one.
+/// Syncs a folder to disk. Before and after that, adds to the file at `path` what was appended late to the old one.
 fn see_folder_between<R: Files>(rt: &R, mut old: R::File, dir: &str, path: &str) -> io::Result<()> {
     add_late(rt, &mut old, path)?;
     see_folder(rt, dir)?;
@@ -142,7 +143,7 @@ fn add_late<R: Files>(rt: &R, old: &mut R::File, path: &str) -> io::Result<()> {
     Ok(())
 }
 
-/// Writes a new file at `part`, and gives it the name `path` once it is on the device.
+/// Writes a new file at `part`, and renames it to `path` once it is on disk.
 fn place_file<'b, R: Files>(
     rt: &R,
     file: &mut R::File,
@@ -157,7 +158,8 @@ fn place_file<'b, R: Files>(
     Ok(written)
 }
 
-/// The same with what the file at `path` has behind so many bytes. The answer is that file, locked and read to its end.
+/// Does the same, and keeps what the file at `path` has after `len` bytes. Returns that file, locked and read to its
+/// end.
 fn place_appended<'b, R: Files<File = File>>(
     rt: &R,
     file: &mut File,
@@ -188,7 +190,7 @@ fn give_rights(from: &File, file: &File) {
     let _ = file.set_permissions(metadata.permissions());
 }
 
-/// Opens a file. Where there is none an empty one is made, so that nobody else makes one before another takes its place.
+/// Opens a file. If there is none an empty one is created, and nobody else creates one before another takes its place.
 fn open_or_make<R: Files>(rt: &R, path: &str) -> io::Result<R::File> {
     match File::open(rt, path) {
         Err(error) if error.kind() == ErrorKind::NotFound => {

@@ -1,4 +1,4 @@
-//! Where a copy that `queue` has made belongs.
+//! The places of copies that `queue` has made.
 ghost use Rattle.std.specs.Prelude.{◌≡◌};
 ghost use Rattle.uug_disk.specs.Copies.{is_needed_by, is_taken, needs, place_of};
 ghost use Rattle.uug_folder.specs.OpenJobs.{jobs_in};
@@ -8,7 +8,7 @@ use uug_folder::{is_given_in, local_source};
 use uug_session::Job;
 use uug_talk::Name;
 
-/// Tells where a copy belongs.
+/// The place of a copy.
 #[derive(Clone, Copy)]
 pub(crate) enum CopyPlace {
     /// In `send`: a job waits that needs it.
@@ -19,7 +19,7 @@ pub(crate) enum CopyPlace {
     Nowhere,
 }
 
-/// Returns where the copy of this name belongs while these jobs wait, and this text tells of those that have failed.
+/// Returns the place of the copy of this name while these jobs wait, and this text lists those that have failed.
 pub(crate) fn place_of(waiting: &[Job], failed: &[u8], name: &Name) -> CopyPlace
     ensures { result ≡ place_of name.now waiting.now (jobs_in (lines failed.now)) }
 {
@@ -32,8 +32,8 @@ pub(crate) fn place_of(waiting: &[Job], failed: &[u8], name: &Name) -> CopyPlace
     }
 }
 
-/// Returns whether a job has its file under this name that waits, or of which this text tells that it has failed. No other copy may get that
-/// name, since it would be sent in that job's place.
+/// Returns whether a job has its file under this name, and waits or is listed in this text as failed. No other copy may
+/// get that name, since it would be sent in that job's place.
 pub(crate) fn is_taken(waiting: &[Job], failed: &[u8], name: &Name) -> bool
     ensures { result ≡ is_taken name.now waiting.now (jobs_in (lines failed.now)) }
 {

@@ -14,10 +14,10 @@ use uug_failure::{Cause, Resource, RunFault, SystemFailure};
 use uug_locks::{Holder, holder_of, is_held, lock_path, lock_text};
 use uug_talk::{NUMBER_MAX, read_number};
 
-/// So many bytes of a lock file are read.
+/// The maximum number of bytes that are read of a lock file.
 const READ_MAX: usize = 64;
 
-/// Everybody may read a lock file.
+/// The mode of a lock file, which everybody may read.
 const LOCK_MODE: u32 = 0o644;
 
 /// The lock file of a device that this run holds. It is removed by `release`.
@@ -27,7 +27,7 @@ pub struct DeviceLock<A: Allocator> {
     process: u32,
 }
 
-/// What an attempt to take a lock came to.
+/// The outcome of an attempt to take a lock.
 #[derive(Clone, Copy)]
 enum Attempt {
     /// This run holds the lock.
@@ -38,9 +38,9 @@ enum Attempt {
     Refused,
 }
 
-/// Takes the lock of a device in the folder of the locks. The lock is the file there that is called after the device, and has
-/// the number of the process that holds it. The lock of a process that is gone is taken over. Where the system refuses to
-/// make a file there, none is made, and there is no lock to be held.
+/// Takes the lock of a device in the folder of the locks. The lock is the file there that is named after the device,
+/// and has the number of the process that holds it. The lock of a process that is gone is taken over. If the system
+/// refuses to create a file there, returns `None`: there is no lock to be held.
 pub fn lock_device<A: Allocator + Copy, R: Files<File = File>>(
     alloc: A,
     rt: &R,
@@ -73,20 +73,20 @@ impl<A: Allocator> DeviceLock<A> {
     }
 }
 
-/// That another run holds the lock of the line.
+/// Returns the fault that another run holds the lock of the line.
 fn in_use() -> RunFault
     ensures { IsFolderFault result }
 {
     RunFault::System(SystemFailure::on(Resource::Line, Cause::InUse))
 }
 
-/// The number of this process, where the system tells it.
+/// Returns the number of this process, if the system reports it.
 fn own_number<A: Allocator + Copy, R: Files>(alloc: A, rt: &R) -> Result<Option<u32>, AllocError> {
     let text = process_text(alloc, rt)?;
     Ok(read_number(text.as_bytes(), NUMBER_MAX))
 }
 
-/// Makes a lock file whole beside its place, and puts it there. Nobody else sees a part of it.
+/// Writes a complete lock file beside its place, and puts it there. Nobody else sees a part of it.
 fn take<A: Allocator + Copy, R: Files<File = File>>(
     alloc: A,
     rt: &R,
@@ -131,8 +131,8 @@ fn place<A: Allocator + Copy, R: Files<File = File>>(
     }
 }
 
-/// Puts the file at `part` in the place of a lock whose process is gone. Another run that does the same at this moment would
-/// remove the lock that this one has just made, so the folder is locked meanwhile.
+/// Puts the file at `part` in the place of a lock whose process is gone. The folder is locked during that, since
+/// another run that does the same would remove the lock that this one has just made.
 fn take_over<A: Allocator + Copy, R: Files<File = File>>(
     alloc: A,
     rt: &R,
@@ -171,8 +171,8 @@ fn replace<R: Files>(rt: &R, part: &str, path: &str, _is_taken: bool) -> Attempt
     }
 }
 
-/// Whether another process holds the lock at this path. One of this process is left over from another with its number, since
-/// a run takes a lock once.
+/// Returns whether another process holds the lock at this path. A lock of this process is left over from another one
+/// with its number, since a run takes a lock once.
 fn is_taken<A: Allocator + Copy, R: Files>(
     alloc: A,
     rt: &R,
@@ -194,7 +194,7 @@ fn is_own(own: Option<u32>, process: u32) -> bool
     own == Some(process)
 }
 
-/// Who holds the lock at this path. What can't be read may be anybody's.
+/// Returns who holds the lock at this path. One that can't be read may be anybody's.
 fn holder_at<R: Files>(rt: &R, path: &str) -> Holder {
     let mut buffer = [0; READ_MAX];
     match read_lock(rt, path, &mut buffer) {
@@ -214,7 +214,7 @@ fn read_lock<R: Files>(rt: &R, path: &str, buffer: &mut [u8; READ_MAX]) -> io::R
     File::open(rt, path)?.read(buffer)
 }
 
-/// Whether there is no process of this number. That is known only where the system shows the processes of others.
+/// Returns whether there is no process of this number. That is known only if the system shows the processes of others.
 fn is_gone<A: Allocator + Copy, R: Files>(
     alloc: A,
     rt: &R,

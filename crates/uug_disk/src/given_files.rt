@@ -1,4 +1,4 @@
-//! The files that an end of `call` and `answer` gives in a session, and for which of its jobs there is room.
+//! The files that an end of `call` and `answer` gives in a session, and the number of its jobs for which there is room.
 ghost use Rattle.std.specs.Prelude.{◌≡◌, ◌+◌, ◌≤◌, false, IfErr, IfOk, OnOk, length};
 ghost use Rattle.uug_failure.specs.Faults.{IsFolderFault};
 ghost use Rattle.uug_disk.specs.Copies.{room_behind};
@@ -18,26 +18,27 @@ use uug_folder::local_source;
 use uug_session::{Job, Stored};
 use uug_talk::Name;
 
-/// The most files that an end gives which none of the jobs that it offers sends.
+/// The maximum number of files given by an end that none of its offered jobs sends.
 pub const OTHERS_MAX: usize = 256;
 
-/// The files that an end gives in a session, and how many of its jobs it offers.
+/// The files that an end gives in a session, and the number of jobs that it offers.
 #[derive(Drop)]
 pub struct Given<A: Allocator> {
-    /// The files: those of the jobs that are offered, and others that the other end may ask for.
+    /// The files of the jobs that are offered, and others that the other end may ask for.
     pub files: Vec<Stored<A>, A>,
-    /// So many of its jobs are offered, from the front.
+    /// The number of its jobs that are offered, from the front.
     pub offered: usize,
-    /// Names the other files that can't be read now, but may be later.
+    /// The names of the other files that can't be read now, but may be later.
     pub delayed: Vec<Name, A>,
 }
 
-/// The files that an end gives: those of its first jobs, as many as come to `most` bytes together, and behind them up to
-/// `OTHERS_MAX` others in the folder `send` below that of the end, which the other end may ask for. The jobs behind those wait for
-/// another session, which is said on standard error. A file that isn't in `send` is looked for with those of failed jobs: so the
-/// line of such a job may be tried again. A missing folder is an empty one. What is hidden, a copy whose job is not offered, or no
-/// regular file, is skipped, and so is a file of more than `FILE_MAX` bytes. What else is not given is said on standard error. Only
-/// a file that a job names stops the end, where it can't be read. A listing that a signal has ended is begun anew.
+/// Returns the files that an end gives. The first are those of its first jobs, up to `most` bytes together. Then come
+/// up to `OTHERS_MAX` others in the folder `send` below that of the end, which the other end may ask for. The remaining
+/// jobs wait for another session, which is reported on standard error. A file that isn't in `send` is looked for with
+/// those of failed jobs, and the line of such a job may be tried again. A missing folder counts as empty. Hidden files,
+/// copies whose job is not offered, and anything but a regular file are skipped, and so are files of more than
+/// `FILE_MAX` bytes. Other files that are not given are reported on standard error. Only a file that a job names stops
+/// the end, if it can't be read. A listing that a signal has ended is repeated.
 pub fn read_given<A: Allocator + Copy, R: Files + Eprint + Alloc + Clone + Drop>(
     alloc: A,
     rt: &R,
@@ -56,7 +57,7 @@ pub fn read_given<A: Allocator + Copy, R: Files + Eprint + Alloc + Clone + Drop>
     Ok(given)
 }
 
-/// The same, but that nothing is said of the jobs that wait.
+/// Does the same, without a report of the jobs that wait.
 fn list_again<A: Allocator + Copy, R: Files + Eprint + Alloc + Clone + Drop>(
     alloc: A,
     rt: &R,
@@ -80,7 +81,7 @@ fn list_again<A: Allocator + Copy, R: Files + Eprint + Alloc + Clone + Drop>(
     list_given(alloc, rt, dir, jobs, most)
 }
 
-/// The same, of one listing.
+/// Does the same, in one listing.
 fn list_given<A: Allocator + Copy, R: Files + Eprint + Alloc + Clone + Drop>(
     alloc: A,
     rt: &R,
@@ -104,15 +105,15 @@ fn list_given<A: Allocator + Copy, R: Files + Eprint + Alloc + Clone + Drop>(
     })
 }
 
-/// Says how many jobs wait for another session.
+/// Reports how many jobs wait for another session.
 fn say_waiting(rt: &impl Eprint, count: usize) {
     if count > 0 {
         let _ = eprint!(rt; "uucpair: {count} jobs wait for the next session\n");
     }
 }
 
-/// Adds the files of the first of these jobs, as long as there is room for them, and says of how many jobs. The first one is
-/// always among them.
+/// Adds the files of the first of these jobs, as long as there is room for them, and returns the number of these jobs.
+/// The first one is always among them.
 fn add_sources<A: Allocator + Copy, R: Files>(
     files: &mut Vec<Stored<A>, A>,
     alloc: A,
@@ -140,7 +141,7 @@ fn add_sources<A: Allocator + Copy, R: Files>(
     Ok(jobs.len())
 }
 
-/// The name in `send` of the file that a job gives.
+/// Returns the name in `send` of the file that a job gives.
 fn source_of(job: &Job) -> Option<Name> {
     match job {
         Job::Send { source, .. } => local_source(source),
@@ -148,8 +149,8 @@ fn source_of(job: &Job) -> Option<Name> {
     }
 }
 
-/// Adds the file of this name, which a job names, unless it is there already, there is none, or it does not fit in the room, which
-/// is then so much less. Whether it has its room.
+/// Adds the file of this name, which a job names, unless it is there already, there is none, or it does not fit in the
+/// room. An added file takes up room. Returns false if it does not fit.
 fn add_source<A: Allocator + Copy, R: Files>(
     files: &mut Vec<Stored<A>, A>,
     alloc: A,
@@ -175,7 +176,7 @@ fn add_source<A: Allocator + Copy, R: Files>(
     Ok(fits(files, before, room))
 }
 
-/// The path of the file of this name, which a job names: in `send`, else with the files of failed jobs.
+/// Returns the path of the file of this name, which a job names: in `send`, else with the files of failed jobs.
 fn source_path<A: Allocator + Copy, R: Files>(
     alloc: A,
     rt: &R,
@@ -208,8 +209,8 @@ fn has_file<R: Files>(rt: &R, dir: EndDir<'_>, name: Name, path: &str) -> Result
     }
 }
 
-/// Whether the file behind these, if one was added, fits in the room, which is then so much less. It is taken away again where it
-/// does not.
+/// Returns whether the file after the first `before`, if one was added, fits in the room, and takes up the room. A file
+/// that does not fit is removed from the list.
 fn fits<A: Allocator>(files: &mut Vec<Stored<A>, A>, before: usize, room: &mut u64) -> bool
     ensures fewer { length files.new.items ≤ length files.old.items }
     ensures full { result ≡ false → length files.new.items ≤ before }
@@ -230,14 +231,14 @@ fn fits<A: Allocator>(files: &mut Vec<Stored<A>, A>, before: usize, room: &mut u
     }
 }
 
-/// Returns what is left of the room behind a file of this size, if that fits.
+/// Returns what is left of the room after a file of this size, if that fits.
 fn room_behind(room: u64, size: u64) -> Option<u64>
     ensures { result ≡ room_behind room size }
 {
     room.checked_sub(size)
 }
 
-/// Whether one of these files has this name.
+/// Returns whether one of these files has this name.
 fn is_there<A: Allocator>(files: &[Stored<A>], name: &Name) -> bool {
     files
         .iter()
@@ -268,7 +269,7 @@ fn add_others<A: Allocator + Copy, R: Files + Eprint + Alloc + Clone + Drop>(
     Ok(passed.delayed)
 }
 
-/// Adds the files of these entries of `send`, up to `OTHERS_MAX` behind so many.
+/// Adds the files of these entries of `send`, up to `OTHERS_MAX` after the first `before`.
 fn add_entries<A: Allocator + Copy, R: Files + Eprint + Alloc + Clone + Drop>(
     files: &mut Vec<Stored<A>, A>,
     alloc: A,
@@ -330,7 +331,7 @@ fn add_entry<A: Allocator + Copy, R: Files + Eprint + Alloc + Clone + Drop>(
     }
 }
 
-/// Whether there is a regular file at a path, as far as that can be seen.
+/// Returns whether there may be a regular file at a path: there is one, or it can't be seen.
 fn may_be_file<R: Files>(rt: &R, path: &str) -> bool {
     match is_file(rt, path) {
         Ok(is_file) => is_file,

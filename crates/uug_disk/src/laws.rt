@@ -1,4 +1,4 @@
-//! Laws of what a folder on a disk may have. A call does nothing: its contract is the law.
+//! Laws of the limits of a folder on a disk. A call does nothing: its contract is the law.
 ghost use Rattle.std.specs.Prelude.{◌≡◌};
 ghost use Rattle.uug_disk.specs.declared.given_files.TheConstants.{OTHERS_MAX};
 ghost use Rattle.uug_disk.specs.declared.part_path.TheConstants.{TRIES_MAX};
@@ -7,9 +7,10 @@ ghost use Rattle.uug_disk.specs.declared.queued_line.TheConstants.{APPENDS_MAX};
 ghost use Rattle.uug_disk.specs.declared.send_folder.TheConstants.{FILES_MAX, GIVEN_MODE, TEXT_MAX};
 ghost use Rattle.uug_disk.specs.declared.system_folder.TheConstants.{FOLDERS_MAX};
 
-/// Each limit is this number: the files that a folder of `pair` has to give, those that an end of `call` and `answer` gives beside
-/// the ones of its jobs, and the mode of each of them, the bytes of a text, the folders in `got` that are noted, and the names of files that are not whole yet which may be in use in a row; the names that
-/// are tried for a copy of what is queued, and the files that may take the place of `jobs` in a row while a job is appended.
+/// States the value of each limit: the files that a folder of `pair` has to give, those that an end of `call` and
+/// `answer` gives beside the ones of its jobs, and the mode of each of them; the bytes of a text; the folders in `got`
+/// that are noted; the names of incomplete files that may be in use in a row; the names that are tried for a copy of a
+/// queued file; and the files that may replace `jobs` in a row while a job is appended.
 pub fn limits()
     ensures files { FILES_MAX ≡ 256 }
     ensures others { OTHERS_MAX ≡ 256 }

@@ -1,5 +1,5 @@
-//! The folder of an end on a disk: its lock, its jobs and its number, the files that it gives and takes, files that are replaced
-//! whole, and jobs that a person queues. Beside it, the lock files of devices.
+//! The folder of an end on a disk: its lock, its jobs and its number, the files that it gives and takes, files that are
+//! replaced as a whole, and jobs that a person queues. Also the lock files of devices.
 #![tactic(auto)]
 
 mod atomic_file;

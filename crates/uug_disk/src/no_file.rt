@@ -4,7 +4,7 @@ use std::alloc::Allocator;
 use uug_folder::{FolderFailed, TextFile};
 use uug_stream::ToolFault;
 
-/// The file of the number of an end that keeps none: it is empty, and stays so.
+/// The file of the number of an end that keeps none. It is empty, and remains empty.
 #[derive(Drop)]
 pub struct NoFile;
 

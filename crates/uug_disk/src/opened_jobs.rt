@@ -13,7 +13,7 @@ use uug_folder::{JobsFault, JobsFile, read_jobs};
 use uug_session::Queue;
 use uug_stream::ToolFault;
 
-/// The file of an end's jobs, and the jobs that its text says.
+/// The file of an end's jobs, and the jobs in its text.
 #[derive(Drop)]
 pub struct OpenJobs<'a, R: Files, A: Allocator> {
     pub file: JobsFile<SystemText<'a, R, A>, A>,
@@ -41,7 +41,7 @@ pub fn open_jobs<'a, A: Allocator + Copy, R: Files>(
     })
 }
 
-/// The jobs that a text says.
+/// Returns the jobs in a text.
 fn queue_of<A: Allocator + Copy>(alloc: A, text: &[u8]) -> Result<Queue<A>, RunFault>
     ensures jobs { IfOk result (λ queue. IsQueueOf text.now queue) }
     ensures fault { IfErr result (λ fault.

@@ -1,4 +1,4 @@
-//! Where a file of the system is written before it is whole.
+//! Paths of files of the system that are not complete yet.
 ghost use Rattle.std.specs.Fs.{dir_entry_name};
 ghost use Rattle.std.specs.Prelude.{◌≡◌, true};
 ghost use Rattle.uug_disk.specs.Parts.{is_part};
@@ -9,42 +9,42 @@ use std::io::ErrorKind;
 use std::rt::Files;
 use std::{fs, io};
 
-/// What the name of such a file begins with.
+/// The beginning of the name of an incomplete file.
 pub(crate) const PART_FRONT: &str = ".part.";
 
-/// Returns whether a name is that of a file which is not whole.
+/// Returns whether a name is that of an incomplete file.
 pub(crate) fn is_part(name: &str) -> bool
     ensures { result ≡ is_part name.now }
 {
     name.starts_with(PART_FRONT)
 }
 
-/// Removes a file that is not whole. One that can't be removed is in nobody's way.
+/// Removes an incomplete file. One that can't be removed is in nobody's way.
 pub(crate) fn remove_part<R: Files, A: Allocator>(rt: &R, entry: &DirEntry<R, A>)
     requires { is_part (dir_entry_name entry.now) ≡ true }
 {
     let _ = fs::remove_file(rt, entry.path().as_str());
 }
 
-/// So many names in a row may be in use.
+/// The maximum number of names in a row that may be in use.
 const TRIES_MAX: u32 = 1000;
 
-/// The most bytes of a count.
+/// The maximum number of bytes of a count.
 const COUNT_LEN: usize = 20;
 
-/// Paths in a folder of files that are not whole yet: `.part.`, the number of this process, and a count. One is made only
-/// where there is no file of that name, so that nobody else's is written, no link is followed and no pipe is opened.
+/// The paths in a folder of incomplete files: `.part.`, the number of this process, and a count. A file is created only
+/// if there is none of that name. Nobody else's is thus written, no link is followed and no pipe is opened.
 #[derive(Drop)]
 pub(crate) struct PartPath<A: Allocator> {
-    /// What stands in front of the count.
+    /// The path before the count.
     front: String<A>,
-    /// The path of the file that was made last, with room for every count.
+    /// The path of the file that was created last, with room for every count.
     path: String<A>,
     count: u64,
 }
 
 impl<A: Allocator + Copy> PartPath<A> {
-    /// Paths in the folder `dir`. All memory for its calls is taken here.
+    /// Prepares paths in the folder `dir`. All memory for its calls is allocated here.
     pub(crate) fn new<R: Files>(alloc: A, rt: &R, dir: &str) -> Result<Self, AllocError> {
         let process = process_text(alloc, rt)?;
         let front = format!(in alloc; "{dir}/{PART_FRONT}{process}.")?;
@@ -59,7 +59,7 @@ impl<A: Allocator + Copy> PartPath<A> {
 }
 
 impl<A: Allocator> PartPath<A> {
-    /// Makes a file under the next name that none has.
+    /// Creates a file under the next name that none has.
     pub(crate) fn create<R: Files>(&mut self, rt: &R) -> io::Result<R::File> {
         for _ in 0..TRIES_MAX {
             self.take_next()?;
@@ -71,7 +71,7 @@ impl<A: Allocator> PartPath<A> {
         Err(io::Error::from(ErrorKind::AlreadyExists))
     }
 
-    /// The path of the file that was made last.
+    /// Returns the path of the file that was created last.
     pub(crate) fn as_str(&self) -> &str {
         self.path.as_str()
     }
@@ -87,7 +87,7 @@ impl<A: Allocator> PartPath<A> {
     }
 }
 
-/// The number of this process, where the system tells it as a path.
+/// Returns the number of this process, if the system reports it as a path, else `self`.
 pub(crate) fn process_text<A: Allocator + Copy, R: Files>(
     alloc: A,
     rt: &R,

@@ -1,4 +1,4 @@
-//! What is said on standard error of files that are not given.
+//! Reports on standard error about files that are not given.
 ghost use Rattle.std.specs.Prelude.{◌≡◌, ◌<◌, OnOk};
 ghost use Rattle.uug_disk.specs.Delayed.{with_delayed};
 ghost use Rattle.uug_failure.specs.Passing.{may_pass};
@@ -7,10 +7,10 @@ use std::alloc::{AllocError, Allocator};
 use uug_failure::Cause;
 use uug_talk::Name;
 
-/// So many reasons there are.
+/// The number of reasons.
 const LACKS: usize = 4;
 
-/// Why a file in `send` is not given.
+/// The reason why a file in `send` is not given.
 #[derive(Clone, Copy)]
 pub(crate) enum Lack {
     /// Its name is no text.
@@ -24,7 +24,7 @@ pub(crate) enum Lack {
 }
 
 impl Lack {
-    /// Its place among the reasons.
+    /// Returns its place among the reasons.
     fn place(self) -> usize
         ensures { result < LACKS }
     {
@@ -36,7 +36,7 @@ impl Lack {
         }
     }
 
-    /// What stands behind the path: a name that is no text is not known, and only the folder's path is.
+    /// Returns the text after the path. A name that is no text is not known, and the path is only the folder's.
     fn rest(self) -> &'static str {
         match self {
             Lack::Text => "/?",
@@ -44,7 +44,7 @@ impl Lack {
         }
     }
 
-    /// What is said of the file.
+    /// Returns the words about the file.
     fn words(self) -> &'static str {
         match self {
             Lack::Text => "its name is no text",
@@ -55,21 +55,21 @@ impl Lack {
     }
 }
 
-/// Says on standard error which files in `send` are not given, and notes those that may be given later. For each reason one is named,
-/// and the others are counted. What can't be said is left out.
+/// Reports on standard error which files in `send` are not given, and notes those that may be given later. For each
+/// reason one is named, and the others are counted. A report that can't be written is left out.
 #[derive(Drop)]
 pub(crate) struct PassedOver<'a, R, A: Allocator> {
     rt: &'a R,
     /// The path of the folder `send`.
     send: &'a str,
-    /// How many there are, by the reasons.
+    /// The numbers of the files, by the reasons.
     counts: [u64; LACKS],
-    /// Names the files that may be given later.
+    /// The names of the files that may be given later.
     pub(crate) delayed: Vec<Name, A>,
 }
 
 impl<'a, R: Eprint, A: Allocator> PassedOver<'a, R, A> {
-    /// Nothing is passed over so far in the folder at this path.
+    /// Creates an empty report for the folder at this path.
     pub(crate) fn none(alloc: A, rt: &'a R, send: &'a str) -> Self {
         PassedOver {
             rt,
@@ -79,7 +79,8 @@ impl<'a, R: Eprint, A: Allocator> PassedOver<'a, R, A> {
         }
     }
 
-    /// The file at this path is not given. What can't be seen of the path is escaped.
+    /// Counts a file at this path that is not given, and reports the first one for each reason. Parts of the path that
+    /// can't be seen are escaped.
     pub(crate) fn note(&mut self, lack: Lack, path: &str)
         ensures { self.new.delayed ≡ self.old.delayed }
     {
@@ -93,7 +94,7 @@ impl<'a, R: Eprint, A: Allocator> PassedOver<'a, R, A> {
         self.counts[place] = self.counts[place].saturating_add(1);
     }
 
-    /// Notes that the file of this name at this path can't be read. It may be given later, where the cause may pass.
+    /// Notes that the file of this name at this path can't be read. It may be given later, if the cause may pass.
     pub(crate) fn note_unread(
         &mut self,
         name: Name,
@@ -110,13 +111,13 @@ impl<'a, R: Eprint, A: Allocator> PassedOver<'a, R, A> {
         Ok(())
     }
 
-    /// A file is not given whose name is no text.
+    /// Notes that a file is not given because its name is no text.
     pub(crate) fn note_no_text(&mut self) {
         let send = self.send;
         self.note(Lack::Text, send);
     }
 
-    /// Says how many more files in the folder are not given.
+    /// Reports how many more files in the folder are not given.
     pub(crate) fn say_rest(&self) {
         let mut more: u64 = 0;
         for count in &self.counts {

@@ -9,7 +9,7 @@ use std::io::ErrorKind;
 use std::os::unix::fs::FileTypeExt;
 use std::rt::Files;
 
-/// Limits how many links in a row are followed, as many as Linux follows.
+/// The maximum number of links in a row that are followed, as many as Linux follows.
 const LINKS_MAX: u32 = 40;
 
 /// Returns whether there is a pipe at a path that a folder has. One that a process holds open, to which `/dev/stdout` and
@@ -47,7 +47,7 @@ fn is_of_process(path: &str) -> bool
     path.starts_with("/proc/") || path.starts_with("/dev/fd/")
 }
 
-/// Returns where a link leads, if there is one at a path.
+/// Returns the target of the link at a path, if there is one.
 fn end_of_link<A: Allocator + Copy, R: Files>(
     alloc: A,
     rt: &R,

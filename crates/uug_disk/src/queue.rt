@@ -1,4 +1,4 @@
-//! Jobs that a person queues, also while sessions run over the same folder, and the list of those that wait.
+//! Jobs that a person queues, also while sessions run over the same folder, and the list of jobs that wait.
 ghost use Rattle.std.specs.Prelude.{◌≡◌, IfErr, IfOk, IsSome, string_bytes};
 ghost use Rattle.uug_folder.specs.Queueing.{ordered, shown_text, target_with, user_with};
 ghost use Rattle.uug_failure.specs.Faults.{IsQueueFault, IsReadingFault};
@@ -19,23 +19,23 @@ use uug_session::Job;
 use uug_stream::{Output, ToolFault, write_all};
 use uug_talk::Name;
 
-/// What a person queues.
+/// The words of a person who queues a job.
 #[derive(Clone, Copy, Debug, PartialEq, Eq)]
 pub struct QueueTask<'a> {
     /// The folder of the end.
     pub dir: &'a str,
-    /// What is to be done with the file: `send` or `request`. Without it the jobs that wait are listed.
+    /// The order for the file: `send` or `request`. Without it the jobs that wait are listed.
     pub order: Option<&'a str>,
-    /// The path of the file that is sent, or the name of the one that is asked for.
+    /// The path of the file to send, or the name of the one to request.
     pub file: Option<&'a str>,
-    /// The name that it is to have where it comes.
+    /// The name that it is to have at its destination.
     pub target: Option<&'a str>,
-    /// Who queues it.
+    /// The user who queues it.
     pub user: Option<&'a str>,
 }
 
 impl<'a> QueueTask<'a> {
-    /// The folder of the end.
+    /// Returns the folder of the end.
     fn end_dir(&self) -> EndDir<'a> {
         EndDir {
             path: self.dir,
@@ -43,7 +43,7 @@ impl<'a> QueueTask<'a> {
         }
     }
 
-    /// The file, which is an empty text where none is named.
+    /// Returns the file, or an empty text if none is named.
     fn file(&self) -> &'a str
         ensures { result.now ≡ word_or_empty self.now.file }
     {
@@ -51,9 +51,10 @@ impl<'a> QueueTask<'a> {
     }
 }
 
-/// Lists the jobs that wait in the folder of an end, or queues one more. A file that is sent is copied into `send`, under its
-/// own name or one with a number. The job is appended to `jobs`, whether a session runs or not. A line says which one it is.
-/// The answer is the program's status; `remark` says why an order is bad usage, and `why` which call of the system failed.
+/// Lists the jobs that wait in the folder of an end, or queues one more. A file that is sent is copied into `send`,
+/// under its own name or one with a number. The job is appended to `jobs`, whether a session runs or not. A line says
+/// which one it is. Returns the program's status. `remark` says why an order is bad usage, and `why` which call of the
+/// system failed.
 pub fn queue_run<A, R, O, B>(
     alloc: A,
     rt: &R,
@@ -103,7 +104,7 @@ fn list_dir<A: Allocator + Copy, R: Files, O: Output>(
     }
 }
 
-/// The list of the jobs in the folder of an end.
+/// Returns the list of the jobs in the folder of an end.
 fn list_at<A: Allocator + Copy, R: Files>(
     alloc: A,
     rt: &R,
@@ -116,7 +117,7 @@ fn list_at<A: Allocator + Copy, R: Files>(
     list_of(alloc, text.as_slice())
 }
 
-/// The jobs of a text, one line a job.
+/// Returns the jobs of a text, one line per job.
 fn list_of<A: Allocator + Copy>(alloc: A, text: &[u8]) -> Result<String<A>, RunFault>
     ensures lists { IfOk result (λ list. IsListOf text.now (string_bytes list)) }
     ensures no_other { IfErr result IsReadingFault }
@@ -125,7 +126,7 @@ fn list_of<A: Allocator + Copy>(alloc: A, text: &[u8]) -> Result<String<A>, RunF
     Ok(write_jobs(alloc, queue.pending())?)
 }
 
-/// Queues what a person orders.
+/// Queues the job that a person orders.
 fn queue_order<A, R, O, B>(
     alloc: A,
     rt: &R,
@@ -157,7 +158,8 @@ where
     Ok(())
 }
 
-/// The job that is ordered. The source of one that sends is the name of the file, under which it is not in `send` yet.
+/// Returns the job that is ordered. The source of one that sends is the name of the file, under which it is not in
+/// `send` yet.
 fn job_of(task: &QueueTask<'_>, order: &str, user: Name) -> Result<Job, OrderFault>
     ensures { result ≡ ordered order.now (word_or_empty task.now.file)
         (target_with (word_in task.now.target) (word_or_empty task.now.file))
@@ -172,7 +174,7 @@ fn job_of(task: &QueueTask<'_>, order: &str, user: Name) -> Result<Job, OrderFau
     )
 }
 
-/// The bytes of a word.
+/// Returns the bytes of a word.
 fn bytes_of(word: Option<&str>) -> Option<&[u8]>
     ensures { shown_text result ≡ word_in word.entry }
 {
@@ -182,7 +184,7 @@ fn bytes_of(word: Option<&str>) -> Option<&[u8]>
     }
 }
 
-/// Who queues a job, where that is not said: the user that the system names.
+/// Returns the user who queues a job, if none is named: the one that the system names.
 fn user_at<R: Env + Alloc>(rt: &R) -> Result<Name, AllocError> {
     let user = variable(rt, "USER")?;
     let login = variable(rt, "LOGNAME")?;
@@ -192,7 +194,7 @@ fn user_at<R: Env + Alloc>(rt: &R) -> Result<Name, AllocError> {
     ))
 }
 
-/// The text of a variable of the system, where it has one.
+/// Returns the text of a variable of the system, if it has one.
 fn variable<R: Env + Alloc>(rt: &R, name: &str) -> Result<Option<String<R::A>>, AllocError> {
     match env::var(rt, name) {
         Ok(text) => Ok(Some(text)),
@@ -201,7 +203,7 @@ fn variable<R: Env + Alloc>(rt: &R, name: &str) -> Result<Option<String<R::A>>, 
     }
 }
 
-/// Queues a job in the folder of the task. The answer is the job as it was queued: the source of one that sends is the name
+/// Queues a job in the folder of the task. Returns the job as it was queued: the source of one that sends is the name
 /// of its copy.
 fn queue_job<A, R>(
     alloc: A,
@@ -229,7 +231,7 @@ where
     }
 }
 
-/// Puts a copy of the file of a job into `send`, and appends the job, with no other who queues meanwhile.
+/// Puts a copy of the file of a job into `send`, and appends the job. Nobody else queues during that.
 fn queue_copy<A, R>(
     alloc: A,
     rt: &R,
@@ -250,7 +252,7 @@ where
     queued
 }
 
-/// The same, where `send` is locked. Before, the copies of jobs that are over go where they belong.
+/// Does the same while `send` is locked. The copies of jobs that are over go where they belong first.
 fn queue_copy_alone<A, R>(
     alloc: A,
     rt: &R,

@@ -21,17 +21,17 @@ use uug_session::Job;
 use uug_stream::ToolFault;
 use uug_talk::{FILE_MAX, Name};
 
-/// What stands in front of a copy's name in the name of its mark: another name of the same file, by which it is known that it is
-/// a copy of ours.
+/// The text before a copy's name in the name of its mark. The mark is another name of the same file, and shows that it
+/// is a copy of ours.
 pub(crate) const COPY_FRONT: &str = ".copy.";
 
-/// The folder of the copies whose jobs have failed. It stands beside the file `failed`, which tells of these jobs.
+/// The folder of the copies whose jobs have failed. It is beside the file `failed`, which lists these jobs.
 pub(crate) const FAILED_FILES: &str = "failed.files";
 
-/// So many names are tried for a copy.
+/// The maximum number of names that are tried for a copy.
 pub(crate) const NAMES_MAX: u32 = 1_000_000;
 
-/// The bytes of the file that is to be copied: a regular one, of at most `FILE_MAX` bytes.
+/// Returns the bytes of the file to copy. It must be a regular one, of at most `FILE_MAX` bytes.
 pub(crate) fn read_copied<A: Allocator + Copy, R: Files>(
     alloc: A,
     rt: &R,
@@ -52,12 +52,13 @@ pub(crate) fn read_copied<A: Allocator + Copy, R: Files>(
     Err(ToolFault::Read)
 }
 
-/// Whether an error is not the system's, but says that there is no regular file.
+/// Returns whether an error is not the system's, but says that there is no regular file.
 fn is_no_file(error: &io::Error) -> bool {
     error.kind() == ErrorKind::InvalidInput && error.raw_os_error().is_none()
 }
 
-/// The bytes of a regular file, unless they are too many. Nothing else is opened: a pipe would wait for a writer.
+/// Returns the bytes of a regular file, or `None` if they are more than `FILE_MAX`. Nothing else is opened: a pipe
+/// would wait for a writer.
 fn read_regular<A: Allocator + Copy, R: Files>(
     alloc: A,
     rt: &R,
@@ -78,18 +79,18 @@ pub(crate) struct Copied<A: Allocator> {
     pub(crate) name: Name,
     path: String<A>,
     mark: String<A>,
-    /// Holds the path where it goes when its job has failed.
+    /// The path to which it goes when its job has failed.
     aside: String<A>,
 }
 
 impl<A: Allocator> Copied<A> {
-    /// Takes it away again.
+    /// Removes it and its mark.
     pub(crate) fn remove<R: Files>(&self, rt: &R) {
         let _ = fs::remove_file(rt, self.path.as_str());
         let _ = fs::remove_file(rt, self.mark.as_str());
     }
 
-    /// Marks it as ours: the name of the file before it was whole becomes that of the mark.
+    /// Marks it as ours: the name of the incomplete file becomes that of the mark.
     fn mark<R: Files>(&self, rt: &R, part: &str) {
         if fs::rename(rt, part, self.mark.as_str()).is_err() {
             let _ = fs::remove_file(rt, part);
@@ -101,7 +102,7 @@ impl<A: Allocator> Copied<A> {
         is_same(rt, self.path.as_str(), self.mark.as_str())
     }
 
-    /// Takes it away, where it is still the file of its mark, and then the mark. None of the jobs that wait needs it.
+    /// Removes it, if it is still the file of its mark, and then the mark. None of the jobs that wait needs it.
     pub(crate) fn clear<R: Files>(&self, rt: &R, _waiting: &[Job])
         requires { is_needed_by self.now.name _waiting.now ≡ false }
     {
@@ -111,8 +112,8 @@ impl<A: Allocator> Copied<A> {
         let _ = fs::remove_file(rt, self.mark.as_str());
     }
 
-    /// Moves it to the files of failed jobs below this folder of an end. It is on the device there before it is taken away here;
-    /// where that can't be done, or another file has its name there, it stays. None of the jobs that wait needs it.
+    /// Moves it to the files of failed jobs below this folder of an end. It is on disk there before it is removed here.
+    /// If that can't be done, or another file has its name there, it stays. None of the jobs that wait needs it.
     pub(crate) fn set_aside<R: Files>(
         &self,
         rt: &R,
@@ -127,7 +128,7 @@ impl<A: Allocator> Copied<A> {
         }
     }
 
-    /// Gives it its name among the files of failed jobs, whose folder is made where it is missing.
+    /// Gives it its name among the files of failed jobs. A missing folder is created.
     fn link_aside<R: Files>(&self, rt: &R, front: &str, failed_files: &str) -> io::Result<()> {
         let mark = self.mark.as_str();
         let aside = self.aside.as_str();
@@ -146,9 +147,9 @@ impl<A: Allocator> Copied<A> {
     }
 }
 
-/// Puts a copy with these bytes into `send`, under this name or the first with a number that no file has there or with those of
-/// failed jobs, and none of the jobs that wait or of which the text `failed` tells: so none of these is ever sent this file. Nothing
-/// is overwritten, and what is not whole has another name.
+/// Puts a copy with these bytes into `send`, under this name or the first with a number that is free. A name is free if
+/// no file has it there or with those of failed jobs, and none of the jobs does that wait or that the text `failed`
+/// lists. None of these is thus ever sent this file. Nothing is overwritten, and an incomplete file has another name.
 pub(crate) fn place_copy<A: Allocator + Copy, R: Files + Alloc + Clone + Drop>(
     alloc: A,
     rt: &R,
@@ -183,7 +184,7 @@ pub(crate) fn place_copy<A: Allocator + Copy, R: Files + Alloc + Clone + Drop>(
     }
 }
 
-/// Writes a file that has no name of its own yet, and sees it on the device.
+/// Writes a file that has no name of its own yet, and syncs it to disk.
 fn write_part<A: Allocator, R: Files>(
     rt: &R,
     part: &mut PartPath<A>,
@@ -237,7 +238,7 @@ fn is_there<R: Files>(rt: &R, path: &str) -> bool {
     fs::symlink_metadata(rt, path).is_ok()
 }
 
-/// The copy of this name in `send`.
+/// Returns the copy of this name in `send`.
 pub(crate) fn copied_as<A: Allocator + Copy>(
     alloc: A,
     dir: EndDir<'_>,
@@ -255,7 +256,7 @@ pub(crate) fn copied_as<A: Allocator + Copy>(
     })
 }
 
-/// The path of a file with those of failed jobs, below the folder of an end.
+/// Returns the path of a file with those of failed jobs, below the folder of an end.
 pub(crate) fn path_with_failed<A: Allocator + Copy>(
     alloc: A,
     dir: EndDir<'_>,

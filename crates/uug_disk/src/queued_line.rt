@@ -1,4 +1,4 @@
-//! A job that is appended to `jobs`, also while sessions take others out of it.
+//! A job that is appended to `jobs`, also while sessions remove others from it.
 ghost use Rattle.std.specs.Prelude.{IfErr, IfOk};
 ghost use Rattle.uug_folder.specs.JobsText.{IsJobsFault, IsQueueOf, jobs_of};
 ghost use Rattle.uug_failure.specs.Failures.{fault_of_run};
@@ -19,12 +19,12 @@ use uug_folder::{JobsFault, appended_job, is_among, read_jobs};
 use uug_session::{Job, Queue};
 use uug_stream::ToolFault;
 
-/// So often in a row another file may come in the place of `jobs` while a job is appended.
+/// The maximum number of times in a row that another file may replace `jobs` while a job is appended.
 pub(crate) const APPENDS_MAX: u32 = 1000;
 
-/// Appends a job to `jobs` in the folder of an end, and sees it on the device. Who takes the place of `jobs` meanwhile holds
-/// the same lock, as the sessions of this program do; else the new file is looked at, and the job appended again where it is
-/// not among those there.
+/// Appends a job to `jobs` in the folder of an end, and syncs it to disk. The sessions of this program hold the same
+/// lock while they replace `jobs`. If anyone else replaces it, the new file is looked at, and the job is appended again
+/// if it is not there.
 pub(crate) fn add_job<A: Allocator + Copy, R: Files<File = File>>(
     alloc: A,
     rt: &R,
@@ -54,7 +54,7 @@ pub(crate) fn add_job<A: Allocator + Copy, R: Files<File = File>>(
     Err(RunFault::of(&failed, dir, Resource::Text(EndText::Jobs)))
 }
 
-/// The file of the jobs, locked, or none where another one took its place meanwhile. Where there is none it is made.
+/// Returns the file of the jobs, locked, or `None` if another one took its place meanwhile. A missing file is created.
 fn lock_jobs<R: Files<File = File>>(
     rt: &R,
     dir: EndDir<'_>,
@@ -80,7 +80,7 @@ fn open_locked<R: Files<File = File>>(rt: &R, path: &str) -> io::Result<File> {
     Ok(file)
 }
 
-/// Whether an open file is the one at a path.
+/// Returns whether an open file is the one at a path.
 fn is_at<R: Files>(rt: &R, file: &File, path: &str) -> bool {
     match (file.metadata(), fs::metadata(rt, path)) {
         (Ok(open), Ok(there)) => open.dev() == there.dev() && open.ino() == there.ino(),
@@ -88,7 +88,7 @@ fn is_at<R: Files>(rt: &R, file: &File, path: &str) -> bool {
     }
 }
 
-/// The text of the jobs in the folder of an end.
+/// Returns the text of the jobs in the folder of an end, which is empty if there is no file.
 pub(crate) fn jobs_at<A: Allocator + Copy, R: Files>(
     alloc: A,
     rt: &R,
@@ -102,7 +102,7 @@ pub(crate) fn jobs_at<A: Allocator + Copy, R: Files>(
     }
 }
 
-/// The jobs that a text says.
+/// Returns the jobs in a text.
 pub(crate) fn jobs_in<A: Allocator + Copy>(alloc: A, text: &[u8]) -> Result<Queue<A>, RunFault>
     ensures jobs { IfOk result (IsQueueOf text.now) }
     ensures fault { IfErr result (λ fault.
@@ -116,7 +116,7 @@ pub(crate) fn jobs_in<A: Allocator + Copy>(alloc: A, text: &[u8]) -> Result<Queu
     }
 }
 
-/// Whether a text has a job.
+/// Returns whether a text has a job.
 fn has_job<A: Allocator + Copy>(alloc: A, text: &[u8], job: &Job) -> Result<bool, RunFault>
     ensures { IfErr result IsReadingFault }
 {
@@ -146,7 +146,7 @@ fn append<A: Allocator + Copy, R: Files>(
     }
 }
 
-/// Sees that a text is one of jobs with what is added to it.
+/// Checks that a text, with what is added to it, is one of jobs, and not too long.
 fn see_text<A: Allocator + Copy>(
     alloc: A,
     dir: EndDir<'_>,

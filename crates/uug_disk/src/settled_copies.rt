@@ -1,4 +1,4 @@
-//! The copies of files that were queued, once jobs are over: they go where their jobs go.
+//! The copies of queued files, once jobs are over: they go where their jobs go.
 ghost use Rattle.std.specs.Prelude.{IfErr};
 ghost use Rattle.uug_failure.specs.Faults.{IsFolderFault, IsReadingFault};
 
@@ -17,9 +17,9 @@ use uug_failure::{EndDir, EndText, Resource, RunFault};
 use uug_session::Job;
 use uug_talk::Name;
 
-/// Puts the copies in `send` where they belong when a session is over: that of a job which is done is taken away, and that of one
-/// which has failed goes to `failed.files`. Where somebody queues at this moment, that run does it. What can't be done is left to
-/// who comes next.
+/// Puts the copies in `send` where they belong when a session is over. The copy of a job that is done is removed, and
+/// that of a failed one goes to `failed.files`. If somebody queues at this moment, that run does it. What can't be done
+/// is left to the next run.
 pub fn settle_copies<A: Allocator + Copy, R: Files<File = File> + Alloc + Clone + Drop>(
     alloc: A,
     rt: &R,
@@ -32,8 +32,8 @@ pub fn settle_copies<A: Allocator + Copy, R: Files<File = File> + Alloc + Clone 
     }
 }
 
-/// The same, where `send` is locked. Nothing goes where there is no file of jobs, as while somebody replaces it, or where it can't be
-/// read which jobs have failed.
+/// Does the same while `send` is locked. Nothing is moved if there is no file of jobs, as while somebody replaces it,
+/// or if it can't be read which jobs have failed.
 pub(crate) fn settle_now<A: Allocator + Copy, R: Files + Alloc + Clone + Drop>(
     alloc: A,
     rt: &R,
@@ -73,7 +73,7 @@ fn open_and_wait<R: Files<File = File>>(rt: &R, send: &str) -> io::Result<File> 
     Ok(file)
 }
 
-/// Locks `send` where nobody queues.
+/// Locks `send`, if nobody queues.
 fn lock_free_send<A: Allocator + Copy, R: Files<File = File>>(
     alloc: A,
     rt: &R,
@@ -88,7 +88,7 @@ fn lock_free_send<A: Allocator + Copy, R: Files<File = File>>(
     }
 }
 
-/// The text that tells of the jobs that have failed, unless it can't be read.
+/// Returns the text that lists the jobs that have failed, or `None` if it can't be read.
 pub(crate) fn failed_text<A: Allocator + Copy, R: Files>(
     alloc: A,
     rt: &R,
@@ -101,8 +101,8 @@ pub(crate) fn failed_text<A: Allocator + Copy, R: Files>(
     }
 }
 
-/// Puts the copies in `send` where they belong while these jobs wait, and this text tells of those that have failed. What is left
-/// of copies that were not whole goes, too.
+/// Puts the copies in `send` where they belong while these jobs wait, and this text lists those that have failed. What
+/// is left of incomplete copies is removed, too.
 fn settle_all<A: Allocator + Copy, R: Files + Alloc + Clone + Drop>(
     alloc: A,
     rt: &R,
@@ -132,7 +132,7 @@ fn settle_all<A: Allocator + Copy, R: Files + Alloc + Clone + Drop>(
     Ok(())
 }
 
-/// Puts a copy where it belongs while these jobs wait, and this text tells of those that have failed.
+/// Puts a copy where it belongs while these jobs wait, and this text lists those that have failed.
 #[tactic(auto, using(crate::proofs::CopyLemmas::nowhere_needed, crate::proofs::CopyLemmas::aside_needed))]
 fn settle_copy<A: Allocator, R: Files>(
     rt: &R,
@@ -149,7 +149,7 @@ fn settle_copy<A: Allocator, R: Files>(
     }
 }
 
-/// The name of the copy whose mark an entry of `send` is.
+/// Returns the name of the copy whose mark is an entry of `send`.
 fn marked_name<R: Files, A: Allocator>(entry: &DirEntry<R, A>) -> Option<Name> {
     let name = entry.file_name().strip_prefix(COPY_FRONT)?;
     Name::new(name.as_bytes()).ok()

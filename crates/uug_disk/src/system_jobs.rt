@@ -11,16 +11,16 @@ use uug_failure::{Cause, EndText, Resource, SystemFailure};
 use uug_folder::{FolderFailed, JobTexts, TextFile};
 use uug_stream::ToolFault;
 
-/// The files of an end's jobs in its folder: `jobs` has those that wait, and `failed` tells of those that were given up.
+/// The files of an end's jobs in its folder: `jobs` has those that wait, and `failed` lists those that were given up.
 #[derive(Drop)]
 pub struct SystemJobs<'a, R: Files, A: Allocator> {
     pub(crate) file: SystemText<'a, R, A>,
-    /// The path of the file that tells of those that were given up.
+    /// The path of the file that lists those that were given up.
     failed: String<A>,
 }
 
 impl<'a, R: Files, A: Allocator + Copy> SystemJobs<'a, R, A> {
-    /// The files of this end's jobs, of which this one has those that wait.
+    /// Creates the files of an end's jobs, from the file of those that wait.
     pub fn new(alloc: A, file: SystemText<'a, R, A>) -> Result<Self, AllocError>
         ensures { IfOk result (λ jobs. jobs.file ≡ file.entry) }
     {
@@ -32,7 +32,7 @@ impl<'a, R: Files, A: Allocator + Copy> SystemJobs<'a, R, A> {
 }
 
 impl<R: Files, A: Allocator> SystemJobs<'_, R, A> {
-    /// Why a call of the system on one of the files failed first, if one did.
+    /// Returns why a call of the system on one of the files failed first, if one did.
     pub fn failure(&self) -> Option<SystemFailure>
         ensures told { 0 < self.now.file.faults.count → IsSome result }
     {

@@ -9,8 +9,8 @@ use uug_failure::SystemFailure;
 use uug_folder::{FolderFailed, TextFile, read_number_text};
 use uug_stream::ToolFault;
 
-/// The file of the number of an end's conversations. The number that it has is not written again, and nor is the one before it,
-/// with which a called end may begin a session: a number in the file never falls by one.
+/// The file of the number of an end's conversations. The number that it has is not written again. Neither is the one
+/// before it, with which a called end may begin a session: a number in the file never falls by one.
 #[derive(Drop)]
 pub struct SystemNumber<'a, R: Files, A: Allocator> {
     pub(crate) file: SystemText<'a, R, A>,
@@ -19,21 +19,21 @@ pub struct SystemNumber<'a, R: Files, A: Allocator> {
 }
 
 impl<'a, R: Files, A: Allocator> SystemNumber<'a, R, A> {
-    /// This file, which has this number, or none.
+    /// Wraps this file, which has this number, or none.
     pub fn new(file: SystemText<'a, R, A>, held: Option<u32>) -> Self
         ensures { result.file ≡ file.entry }
     {
         SystemNumber { file, held }
     }
 
-    /// Why a call of the system on the file failed first, if one did.
+    /// Returns why a call of the system on the file failed first, if one did.
     pub fn failure(&self) -> Option<SystemFailure>
         ensures told { 0 < self.now.file.faults.count → IsSome result }
     {
         self.file.failure()
     }
 
-    /// Returns whether the file is left as it is where it is to have this number.
+    /// Returns whether the file is left as it is for this number.
     fn stays_with(&self, number: Option<u32>) -> bool
         ensures { result ≡ stays_with self.now.held number }
     {

@@ -16,25 +16,25 @@ use uug_failure::{Cause, EndDir, EndText, Faults, Resource, RunFault, SystemFail
 use uug_folder::{FolderFailed, TextFile};
 use uug_stream::ToolFault;
 
-/// A file in the folder of an end, whose text is replaced as a whole. Where its name there is a link, it is the file at the end of
-/// that, and the link stays.
+/// A file in the folder of an end, whose text is replaced as a whole. If its name there is a link, it is the file at
+/// the end of that, and the link stays.
 #[derive(Drop)]
 pub struct SystemText<'a, R: Files, A: Allocator> {
     rt: &'a R,
     dir: EndDir<'a>,
     which: EndText,
-    /// Where the text is written before it is whole.
+    /// The path of the incomplete text.
     part: PartPath<A>,
     path: String<A>,
-    /// The folder in which the file is.
+    /// The folder of the file.
     folder: String<A>,
-    /// How many bytes were read of it last, if it was read.
+    /// The number of bytes that were read of it last, if it was read.
     read_len: Option<u64>,
     faults: Faults,
 }
 
 impl<'a, R: Files, A: Allocator + Copy> SystemText<'a, R, A> {
-    /// This file of an end. All memory for its writing is taken here.
+    /// Prepares this file of an end. All memory for its writing is allocated here.
     pub fn new(alloc: A, rt: &'a R, dir: EndDir<'a>, which: EndText) -> Result<Self, AllocError>
         ensures { IfOk result (λ file. file.faults.count ≡ 0) }
     {
@@ -56,7 +56,7 @@ impl<'a, R: Files, A: Allocator + Copy> SystemText<'a, R, A> {
 }
 
 impl<'a, R: Files, A: Allocator> SystemText<'a, R, A> {
-    /// The text that is in the file now, or an empty one where there is no file.
+    /// Returns the text that is in the file now, or an empty one if there is no file.
     pub(crate) fn read_now<B: Allocator + Copy>(&mut self, alloc: B) -> Result<Vec<u8, B>, RunFault>
         ensures stands { OnOk result (self.new.faults ≡ self.old.faults) }
         ensures fault { IfErr result (λ fault.
@@ -71,12 +71,12 @@ impl<'a, R: Files, A: Allocator> SystemText<'a, R, A> {
         text
     }
 
-    /// The folder in which it is.
+    /// Returns the folder of its end.
     pub(crate) fn dir(&self) -> EndDir<'a> {
         self.dir
     }
 
-    /// The system on which it is.
+    /// Returns the system of the file.
     pub(crate) fn runtime(&self) -> &'a R {
         self.rt
     }
@@ -89,7 +89,7 @@ impl<'a, R: Files, A: Allocator> SystemText<'a, R, A> {
         self.faults.note(self.dir.failure(resource, cause));
     }
 
-    /// Why a call of the system on the file failed first, if one did.
+    /// Returns why a call of the system on the file failed first, if one did.
     pub fn failure(&self) -> Option<SystemFailure>
         ensures told { 0 < self.now.faults.count → IsSome result }
     {
@@ -110,7 +110,7 @@ impl<R: Files<File = File>, A: Allocator> TextFile for SystemText<'_, R, A> {
         }
     }
 
-    /// What was appended to the file since it was read stays behind the new text.
+    /// Replaces the text. What was appended to the file since it was read stays after the new text.
     fn replace(&mut self, bytes: &[u8]) -> Result<(), FolderFailed> {
         let path = self.path.as_str();
         let dir = self.folder.as_str();
@@ -135,7 +135,7 @@ impl<R: Files<File = File>, A: Allocator> TextFile for SystemText<'_, R, A> {
     }
 }
 
-/// Where the file at a path is: at the end of the links, where the path is one.
+/// Returns the path of the file at a path: at the end of the links, if the path is one.
 fn end_of_links<A: Allocator + Copy, R: Files>(
     alloc: A,
     rt: &R,
@@ -152,7 +152,7 @@ fn end_of_links<A: Allocator + Copy, R: Files>(
     }
 }
 
-/// The folder of the file at a path.
+/// Returns the folder of the file at a path.
 pub(crate) fn folder_of(path: &str) -> &str {
     match path.rsplit_once('/') {
         Some(("", _)) => "/",
@@ -161,7 +161,7 @@ pub(crate) fn folder_of(path: &str) -> &str {
     }
 }
 
-/// The text of this file in the folder of an end, which is at this path, or an empty one where there is none.
+/// Returns the text of this file in the folder of an end, which is at this path, or an empty one if there is none.
 fn text_or_none<B: Allocator + Copy, R: Files>(
     alloc: B,
     rt: &R,

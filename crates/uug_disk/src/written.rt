@@ -7,13 +7,13 @@ use std::io;
 use std::io::{ErrorKind, Write};
 use std::snapshot::Snapshot;
 
-/// Says which bytes were written to a file, for clauses alone. Only what writes them makes one.
+/// The bytes that were written to a file, for clauses alone. Only the functions that write them make one.
 #[derive(Drop)]
 pub(crate) struct Written<'b> {
     bytes: Snapshot<&'b [u8]>,
 }
 
-/// Writes all of this.
+/// Writes all of these bytes.
 pub(crate) fn write_text<'b, W: Write>(file: &mut W, bytes: &'b [u8]) -> io::Result<Written<'b>>
     ensures contents { OnOk result (Appends (W.contents file.old) (W.contents file.new) bytes.now) }
     ensures bytes { IfOk result (λ written. written_bytes written ≡ bytes.now) }
@@ -24,7 +24,7 @@ pub(crate) fn write_text<'b, W: Write>(file: &mut W, bytes: &'b [u8]) -> io::Res
     })
 }
 
-/// Writes all of this by one write, which may take only a part of it.
+/// Writes all of these bytes in one write. A write that takes only a part of them is an error.
 pub(crate) fn write_once<'b, W: Write>(file: &mut W, bytes: &'b [u8]) -> io::Result<Written<'b>>
     ensures contents { OnOk result (Appends (W.contents file.old) (W.contents file.new) bytes.now) }
     ensures bytes { IfOk result (λ written. written_bytes written ≡ bytes.now) }
@@ -37,7 +37,7 @@ pub(crate) fn write_once<'b, W: Write>(file: &mut W, bytes: &'b [u8]) -> io::Res
     })
 }
 
-/// Sees that just these bytes were written, which is a condition of the call.
+/// Requires that just these bytes were written, and does nothing.
 pub(crate) fn see_written(written: Written<'_>, bytes: &[u8])
     requires { written_bytes written ≡ bytes.now }
 {

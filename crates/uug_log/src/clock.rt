@@ -10,10 +10,10 @@ use std::time::Clock;
 use std::{env, fs};
 use uug_spool::Moment;
 
-/// Where the files of the system's time zones are.
+/// The folder of the files of the system's time zones.
 const ZONES: &str = "/usr/share/zoneinfo";
 
-/// The clock of the system, as it is read where the program runs. Where its time zone can't be read it is that of UTC.
+/// The clock of the system, as it is read where the program runs. It shows UTC if its time zone can't be read.
 #[derive(Drop)]
 pub struct LocalClock {
     zone: Option<SystemTimeZone>,
@@ -21,7 +21,7 @@ pub struct LocalClock {
 }
 
 impl LocalClock {
-    /// The clock, with the time zone that `TZ` or the system names.
+    /// Reads the clock, with the time zone that `TZ` or the system names.
     pub fn read<R: Env + Files + AllocGlobal>(rt: &R) -> Self {
         let mut zones = TimeZoneDatabase::new(rt.alloc());
         if let Ok(name) = env::var(rt, "TZ") {
@@ -34,7 +34,7 @@ impl LocalClock {
         }
     }
 
-    /// Now; the beginning of 1970 where the system does not say it.
+    /// Returns the current moment, or the beginning of 1970 if the system does not report it.
     pub fn now<R: Clock>(&self, rt: &R) -> Moment {
         moment_of(self.zone().to_datetime(instant(rt)))
     }
@@ -47,7 +47,7 @@ impl LocalClock {
     }
 }
 
-/// Adds the zone of this name, as its file has it.
+/// Adds the zone of this name from its file.
 fn add_zone<R: Files + AllocGlobal>(
     rt: &R,
     zones: &mut TimeZoneDatabase,
@@ -59,7 +59,7 @@ fn add_zone<R: Files + AllocGlobal>(
     zones.insert(name, bytes.as_slice())
 }
 
-/// The instant that the system's clock says, or the beginning of 1970.
+/// Returns the instant of the system's clock, or the beginning of 1970.
 fn instant<R: Clock>(rt: &R) -> Timestamp {
     let Ok(since) = rt.since_1970() else {
         return Timestamp::UNIX_EPOCH;
@@ -67,7 +67,7 @@ fn instant<R: Clock>(rt: &R) -> Timestamp {
     Timestamp::from_nanosecond(since.as_nanos() as i128).unwrap_or(Timestamp::UNIX_EPOCH)
 }
 
-/// The moment that a clock shows so.
+/// Returns the moment that a clock shows.
 fn moment_of(shown: DateTime) -> Moment
     ensures { result ≡ moment_at shown }
 {

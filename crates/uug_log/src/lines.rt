@@ -1,4 +1,4 @@
-//! The lines that an end has in its log.
+//! The lines of an end's log.
 ghost use Rattle.std.specs.Prelude.{◌≡◌, ◌++◌, IfOk, OnOk, string_bytes};
 ghost use Rattle.uug_log.specs.Logged.{end_text, is_sent, job_entry, start_entry, unfinished};
 ghost use Rattle.uug_scan.specs.Detailed.{escaped};
@@ -12,7 +12,7 @@ use uug_follow::{Outcome, Transfer, Way, Wish};
 use uug_reason::add_escaped;
 use uug_spool::{LogEvent, LogHead, log_line};
 
-/// The line of a session that begins: the system is called over the line of this name, or has called there.
+/// Returns the line of a session that begins. The system is called over the line of this name, or has called there.
 pub fn start_line<A: Allocator + Copy>(
     alloc: A,
     head: &LogHead<'_>,
@@ -30,7 +30,8 @@ pub fn start_line<A: Allocator + Copy>(
     log_line(alloc, head, &event)
 }
 
-/// The line of a job that has ended so, with so many bytes of its file: the file that was sent or received, or why it was not.
+/// Returns the line of a job that has ended. It has the file that was sent or received, and its bytes, or says why it
+/// was not.
 pub fn job_line<A: Allocator + Copy>(
     alloc: A,
     head: &LogHead<'_>,
@@ -50,7 +51,7 @@ pub fn job_line<A: Allocator + Copy>(
     }
 }
 
-/// The line of a job that is done.
+/// Returns the line of a job that is done.
 fn done_line<A: Allocator + Copy>(
     alloc: A,
     head: &LogHead<'_>,
@@ -73,7 +74,7 @@ fn done_line<A: Allocator + Copy>(
     }
 }
 
-/// Whether the file of a job goes to the other end.
+/// Returns whether the file of a job goes to the other end.
 fn is_sent(job: &Transfer) -> bool
     ensures { result ≡ is_sent job.now.way job.now.wish }
 {
@@ -83,7 +84,7 @@ fn is_sent(job: &Transfer) -> bool
     }
 }
 
-/// What a job was that is not done, and why.
+/// Returns the words for a job that is not done, and why.
 fn unfinished<A: Allocator>(
     alloc: A,
     job: &Transfer,
@@ -123,7 +124,7 @@ fn outcome_word(outcome: Outcome) -> &'static str
     }
 }
 
-/// The line that says what went wrong.
+/// Returns the line that reports what went wrong.
 pub fn fault_line<A: Allocator + Copy>(
     alloc: A,
     head: &LogHead<'_>,
@@ -135,7 +136,7 @@ pub fn fault_line<A: Allocator + Copy>(
     log_line(alloc, head, &LogEvent::Fault(text.as_bytes()))
 }
 
-/// The line of a session that is over after so many seconds, in which so many bytes of files went.
+/// Returns the line of a session that is over, with its seconds and the bytes of files that went in it.
 pub fn over_line<A: Allocator + Copy>(
     alloc: A,
     head: &LogHead<'_>,
@@ -148,7 +149,7 @@ pub fn over_line<A: Allocator + Copy>(
     log_line(alloc, head, &LogEvent::Over(seconds, bytes))
 }
 
-/// How a session or a run ended badly: its word, and what is said of it, if anything is.
+/// Returns how a session or a run ended badly: its word, and what is said of it, if anything is.
 pub fn end_text<A: Allocator>(alloc: A, word: &str, said: &str) -> Result<String<A>, AllocError>
     ensures { IfOk result (λ text. string_bytes text ≡ end_text word.now said.now) }
 {
@@ -160,13 +161,13 @@ pub fn end_text<A: Allocator>(alloc: A, word: &str, said: &str) -> Result<String
     Ok(text)
 }
 
-/// What a line on standard error says, without the name of the program in front of it.
+/// Returns the words of a line on standard error, without the name of the program before them.
 pub fn words_of(line: &str) -> &str {
     let words = line.strip_prefix("uucpair: ").unwrap_or(line);
     words.strip_suffix('\n').unwrap_or(words)
 }
 
-/// A text in which all can be seen.
+/// Returns a text in which all can be seen.
 fn escaped<A: Allocator>(alloc: A, bytes: &[u8]) -> Result<String<A>, AllocError>
     ensures { IfOk result (λ text. string_bytes text ≡ escaped bytes.now) }
 {

@@ -10,10 +10,10 @@ use std::time::Clock;
 use uug_failure::write_again;
 use uug_spool::LogHead;
 
-/// What this program is called in a log.
+/// The name of this program in a log.
 const PROGRAM: &[u8] = b"uucpair";
 
-/// A file to which lines are appended, and what is known of each of them: when it is written, and by which process.
+/// A file to which lines are appended, with the clock for their times and the number of the process.
 #[derive(Drop)]
 pub struct LogFile<'a, R> {
     rt: &'a R,
@@ -23,7 +23,7 @@ pub struct LogFile<'a, R> {
 }
 
 impl<'a, R: Files<File = File> + Env + AllocGlobal> LogFile<'a, R> {
-    /// The file of this path, which is made where there is none.
+    /// Opens the file of this path to append to. A missing file is created.
     pub fn open(rt: &'a R, path: &str) -> io::Result<Self> {
         let file = OpenOptions::new().append(true).create(true).open(rt, path)?;
         Ok(LogFile {
@@ -36,7 +36,7 @@ impl<'a, R: Files<File = File> + Env + AllocGlobal> LogFile<'a, R> {
 }
 
 impl<'a, R: Clock> LogFile<'a, R> {
-    /// What stands in front of a line that is written now, of this system; empty where that isn't known.
+    /// Returns the head of a line that is written now, of this system, which is empty if it isn't known.
     pub fn head<'b>(&self, system: &'b [u8]) -> LogHead<'b> {
         LogHead {
             program: PROGRAM,
@@ -47,7 +47,7 @@ impl<'a, R: Clock> LogFile<'a, R> {
         }
     }
 
-    /// Appends a line, by one write. One for which there is no memory, or that can't be written, is left out.
+    /// Appends a line, by one write. A line for which there is no memory, or that can't be written, is left out.
     pub fn append<A: Allocator>(&mut self, line: Result<Vec<u8, A>, AllocError>) {
         if let Ok(line) = line {
             let _ = write_again(&mut self.file, line.as_slice());

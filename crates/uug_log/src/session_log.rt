@@ -7,28 +7,28 @@ use std::time::{Clock, Instant};
 use uug_conversation::Side;
 use uug_follow::{Journal, News, Outcome};
 
-/// Has in a file what becomes of the sessions of an end. What becomes of a job is written once it is on the disk.
+/// The log of the sessions of an end, in a file. Results of a job are written once they are on the disk.
 #[derive(Drop)]
 pub struct SessionLog<'a, R, A: Allocator> {
     alloc: A,
     rt: &'a R,
     file: LogFile<'a, R>,
     side: Side,
-    /// The other end's name, and what the line to it is called.
+    /// The other end's name, and the name of the line to it.
     system: &'a str,
     line: &'a str,
-    /// When the session began, where it has and the clock says so.
+    /// The time at which the session began, if it has and the clock gives one.
     since: Option<Instant>,
-    /// Whether it has.
+    /// Set once it has begun.
     is_begun: bool,
-    /// So many bytes of files have come to their places, up to the greatest number.
+    /// The number of bytes of files that have come to their places. It saturates.
     bytes: u64,
-    /// What is to be written of jobs, once it stands on the disk.
+    /// News of jobs, held back until the results are on the disk.
     held: Vec<News, A>,
 }
 
 impl<'a, R: Clock, A: Allocator + Copy> SessionLog<'a, R, A> {
-    /// The log in this file of an end whose sessions have not begun.
+    /// Creates the log in this file, of an end whose sessions have not begun.
     pub fn new(
         alloc: A,
         rt: &'a R,
@@ -51,7 +51,7 @@ impl<'a, R: Clock, A: Allocator + Copy> SessionLog<'a, R, A> {
         }
     }
 
-    /// A session begins, which is written once: the end calls, or the first byte of its caller has come.
+    /// Logs the start of a session, once: the end calls, or the first byte of its caller has come.
     pub fn begin(&mut self) {
         if self.is_begun {
             return;
@@ -68,7 +68,7 @@ impl<'a, R: Clock, A: Allocator + Copy> SessionLog<'a, R, A> {
         self.file.append(line);
     }
 
-    /// What has become of jobs is on the disk.
+    /// Logs the ends of jobs that were held back: all that has become of them is on the disk.
     pub fn write_held(&mut self) {
         for news in &self.held {
             if let News::Ends(job, outcome, bytes) = news {
@@ -80,8 +80,8 @@ impl<'a, R: Clock, A: Allocator + Copy> SessionLog<'a, R, A> {
         self.held.clear();
     }
 
-    /// The session is over. Where it ended badly it is said how, by a word, and what else is to be said of it; and how many jobs
-    /// were given up in it.
+    /// Logs the end of a session, and how many jobs were given up in it. If it ended badly, `bad` is the word for how,
+    /// and `said` what else is to be said of it.
     pub fn end(&mut self, bad: Option<&str>, said: &str, failed: usize) {
         if failed > 0 {
             if let Ok(text) = format!(in self.alloc; "{failed} jobs were given up") {
@@ -104,13 +104,13 @@ impl<'a, R: Clock, A: Allocator + Copy> SessionLog<'a, R, A> {
         self.held.clear();
     }
 
-    /// Something went wrong.
+    /// Logs what went wrong.
     pub fn fault(&mut self, text: &str) {
         let head = self.file.head(self.system.as_bytes());
         self.file.append(fault_line(self.alloc, &head, text));
     }
 
-    /// So many seconds has the session lasted, where the clock says so.
+    /// Returns the seconds that the session has lasted, or 0 without a clock.
     fn seconds(&self) -> u64 {
         let Some(since) = self.since else {
             return 0;

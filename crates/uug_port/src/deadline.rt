@@ -1,9 +1,9 @@
-//! Until when something is waited for.
+//! Deadlines of waits.
 
 use std::io;
 use std::time::{Clock, Duration, Instant};
 
-/// A time that passes.
+/// A span of time from a moment on.
 #[derive(Clone, Copy)]
 pub struct Deadline {
     since: Instant,
@@ -11,7 +11,7 @@ pub struct Deadline {
 }
 
 impl Deadline {
-    /// So long from now.
+    /// Returns the deadline that is this long from now.
     pub fn after<R: Clock>(rt: &R, time: Duration) -> io::Result<Deadline> {
         Ok(Deadline {
             since: Instant::now(rt)?,
@@ -19,7 +19,7 @@ impl Deadline {
         })
     }
 
-    /// How much of it is left, if any is.
+    /// Returns how much time is left, or `None` if it is over.
     pub fn left<R: Clock>(&self, rt: &R) -> io::Result<Option<Duration>> {
         let left = self.time.saturating_sub(self.since.elapsed(rt)?);
         if left.is_zero() {

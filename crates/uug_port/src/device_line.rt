@@ -1,4 +1,4 @@
-//! A line over a terminal device. The system has no time for its reads and writes, so they are waited for before.
+//! A line over a terminal device. The system has no timeouts for its reads and writes, so the line waits before them.
 ghost use Rattle.std.specs.Prelude.{◌≡◌, IfOk, None};
 
 use crate::system_line::SystemLine;
@@ -13,7 +13,7 @@ use std::time::Duration;
 use uug_failure::{Cause, Faults, Resource, SystemFailure};
 use uug_transfer::{EndLine, LineFailed, ReadOutcome};
 
-/// A line over a terminal device, as it was set before.
+/// A line over a terminal device, with the settings that it had before.
 #[derive(Drop)]
 pub struct DeviceLine<A: Allocator> {
     file: File,
@@ -22,8 +22,8 @@ pub struct DeviceLine<A: Allocator> {
 }
 
 impl<A: Allocator + Copy> DeviceLine<A> {
-    /// Opens the device at this path for this run alone: where another one holds it that is the cause of the failure. Its
-    /// calls wait for so long, in whole seconds.
+    /// Opens the device at this path for this run alone. If another run holds it, `InUse` is the cause of the failure.
+    /// Its calls wait as long as `time`, in whole seconds.
     pub fn open<R: Files<File = File> + Net>(
         alloc: A,
         rt: &R,
@@ -43,7 +43,7 @@ impl<A: Allocator + Copy> DeviceLine<A> {
         }
     }
 
-    /// Waits for the first byte, for so long at most, and says whether it came, or the line's end. Nothing is read.
+    /// Waits for the first byte, for at most `time`, and returns whether it, or the line's end, came. Nothing is read.
     pub fn wait_for_call(&mut self, time: Duration) -> Result<bool, Cause>
         ensures { self.new.faults ≡ self.old.faults }
     {
@@ -54,7 +54,7 @@ impl<A: Allocator + Copy> DeviceLine<A> {
     }
 }
 
-/// Opens a device and locks it. The system gives the lock back when the device is closed.
+/// Opens a device and locks it. The system releases the lock when the device is closed.
 fn open_alone<R: Files<File = File>>(rt: &R, path: &str) -> Result<File, Cause> {
     let file = match OpenOptions::new().read(true).write(true).open(rt, path) {
         Ok(file) => file,

@@ -1,5 +1,5 @@
-//! The lines of an end on a system: sockets that call and that listen, devices, the socket between two ends, and how long each of
-//! them waits. Beside them, the standard streams of a program.
+//! The lines of an end on a system: sockets that call and that listen, devices, the socket between two ends, and how
+//! long each of them waits. Also the standard streams of a program.
 #![tactic(auto)]
 
 mod deadline;

@@ -13,17 +13,17 @@ use std::rt::Files;
 use std::time::Clock;
 use std::{fs, io};
 
-/// The socket is the one thing that is waited for.
+/// The token of the socket, the only thing that is waited for.
 const SOCKET: Token = Token(0);
 
-/// So often a wait for a caller is begun anew at most.
+/// The maximum number of waits for a caller.
 const WAITS_MAX: u32 = u32::MAX;
 
-/// A socket that listens, and does not wait itself.
+/// A socket that listens, and does not block.
 pub trait Listener: AsRawFd {
     type Stream: TimedStream + AsRawFd + Drop;
 
-    /// The next that has connected. Its calls wait.
+    /// Returns the next stream that has connected. Its calls block.
     fn take(&self) -> io::Result<Self::Stream>;
 }
 
@@ -49,7 +49,7 @@ impl Listener for TcpListener {
 #[derive(Drop)]
 pub struct Listening<'a, 'p, T, R, A: Allocator> {
     rt: &'a R,
-    /// The path of its file, where it has one.
+    /// The path of its file, if it has one.
     path: Option<&'p str>,
     /// The socket, as long as it listens.
     listener: Option<T>,
@@ -63,7 +63,7 @@ where
     R: Files + Net + Clock,
     A: Allocator + Copy,
 {
-    /// The socket, which does not wait, and whose file has this path.
+    /// Wraps a socket that does not block. `path` is that of its file.
     pub fn new(alloc: A, rt: &'a R, path: Option<&'p str>, listener: T) -> io::Result<Self> {
         let poll = Poll::new(rt)?;
         let events = Events::with_capacity(alloc, 1)?;
@@ -79,8 +79,8 @@ where
         })
     }
 
-    /// The next caller, or none where the time is over, or the socket listens no more. A signal ends no wait, and neither
-    /// does a caller who is gone again.
+    /// Returns the next caller, or `None` if the time is over, or the socket listens no more. A signal ends no wait,
+    /// and neither does a caller who is gone again.
     pub fn next_caller(&mut self, deadline: &Deadline) -> io::Result<Option<T::Stream>> {
         let Some(listener) = &self.listener else {
             return Ok(None);
@@ -101,7 +101,7 @@ where
 }
 
 impl<T: Drop, R: Files, A: Allocator> Listening<'_, '_, T, R, A> {
-    /// It listens no more, and its file is removed.
+    /// Stops listening, and removes its file.
     pub fn close(&mut self) {
         if let Some(listener) = self.listener.take() {
             drop(listener);
@@ -115,13 +115,14 @@ impl<T: Drop, R: Files, A: Allocator> Listening<'_, '_, T, R, A> {
         }
     }
 
-    /// Whether it listens still.
+    /// Returns whether it is still listening.
     pub fn is_open(&self) -> bool {
         self.listener.is_some()
     }
 }
 
-/// Whether an error says that nobody has connected, or is there any more.
+/// Returns whether an error only says that there is no caller yet: nobody has connected, or the caller is gone, or a
+/// signal came.
 fn is_none_yet(error: &io::Error) -> bool {
     matches!(
         error.kind(),

@@ -1,4 +1,4 @@
-//! A stream that is waited for before it is read.
+//! A stream that is polled before it is read.
 
 use crate::timed_stream::TimedStream;
 use mio::unix::SourceFd;
@@ -10,25 +10,26 @@ use std::net::Net;
 use std::os::fd::AsRawFd;
 use std::time::Duration;
 
-/// The stream is the one thing that is waited for.
+/// The token of the stream, the only thing that is waited for.
 const STREAM: Token = Token(0);
 
-/// For so many milliseconds the next bytes are waited for before the read that brings them, or waits itself.
+/// The milliseconds of the poll for the next bytes, before the read that brings them, or blocks itself.
 const POLL_MILLIS: u64 = 100;
 
-/// A stream that is waited for before it is read, where a read that waits is woken for nothing: for each window of small packets
-/// that costs more than one call. What a read comes to is what it comes to at the stream, a tenth of a second later at most.
+/// A stream that is polled before it is read, if a blocking read is woken for nothing. For each window of small packets
+/// such wakes cost more than one call. A read has the same result as a read of the stream, at most a tenth of a second
+/// later.
 #[derive(Drop)]
 pub struct PolledStream<T, A: Allocator> {
     stream: T,
     poll: Poll,
     events: Events<A>,
-    /// Whether the last read has left nothing behind. The system tells of no byte twice, so what was left is not waited for.
+    /// Set if the last read left no bytes. The system reports no byte twice, and what was left is not polled for.
     is_drained: bool,
 }
 
 impl<T: TimedStream + AsRawFd + Drop, A: Allocator + Copy> PolledStream<T, A> {
-    /// This stream, of which nothing was read yet.
+    /// Wraps this stream, of which nothing was read yet.
     pub fn new<R: Net>(alloc: A, rt: &R, stream: T) -> io::Result<Self> {
         let poll = Poll::new(rt)?;
         let events = Events::with_capacity(alloc, 1)?;

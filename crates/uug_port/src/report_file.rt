@@ -1,20 +1,20 @@
-//! The file to which a report goes.
+//! The file for a report.
 
 use std::fs::{File, OpenFile, OpenOptions};
 use std::io;
 use std::io::Write;
 use std::rt::Files;
 
-/// A file that keeps what it held until something is written to it, so that a run which prints nothing leaves it alone.
+/// A file that keeps what it held until something is written to it. A run that prints nothing thus leaves it alone.
 #[derive(Drop)]
 pub struct ReportFile {
     file: File,
-    /// Whether it has what is to be emptied first.
+    /// Set while it has contents that are to be removed first.
     is_kept: bool,
 }
 
 impl ReportFile {
-    /// The file of this path, which is made where there is none. Only a regular file keeps anything.
+    /// Opens the file of this path, and creates it if it is missing. Only a regular file has contents to remove.
     pub fn open<R: Files<File = File>>(rt: &R, path: &str) -> io::Result<Self> {
         let file = OpenOptions::new().write(true).create(true).open(rt, path)?;
         let is_kept = file.metadata()?.is_file();

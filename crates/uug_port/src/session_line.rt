@@ -1,4 +1,4 @@
-//! The line of an end in a session: it waits for as long as what is on the way takes.
+//! The line of an end in a session. It waits for as long as the bytes on the way take.
 ghost use Rattle.std.specs.Prelude.{◌≡◌, ◌≤◌, IfSome};
 ghost use Rattle.std.proofs.Props.{props};
 ghost use Rattle.uug_port.specs.Timers.{IsSpeed};
@@ -15,14 +15,14 @@ use uug_transfer::{EndLine, LineFailed, ReadOutcome, SessionStatus};
 /// The byte with which each packet begins.
 const START: u8 = 0x10;
 
-/// What the timer of an end goes by.
+/// The inputs of an end's timer.
 #[derive(Clone, Copy)]
 pub struct Pace {
-    /// The seconds of the timeout.
+    /// The timeout, in seconds.
     pub timeout: u32,
-    /// The bits a second of the line, where they are told.
+    /// The speed of the line in bits a second, if it is given.
     pub speed: Option<u32>,
-    /// So many bytes the other end may have on the way.
+    /// The maximum number of bytes that the other end may have on the way.
     pub theirs: u32,
     ghost of_speed: { IfSome speed IsSpeed } by { Prim.hlevel props },
 }
@@ -34,14 +34,14 @@ impl Pace {
     ghost use Rattle.uug_talk.specs.declared.chunks.TheConstants.{MESSAGE_MAX};
     ghost use Rattle.uug_port.specs.Timers.{IsSpeed, packets_of, timer};
 
-    /// How long the line waits while so many bytes of its own end are not acknowledged.
+    /// Returns how long the line waits while `ours` bytes of its own end are not acknowledged.
     pub fn time(&self, ours: u32) -> Duration
         ensures { as_nanos result ≡ timer self.now.timeout self.now.speed (ours + self.now.theirs) * 1000000000 }
     {
         Duration::from_secs(timer(self.timeout, self.speed, ours, self.theirs))
     }
 
-    /// The seconds for which the line waits at most: where as much as may be is on the way.
+    /// Returns the maximum seconds that the line waits: when as much as possible is on the way.
     pub fn longest(&self) -> u32
         ensures { timer self.now.timeout self.now.speed
             (packets_of WINDOW_MAX MESSAGE_MAX + self.now.theirs) ≤ u32.MAX
@@ -58,16 +58,16 @@ impl Pace {
 pub struct SessionLine<L> {
     line: L,
     pace: Pace,
-    /// The greatest field of the data packets that were written.
+    /// The size of the greatest field of the data packets that were written.
     largest: u16,
-    /// Whether what is written next begins with a packet.
+    /// Set if what is written next begins with a packet.
     at_packet: bool,
-    /// How long the line waits now.
+    /// The time that the line waits now.
     time: Duration,
 }
 
 impl<L: SystemLine> SessionLine<L> {
-    /// The line of a session that begins, which waits already for as long as this pace says where nothing is on the way.
+    /// Wraps the line of a session that begins. It already waits for as long as this pace says with nothing on the way.
     pub fn new(line: L, pace: Pace) -> Self
         ensures { result.line ≡ line }
     {
@@ -133,7 +133,7 @@ impl<L: SystemLine> SystemLine for SessionLine<L> {
     }
 }
 
-/// The greatest field of the data packets in these bytes, which begin with a packet or a text.
+/// Returns the size of the greatest field of the data packets in these bytes, which begin with a packet or a text.
 fn largest_field(bytes: &[u8]) -> u16 {
     let mut largest = 0;
     let mut rest = bytes;
@@ -148,7 +148,7 @@ fn largest_field(bytes: &[u8]) -> u16 {
     u16::try_from(largest).unwrap_or(u16::MAX)
 }
 
-/// The size of the field of the packet that begins with these bytes, if one does; a control packet has none.
+/// Returns the size of the field of the packet that begins with these bytes, if one does. It is 0 for a control packet.
 fn field_behind(start: u8, code: u8) -> Option<usize>
     ensures { IfSome result (λ field. field ≤ 4096) }
 {

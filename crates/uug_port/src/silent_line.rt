@@ -6,7 +6,7 @@ use std::time::Duration;
 use uug_failure::SystemFailure;
 use uug_transfer::{EndLine, LineFailed, ReadOutcome};
 
-/// The line of an end that nobody has called: it takes what is written, and nothing comes, which it knows at once.
+/// The line of an end that nobody has called. It takes what is written, and each read times out at once.
 #[derive(Clone, Copy)]
 pub struct SilentLine;
 

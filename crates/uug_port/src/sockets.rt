@@ -12,20 +12,21 @@ use std::rt::Files;
 use std::time::{Clock, Duration};
 use std::{fs, io, thread};
 
-/// So many milliseconds an end waits before it connects anew to a socket at which too many wait to be taken.
+/// The milliseconds before an end connects again to a socket at which too many wait to be taken.
 const PAUSE_MILLIS: u64 = 50;
 
-/// So often it connects at most.
+/// The maximum number of attempts to connect.
 const TRIES_MAX: u32 = u32::MAX;
 
-/// The stream over the Unix socket at this path, whose calls wait for so long. So long it may take to connect.
+/// Returns the stream over the Unix socket at this path, whose calls wait as long as `time`. Connecting may take as
+/// long too.
 pub fn call_unix<R: Net + Clock>(rt: &R, path: &str, time: Duration) -> io::Result<UnixStream> {
     let stream = connect_unix(rt, path, time)?;
     stream.set_time(time)?;
     Ok(stream)
 }
 
-/// Connects to a Unix socket. The system does not say when there is room for one more at it, so that is tried again and again.
+/// Connects to a Unix socket. The system does not report when it has room for one more, so the call is repeated.
 fn connect_unix<R: Net + Clock>(rt: &R, path: &str, time: Duration) -> io::Result<UnixStream> {
     let deadline = Deadline::after(rt, time)?;
     for _ in 0..TRIES_MAX {
@@ -44,13 +45,14 @@ fn connect_unix<R: Net + Clock>(rt: &R, path: &str, time: Duration) -> io::Resul
     Err(io::Error::from(ErrorKind::TimedOut))
 }
 
-/// The stream, whose calls wait.
+/// Makes the calls of a stream block.
 fn waiting(stream: UnixStream) -> io::Result<UnixStream> {
     stream.set_nonblocking(false)?;
     Ok(stream)
 }
 
-/// The stream over TCP to this port of this host, whose calls wait for so long. So long it may take to connect.
+/// Returns the stream over TCP to this port of this host, whose calls wait as long as `time`. Connecting may take as
+/// long too.
 pub fn call_tcp<A, R>(
     alloc: A,
     rt: &R,
@@ -92,7 +94,7 @@ where
     Err(last)
 }
 
-/// The same share of a time for each of so many.
+/// Returns the share of a time for each of `count`.
 fn share_of(time: Duration, count: usize) -> Duration {
     match u32::try_from(count) {
         Ok(count) if count > 0 => time / count,
@@ -100,7 +102,7 @@ fn share_of(time: Duration, count: usize) -> Duration {
     }
 }
 
-/// A Unix socket that listens at this path. One that was left there, and at which nobody listens, is replaced.
+/// Returns a Unix socket that listens at this path. One that was left there, and at which nobody listens, is replaced.
 pub fn listen_unix<'a, 'p, A: Allocator + Copy, R: Files + Net + Clock>(
     alloc: A,
     rt: &'a R,
@@ -117,7 +119,7 @@ pub fn listen_unix<'a, 'p, A: Allocator + Copy, R: Files + Net + Clock>(
     Listening::new(alloc, rt, Some(path), listener)
 }
 
-/// Whether there is a socket at this path at which nobody listens.
+/// Returns whether there is a socket at this path at which nobody listens.
 fn is_left_over<R: Files + Net>(rt: &R, path: &str) -> bool {
     match fs::symlink_metadata(rt, path) {
         Ok(found) if found.file_type().is_socket() => (),
@@ -129,7 +131,7 @@ fn is_left_over<R: Files + Net>(rt: &R, path: &str) -> bool {
     }
 }
 
-/// A socket that listens at this port of this host.
+/// Returns a socket that listens at this port of this host.
 pub fn listen_tcp<'a, 'p, A, R>(
     alloc: A,
     rt: &'a R,

@@ -1,5 +1,5 @@
-//! A line over the standard streams of the program: what it reads comes from standard input, and what it writes goes to
-//! standard output. These may be sockets, pipes or terminals, so they are waited for as a device is.
+//! A line over the standard streams of the program: it reads standard input, and writes standard output. These may be
+//! sockets, pipes or terminals, and the line waits for them as for a device.
 ghost use Rattle.std.specs.Prelude.{◌≡◌, ◌≤◌, length, IfOk, None};
 
 use crate::standard_streams::StandardStreams;
@@ -16,8 +16,8 @@ use std::time::Duration;
 use uug_failure::{Cause, Faults, Resource, SystemFailure};
 use uug_transfer::{EndLine, LineFailed, ReadOutcome};
 
-/// What is written to. A write to a socket whose other end is gone raises no signal; a write to a pipe whose reader is gone does,
-/// so at all else it is looked first.
+/// The output that is written to. A write to a socket whose other end is gone raises no signal. A write to a pipe whose
+/// reader is gone does, so anything but a socket is checked first.
 #[derive(Drop)]
 enum Outgoing {
     Socket(UnixStream),
@@ -25,7 +25,7 @@ enum Outgoing {
 }
 
 impl Outgoing {
-    /// Standard output as what it is.
+    /// Returns standard output as a socket if it is one, else as a stream.
     fn of(output: Stdout) -> io::Result<Self> {
         let socket = UnixStream::from(output.as_fd().try_clone_to_owned()?);
         match socket.take_error() {
@@ -46,7 +46,7 @@ pub struct StandardLine<A: Allocator> {
 }
 
 impl<A: Allocator + Copy> StandardLine<A> {
-    /// The line over these streams. Its calls wait for so long, in whole seconds.
+    /// Creates the line over these streams. Its calls wait as long as `time`, in whole seconds.
     pub fn new<R: Net>(
         alloc: A,
         rt: &R,
@@ -85,7 +85,7 @@ fn open_line<A: Allocator + Copy, R: Net>(
     })
 }
 
-/// Writes some of a piece, once any is taken. None is written where none is taken for as long as it is waited for.
+/// Writes some of a piece, once any is taken. Returns 0 if none is taken for as long as the line waits.
 fn write_out<A: Allocator + Copy>(
     output: &mut Outgoing,
     waiting: &mut Waiting<A>,

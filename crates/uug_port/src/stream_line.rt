@@ -1,4 +1,4 @@
-//! A line over a stream, as a socket is.
+//! A line over a stream, such as a socket.
 ghost use Rattle.std.specs.Prelude.{◌≡◌, ◌<◌, ◌≤◌, length, IfErr, IfOk, None};
 ghost use Rattle.uug_failure.specs.Failures.{IsSilence};
 ghost use Rattle.uug_transfer.specs.ReadOutcomes.{IsGiven, IsWithin};
@@ -11,7 +11,7 @@ use std::time::Duration;
 use uug_failure::{Cause, Faults, Resource, SystemFailure, read_again, write_again};
 use uug_transfer::{EndLine, LineFailed, ReadOutcome};
 
-/// A line over a stream whose calls wait no longer than its owner has said.
+/// A line over a stream whose calls wait no longer than its owner has set.
 #[derive(Drop)]
 pub struct StreamLine<T> {
     stream: T,
@@ -19,7 +19,7 @@ pub struct StreamLine<T> {
 }
 
 impl<T: TimedStream> StreamLine<T> {
-    /// The line over this stream, which has not failed yet.
+    /// Creates the line over this stream, without faults.
     pub fn new(stream: T) -> Self
         ensures { ⟦<StreamLine<T> as EndLine>⟧.fault_count result ≡ 0 }
     {
@@ -79,8 +79,8 @@ impl<T: TimedStream> SystemLine for StreamLine<T> {
     }
 }
 
-/// Writes once. A write that would have to wait for longer has taken nothing, and so has one that a signal ended; one that moves
-/// no byte without a word has failed.
+/// Writes once. Returns 0 if the write would block for longer, or a signal ended it. A write that moves no byte without
+/// an error has failed.
 pub(crate) fn write_some<T: Write>(stream: &mut T, piece: &[u8]) -> Result<usize, Cause>
     ensures within { IfOk result (λ n. n ≤ length piece.now) }
     ensures no_silence { IfErr result (λ cause. IsSilence cause → ⊥) }
@@ -95,7 +95,7 @@ pub(crate) fn write_some<T: Write>(stream: &mut T, piece: &[u8]) -> Result<usize
     }
 }
 
-/// Reads once. A read that would have to wait for longer is a silence.
+/// Reads once. A read that would block for longer is a silence.
 pub(crate) fn read_some<T: Read>(stream: &mut T, buffer: &mut [u8]) -> io::Result<ReadOutcome>
     requires room { 0 < length buffer.old }
     ensures within { IfOk result (λ outcome. IsWithin (length buffer.old) outcome) }

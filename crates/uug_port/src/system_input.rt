@@ -1,6 +1,7 @@
-//! It tells the bytes that its reader tells. Standard input tells none, since no proof knows what the system
-//! gives; and a body that always fails, and counts its faults, meets the contract over every reader. So the stored
-//! run of the program shows that bytes come in, and tests/command_line.sh that a refused read is a device fault.
+//! An input over a reader of the system. Clauses see the bytes that its reader shows them. Standard input shows none,
+//! since no proof knows what the system gives; and a body that always fails, and counts its faults, meets the contract
+//! over every reader. The stored run of the program shows that bytes come in, and tests/command_line.sh that a refused
+//! read is a device fault.
 ghost use Rattle.std.specs.Prelude.{◌≡◌, ◌<◌, IsSome};
 
 use std::io::Read;
@@ -15,7 +16,7 @@ pub struct SystemInput<R> {
 }
 
 impl<R: Read> SystemInput<R> {
-    /// An input over the reader, which had no faults yet.
+    /// Creates an input over the reader, without faults.
     pub fn new(reader: R) -> Self
         ensures { ⟦<SystemInput<R> as Input>⟧.fault_count result ≡ 0 }
     {
@@ -25,7 +26,7 @@ impl<R: Read> SystemInput<R> {
         }
     }
 
-    /// Why a read of it failed first, if one did.
+    /// Returns why a read of it failed first, if one did.
     pub fn failure(&self) -> Option<SystemFailure>
         ensures told { 0 < self.now.faults.count → IsSome result }
     {

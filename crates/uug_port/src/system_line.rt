@@ -4,13 +4,13 @@ use std::time::Duration;
 use uug_failure::SystemFailure;
 use uug_transfer::EndLine;
 
-/// A line of the system, which says why it failed.
+/// A line of the system, which reports why it failed.
 pub trait SystemLine: EndLine {
-    /// Why a call of the system on it failed first, if one did.
+    /// Returns why a call of the system on it failed first, if one did.
     fn failure(&self) -> Option<SystemFailure>
         ensures told { 0 < Self.fault_count self.now → IsSome result };
 
-    /// From now on its calls wait for so long. Where the system does not take that they wait as before.
+    /// Sets how long its calls wait from now on. If the system refuses that, they wait as before.
     fn set_time(&mut self, time: Duration)
         ensures calm { Self.fault_count self.new ≡ Self.fault_count self.old }
         ensures received { Self.received self.new ≡ Self.received self.old }

@@ -1,6 +1,7 @@
-//! It tells what was written where its writer does. Standard output does not, since no proof knows what the system
-//! takes; and a body that always fails, and counts its faults, meets the contract over every writer. So the stored
-//! run of the program shows that bytes go out, and tests/command_line.sh that a refused write is a device fault.
+//! An output over a writer of the system. Clauses see what was written if its writer shows it. Standard output does
+//! not, since no proof knows what the system takes; and a body that always fails, and counts its faults, meets the
+//! contract over every writer. The stored run of the program shows that bytes go out, and tests/command_line.sh that a
+//! refused write is a device fault.
 ghost use Rattle.std.specs.Prelude.{◌≡◌, ◌<◌, IsSome};
 
 use std::io::Write;
@@ -15,7 +16,7 @@ pub struct SystemOutput<W> {
 }
 
 impl<W: Write> SystemOutput<W> {
-    /// An output over the writer, which had no faults yet.
+    /// Creates an output over the writer, without faults.
     pub fn new(writer: W) -> Self
         ensures { ⟦<SystemOutput<W> as Output>⟧.fault_count result ≡ 0 }
     {
@@ -25,7 +26,7 @@ impl<W: Write> SystemOutput<W> {
         }
     }
 
-    /// Why a write of it failed first, if one did.
+    /// Returns why a write of it failed first, if one did.
     pub fn failure(&self) -> Option<SystemFailure>
         ensures told { 0 < self.now.faults.count → IsSome result }
     {

@@ -6,17 +6,17 @@ use std::time::{Clock, Duration, Instant};
 use uug_failure::SystemFailure;
 use uug_transfer::{EndLine, LineFailed, ReadOutcome, SessionStatus};
 
-/// A line that tells how many seconds have passed since it was opened.
+/// A line that counts the seconds since it was opened.
 #[derive(Drop)]
 pub struct TimedLine<'a, L, R> {
     line: L,
     rt: &'a R,
-    /// When it was opened, where the clock says so.
+    /// The time at which it was opened, if the clock gives one.
     since: Option<Instant>,
 }
 
 impl<'a, L: EndLine, R: Clock> TimedLine<'a, L, R> {
-    /// This line, which was opened just now.
+    /// Wraps this line, which was opened just now.
     pub fn new(rt: &'a R, line: L) -> Self
         ensures { ⟦<TimedLine<'a, L, R> as EndLine>⟧.fault_count result ≡ L.fault_count line }
     {

@@ -4,12 +4,12 @@ use std::net::TcpStream;
 use std::os::unix::net::UnixStream;
 use std::time::Duration;
 
-/// A stream whose calls wait for so long as it is told.
+/// A stream with a timeout for its calls.
 pub trait TimedStream: Read + Write {
-    /// From now on its reads and its writes wait for so long at most.
+    /// Sets how long its reads and its writes wait at most, from now on.
     fn set_time(&self, time: Duration) -> io::Result<()>;
 
-    /// Whether a read of it that waits is woken also where the other end takes what was written to it.
+    /// Returns whether a blocking read is also woken when the other end takes what was written to it.
     fn is_woken_for_nothing(&self) -> bool;
 }
 

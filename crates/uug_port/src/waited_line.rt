@@ -1,4 +1,4 @@
-//! Reads and writes of a line for which it waits itself.
+//! Reads and writes of a line that does its own waiting.
 ghost use Rattle.std.specs.Prelude.{◌≡◌, ◌<◌, ◌≤◌, length, IfOk};
 ghost use Rattle.uug_transfer.specs.ReadOutcomes.{IsWithin};
 
@@ -12,7 +12,7 @@ use std::os::fd::AsRawFd;
 use uug_failure::Cause;
 use uug_transfer::ReadOutcome;
 
-/// Writes some of a piece, once any is taken. None is written where none is taken for as long as it is waited for.
+/// Writes some of a piece, once any is taken. Returns 0 if none is taken for as long as the line waits.
 pub(crate) fn write_in_time<T: Write + AsRawFd, A: Allocator + Copy>(
     file: &mut T,
     waiting: &mut Waiting<A>,
@@ -27,7 +27,8 @@ pub(crate) fn write_in_time<T: Write + AsRawFd, A: Allocator + Copy>(
     }
 }
 
-/// The same, but that nothing is written where nobody reads any more. The system would end the program by a signal there.
+/// Does the same, but fails without writing if nobody reads any more. The system would end the program by a signal
+/// there.
 pub(crate) fn write_where_read<T: Write + AsRawFd, A: Allocator + Copy>(
     file: &mut T,
     waiting: &mut Waiting<A>,
@@ -43,7 +44,7 @@ pub(crate) fn write_where_read<T: Write + AsRawFd, A: Allocator + Copy>(
     }
 }
 
-/// Reads once something is there.
+/// Reads once, after waiting for bytes. Returns a timeout if none came.
 pub(crate) fn read_in_time<T: Read + AsRawFd, A: Allocator + Copy>(
     file: &mut T,
     waiting: &mut Waiting<A>,

@@ -1,4 +1,4 @@
-//! Waiting for what the system has no time of its own for.
+//! Waits for files that have no timeouts in the system.
 
 use mio::unix::SourceFd;
 use mio::{Events, Interest, Poll, Token};
@@ -9,23 +9,23 @@ use std::os::fd::{AsFd, AsRawFd};
 use std::os::unix::net::UnixStream;
 use std::time::Duration;
 
-/// It is the one thing that is waited for.
+/// The token of the file, the only thing that is waited for.
 const FILE: Token = Token(0);
 
-/// A wait is made of waits for so many milliseconds, since a signal ends one of them.
+/// The milliseconds of one slice of a wait. A signal ends only one slice.
 const SLICE_MILLIS: u64 = 100;
 
-/// What is needed to wait for a file that is open: a device, a pipe or a socket.
+/// The means to wait for an open file: a device, a pipe or a socket.
 #[derive(Drop)]
 pub(crate) struct Waiting<A: Allocator> {
     poll: Poll,
     events: Events<A>,
-    /// How many such waits there are.
+    /// The number of slices of a wait.
     slices: u64,
 }
 
 impl<A: Allocator + Copy> Waiting<A> {
-    /// What is needed to wait for this file for so long. None of its own calls waits then.
+    /// Prepares waits for this file, of this length. The file's own calls do not block then.
     pub(crate) fn new<R: Net, F: AsFd + AsRawFd>(
         alloc: A,
         rt: &R,
@@ -45,7 +45,7 @@ impl<A: Allocator + Copy> Waiting<A> {
         })
     }
 
-    /// Waits for the file, and says whether it became ready. A signal makes the wait shorter by one slice at most.
+    /// Waits for the file, and returns whether it became ready. A signal shortens the wait by at most one slice.
     pub(crate) fn wait<F: AsRawFd>(&mut self, file: &F, interest: Interest) -> io::Result<bool> {
         let fd = file.as_raw_fd();
         self.poll
@@ -61,12 +61,12 @@ impl<A: Allocator + Copy> Waiting<A> {
         Ok(false)
     }
 
-    /// Says of the last wait whether it showed that nobody takes anything any more.
+    /// Returns whether the last wait showed that nobody takes anything any more.
     pub(crate) fn is_write_closed(&self) -> bool {
         self.events.iter().any(|event| event.is_write_closed())
     }
 
-    /// The same, for so long.
+    /// Waits as `wait` does, but for this long.
     pub(crate) fn wait_for<F: AsRawFd>(
         &mut self,
         file: &F,
@@ -80,19 +80,19 @@ impl<A: Allocator + Copy> Waiting<A> {
         ready
     }
 
-    /// From now on a wait lasts for so long.
+    /// Sets how long a wait lasts from now on.
     pub(crate) fn set_time(&mut self, time: Duration) {
         self.slices = slices_of(time);
     }
 }
 
-/// How many waits a wait for so long is made of.
+/// Returns the number of slices of a wait for this long.
 fn slices_of(time: Duration) -> u64 {
     time.as_secs().saturating_mul(10)
 }
 
-/// Says whether the calls of a file wait. That is a state of the open file, which this handle shares with another, made for a
-/// moment, that has a call to set it.
+/// Sets whether the calls of a file block. That is a state of the open file. This handle shares it with another one,
+/// made for a moment, that has a call to set it.
 pub(crate) fn set_waiting<F: AsFd>(file: &F, waits: bool) -> io::Result<()> {
     UnixStream::from(file.as_fd().try_clone_to_owned()?).set_nonblocking(!waits)
 }

@@ -1,4 +1,4 @@
-//! A line over two streams, as the two ends of a socket are.
+//! A line over two streams, such as the two ends of a socket.
 ghost use Rattle.std.specs.Prelude.{◌≡◌, ℕ, ◌+◌, ◌^◌, ◌<◌, ◌≤◌, length, IfOk, IsSome, OnErr, OnOk};
 ghost use Rattle.uug_conversation.specs.Sides.{at};
 ghost use Rattle.uug_session.specs.Engine.{HasFailed};
@@ -20,7 +20,7 @@ pub struct WireLine<T> {
 }
 
 impl<T: Read + Write> WireLine<T> {
-    /// The line over the caller's and the called end's stream, on which nothing was written yet.
+    /// Creates the line over the caller's and the called end's stream, on which nothing was written yet.
     pub fn new(caller: T, called: T) -> Self
         ensures unread { (side : _) → ⟦<WireLine<T> as Line>⟧.unread result side ≡ 0 }
         ensures faults { ⟦<WireLine<T> as Line>⟧.fault_count result ≡ 0 }
@@ -36,7 +36,7 @@ impl<T: Read + Write> WireLine<T> {
 }
 
 impl<T> WireLine<T> {
-    /// Why a call of the system on it failed first, if one did.
+    /// Returns why a call of the system on it failed first, if one did.
     pub fn failure(&self) -> Option<SystemFailure>
         ensures told { 0 < self.now.faults.count → IsSome result }
     {

@@ -1,4 +1,4 @@
-//! A socket of which both ends are here.
+//! A socket with both ends in this program.
 ghost use Rattle.std.specs.Prelude.{◌≡◌, IfErr, IfOk};
 ghost use Rattle.uug_failure.specs.Faults.{IsSystemFault};
 ghost use Rattle.uug_transfer.specs.Turns.{HasRoom};
@@ -11,8 +11,8 @@ use std::{fs, io};
 use uug_failure::{Cause, Resource, RunFault, SystemFailure};
 use uug_transfer::Line;
 
-/// The line over a socket that is made at this path. When both ends have it the path is not needed any more, and is
-/// removed, as it is where they don't get it.
+/// Returns the line over a socket that is made at this path. Once both ends have it the path is not needed any more,
+/// and is removed. It is removed too if they don't get it.
 pub fn open_wire<R: Files + Net>(rt: &R, socket: &str) -> Result<WireLine<UnixStream>, RunFault>
     ensures room { IfOk result (λ line. HasRoom (⟦<WireLine<UnixStream> as Line>⟧.unread line)) }
     ensures calm { IfOk result (λ line. line.faults.count ≡ 0) }
@@ -27,7 +27,7 @@ pub fn open_wire<R: Files + Net>(rt: &R, socket: &str) -> Result<WireLine<UnixSt
     }
 }
 
-/// The same, or the system's error.
+/// Does the same, but returns the system's error.
 fn join<R: Files + Net>(rt: &R, socket: &str) -> io::Result<WireLine<UnixStream>>
     ensures room { IfOk result (λ line. HasRoom (⟦<WireLine<UnixStream> as Line>⟧.unread line)) }
     ensures calm { IfOk result (λ line. line.faults.count ≡ 0) }
@@ -38,7 +38,7 @@ fn join<R: Files + Net>(rt: &R, socket: &str) -> io::Result<WireLine<UnixStream>
     line
 }
 
-/// Both ends of a socket that listens at this path.
+/// Returns the line over both ends of a socket that listens at this path.
 fn meet<R: Net>(rt: &R, listener: &UnixListener, socket: &str) -> io::Result<WireLine<UnixStream>>
     ensures room { IfOk result (λ line. HasRoom (⟦<WireLine<UnixStream> as Line>⟧.unread line)) }
     ensures calm { IfOk result (λ line. line.faults.count ≡ 0) }

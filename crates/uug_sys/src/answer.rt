@@ -1,4 +1,4 @@
-//! An end that is called at a socket. It goes on listening until the last of its callers has been let in.
+//! An end that is called at a socket. It listens until its last caller has been let in.
 ghost use Rattle.std.specs.Prelude.{◌≡◌, ◌≢◌, ◌≤◌, Err, IfErr, IfNone, IfOk, IfSome, IsSome, Ok, OnOk, Some, max};
 ghost use Rattle.uug_stream.specs.Streams.{CountsFault};
 ghost use Rattle.uug_failure.specs.Faults.{IsCallFault};
@@ -20,22 +20,22 @@ use uug_stream::{Output, ToolFault, write_all};
 use uug_task::{CallTask, Station};
 use uug_transfer::SessionObserver;
 
-/// So many callers are heard at most.
+/// The maximum number of callers that are heard.
 const CALLERS_MAX: u32 = u32::MAX;
 
-/// What came of a caller who was let in, or why no more are heard.
+/// The result of a caller who was let in, or the reason why no more are heard.
 #[derive(Drop)]
 struct Served<A: Allocator> {
     answer: Result<u8, ToolFault>,
-    /// What is to be printed.
+    /// The report to print.
     report: HeldOutput<A>,
 }
 
-/// The end waits to be called at this socket, and talks with each caller whom it lets in, up to as many as its task says, one
-/// after the other. Of the others, whose greeting was refused or broke off, nothing is left but what the observer has said. Where
-/// nobody has called when the time to wait is over it has the session of an end that nobody has called, and waits for no other.
-/// Its status is the greatest of its sessions. A fault is the last of them, unless it is one of a spool's files: the next system has
-/// others, and what failed is said at once, and answered in the end.
+/// Waits to be called at this socket, and talks with each caller that is let in, one after the other, up to the number
+/// in its task. Of the other callers, whose greeting was refused or broke off, nothing is left but what the observer
+/// has said. If nobody has called in time, it runs the session of an end that nobody has called, and waits for no more.
+/// Returns the greatest status of its sessions. A fault ends the run, except one on a spool's files, as the next system
+/// has others: that failure is reported at once, and returned at the end.
 pub(crate) fn answer_at<A, R, T, W, O, B>(
     alloc: A,
     rt: &R,
@@ -72,7 +72,7 @@ where
     }
 }
 
-/// The same, at a socket that listens.
+/// Answers the calls at a socket that listens, as `answer_at` does.
 fn answer_calls<A, R, T, W, O, B>(
     alloc: A,
     rt: &R,
@@ -127,8 +127,8 @@ where
     ended(status, failed, why)
 }
 
-/// Returns whether a session ended so since a call of the system on the files of a spool has failed. The line is another's affair, and so is
-/// memory.
+/// Returns whether a session ended because a call of the system on a spool's files has failed. Faults of the line and
+/// of memory don't count.
 fn is_of_files(is_spool: bool, fault: ToolFault, why: &Option<SystemFailure>) -> bool
     ensures { result ≡ is_of_files is_spool fault why.now }
 {
@@ -138,7 +138,8 @@ fn is_of_files(is_spool: bool, fault: ToolFault, why: &Option<SystemFailure>) ->
     }
 }
 
-/// Returns whether a call of the system has failed that was made on a file of the spool: the folder of the end's locks has another number.
+/// Returns whether the failed call of the system was on a file of the spool. The folder of the end's locks has another
+/// number.
 fn is_of_spool(failure: &SystemFailure) -> bool
     ensures { result ≡ is_of_spool failure.now }
 {
@@ -148,7 +149,8 @@ fn is_of_spool(failure: &SystemFailure) -> bool
     }
 }
 
-/// Returns what an end answers whose sessions had this status at most, where the files of one have failed first so, or of none.
+/// Returns the result of an end whose sessions had at most this status. `failed` is the first failure on the files of a
+/// session, if there was one.
 fn ended(
     status: u8,
     failed: Option<SystemFailure>,
@@ -167,7 +169,7 @@ fn ended(
     }
 }
 
-/// Says at once why a session has ended of which the next ones know nothing, and keeps the first of these failures.
+/// Reports at once why a session has ended, which the next ones don't know, and keeps the first of these failures.
 fn note_failure<A: Allocator + Copy, R: Eprint>(
     alloc: A,
     rt: &R,
@@ -188,22 +190,22 @@ fn note_failure<A: Allocator + Copy, R: Eprint>(
     let _ = eprint!(rt; "{line}");
 }
 
-/// So many sessions the end has at most.
+/// Returns the maximum number of the end's sessions.
 fn sessions_of(station: &Station) -> u32
     ensures { result ≡ station.now.sessions }
 {
     station.sessions
 }
 
-/// The greater of two statuses.
+/// Returns the greater of two statuses.
 fn greater(first: u8, second: u8) -> u8
     ensures { result ≡ max first second }
 {
     first.max(second)
 }
 
-/// What came of the next caller who was let in, or of a session with nobody where none came in time: then the socket is closed.
-/// The doorkeeper is given back.
+/// Serves the next caller that is let in. If none is let in in time, closes the socket and runs a session with nobody.
+/// Returns the doorkeeper too.
 fn next_served<'a, 'p, A, R, T, W, B>(
     alloc: A,
     rt: &R,
@@ -252,7 +254,7 @@ where
     serve(alloc, rt, task, station, line, doorkeeper, remark, why)
 }
 
-/// The session at a line, whose report is held back. The doorkeeper is given back.
+/// Runs the session at a line, and holds its report back. Returns the doorkeeper too.
 fn serve<'a, 'p, A, R, L, T, W, B>(
     alloc: A,
     rt: &R,
@@ -292,7 +294,7 @@ where
     (Served { answer, report }, doorkeeper)
 }
 
-/// Says at once what is remarked of a caller who is gone.
+/// Prints the remark about a caller who is gone, and clears it.
 fn tell<R: Eprint, B: Allocator>(rt: &R, remark: &mut String<B>) {
     if remark.is_empty() {
         return;
@@ -302,7 +304,7 @@ fn tell<R: Eprint, B: Allocator>(rt: &R, remark: &mut String<B>) {
     remark.clear();
 }
 
-/// What is answered where the socket has failed.
+/// Returns the result after the socket has failed.
 fn broken<A: Allocator>(alloc: A, why: &mut Option<SystemFailure>, error: &io::Error) -> Served<A>
     ensures answer { result.answer ≡ Err ToolFault.Device }
     ensures why { IsSome why.new }
@@ -313,7 +315,7 @@ fn broken<A: Allocator>(alloc: A, why: &mut Option<SystemFailure>, error: &io::E
     }
 }
 
-/// Says that a call of the system on the line has failed.
+/// Records that a call of the system on the line has failed, and returns the fault.
 fn fails(why: &mut Option<SystemFailure>, error: &io::Error) -> ToolFault
     ensures fault { result ≡ ToolFault.Device }
     ensures why { IsSome why.new }
@@ -322,7 +324,7 @@ fn fails(why: &mut Option<SystemFailure>, error: &io::Error) -> ToolFault
     ToolFault::Device
 }
 
-/// Prints what is to be printed of a caller. What was answered first counts.
+/// Prints the report of a caller. A fault of the session precedes one of the printing.
 fn give<A: Allocator, O: Output>(served: Served<A>, output: &mut O) -> Result<u8, ToolFault>
     requires status { IfOk served.answer (λ status. status ≤ 1) }
     requires no_other { IfErr served.answer IsCallFault }

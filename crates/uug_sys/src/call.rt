@@ -32,12 +32,13 @@ use uug_stream::{Output, ToolFault};
 use uug_task::{CallTask, FinishedEnd, Station, Terms, read_terms};
 use uug_transfer::{EndLine, GreetedLine, LineMonitor, LineName, SessionObserver};
 
-/// Runs one end over its folder and its line, for one session. What stands in a folder is said in `docs/PROTOCOL.md`. The
-/// folder is locked before anything in it is read: `InUse` says that another run holds it. An end that is called lets it go
-/// while it waits, and locks it again when its line is up. The jobs, the number and the files are read then; whether the
-/// jobs and the number can be read is seen before the line opens. The answer is the program's status; `remark` says which
-/// numbers of their conversations the ends have where they differ, and why jobs have failed or were put off, and `why` which call of the
-/// system failed first, if one did.
+/// Runs one end over its folder and its line, for one session, or at a socket where it is called for several, one after
+/// the other. `docs/OPERATING.md` describes what is in a folder. The folder is locked before anything in it is read:
+/// `InUse` says that another run holds it. A called end releases the lock while it waits, and locks the folder again
+/// when its line is up. It reads the jobs, the number and the files then. Whether the jobs and the number can be read
+/// is checked before the line opens. Returns the program's status. `remark` says which conversation numbers the ends
+/// have if they differ, and why jobs have failed or were put off. `why` says which call of the system failed first, if
+/// one did.
 pub fn call_run<A, R, W, O, B>(
     alloc: A,
     rt: &R,
@@ -94,7 +95,7 @@ where
     )
 }
 
-/// The lock on the end's folder, where its number and its jobs can be read.
+/// Locks the end's folder, and checks that its number and its jobs can be read. Returns the lock.
 fn lock_and_look<A: Allocator + Copy, R: Files<File = File> + Alloc + Clone + Drop>(
     alloc: A,
     rt: &R,
@@ -112,7 +113,7 @@ fn lock_and_look<A: Allocator + Copy, R: Files<File = File> + Alloc + Clone + Dr
     }
 }
 
-/// Whether the number and the jobs can be read, and the folders are there that they need.
+/// Checks that the number and the jobs can be read, and that the folders exist that they need.
 fn look<A: Allocator + Copy, R: Files>(
     alloc: A,
     rt: &R,
@@ -128,7 +129,7 @@ fn look<A: Allocator + Copy, R: Files>(
     seen
 }
 
-/// The end opens its line, and talks over it.
+/// Opens the end's line, and talks over it.
 pub(crate) fn talk_at<A, R, W, O, B>(
     alloc: A,
     rt: &R,
@@ -207,7 +208,8 @@ where
     }
 }
 
-/// Why the standard streams are no line. Of a file, for which nobody can wait, the system says that it does not permit that.
+/// Returns why the standard streams are no line. A file can't be waited for, which the system reports as
+/// `PermissionDenied`; this becomes `Unsupported`.
 fn no_line(cause: Cause) -> Cause {
     match cause {
         Cause::Refused(ErrorKind::PermissionDenied, _) => {
@@ -217,7 +219,7 @@ fn no_line(cause: Cause) -> Cause {
     }
 }
 
-/// The line over a stream, or why there is none.
+/// Returns the line over a stream, or why there is none.
 pub(crate) fn stream_line<A, R, T>(
     alloc: A,
     rt: &R,
@@ -234,7 +236,7 @@ where
     }
 }
 
-/// The stream, if it is there, waited for before it is read.
+/// Returns the stream, polled before it is read, or its error.
 fn polled<A, R, T>(alloc: A, rt: &R, stream: io::Result<T>) -> io::Result<PolledStream<T, A>>
 where
     A: Allocator + Copy,
@@ -244,8 +246,8 @@ where
     PolledStream::new(alloc, rt, stream?)
 }
 
-/// The end locks its device, opens it, and talks over it. A device that another run holds is not opened. The lock is given
-/// back whatever comes of that.
+/// Locks the end's device, opens it, and talks over it. A device that another run holds is not opened. The lock is
+/// released whatever happens.
 fn talk_at_device<A, R, W, O, B>(
     alloc: A,
     rt: &R,
@@ -295,8 +297,9 @@ where
     result
 }
 
-/// An end that is told how long it waits to be called says nothing before the first byte has come over its device. Where none
-/// comes it has the session of an end that nobody has called. One that calls writes bytes that wake such an end.
+/// Talks over a device. An end that waits to be called says nothing before the first byte has come over the device. If
+/// none comes in time, it runs the session of an end that nobody has called. A calling end writes bytes that wake such
+/// an end.
 fn talk_when_called<A, R, W, O, B>(
     alloc: A,
     rt: &R,
@@ -364,7 +367,8 @@ where
     }
 }
 
-/// The line over a device, if the end has been called there where it waits for that, or why there is none.
+/// Returns the line over a device, or why there is none. Returns `None` if the end waits to be called there and no call
+/// came.
 fn called<A: Allocator + Copy>(
     line: Result<DeviceLine<A>, Cause>,
     wait: Option<u32>,
@@ -380,7 +384,7 @@ fn called<A: Allocator + Copy>(
     }
 }
 
-/// The end talks over its line, if it has one, with its folder locked. The observer is given back.
+/// Talks over the end's line, if it has one, with its folder locked. Returns the observer too.
 pub(crate) fn talk_over<A, R, L, W, O, B>(
     alloc: A,
     rt: &R,
@@ -433,7 +437,7 @@ where
     (result, line.into_line().into_observer())
 }
 
-/// The end talks over its line with its folder locked.
+/// Talks over the end's line with its folder locked.
 fn talk_in_folder<A, R, L, O, B>(
     alloc: A,
     rt: &R,
@@ -469,7 +473,7 @@ where
     }
 }
 
-/// The lock on the folder of an end, also of one that let it go while it waited.
+/// Returns the lock on an end's folder, and takes it again if the end released it while it waited.
 fn lock_again<A: Allocator + Copy, R: Files<File = File> + Alloc + Clone + Drop>(
     alloc: A,
     rt: &R,
@@ -484,7 +488,8 @@ fn lock_again<A: Allocator + Copy, R: Files<File = File> + Alloc + Clone + Drop>
     }
 }
 
-/// The end is made over its folder as it stands now, and talks over its line. Then the copies of its jobs go where these have gone.
+/// Makes the end over its folder as it is now, and talks over its line. After a session without a fault, the copies of
+/// its jobs go where these have gone.
 fn talk_locked<'a, A, R, L, O, B>(
     alloc: A,
     rt: &'a R,

@@ -1,4 +1,4 @@
-//! Who sees that a caller has been let in.
+//! The observer that notices that a caller has been let in.
 ghost use Rattle.std.specs.Prelude.{◌≡◌, true, false};
 ghost use Rattle.uug_sys.specs.Callers.{left_behind};
 
@@ -11,20 +11,20 @@ use uug_port::{Deadline, Listener, Listening, TimedStream};
 use uug_session::Phase;
 use uug_transfer::{ReadOutcome, SessionObserver, SessionStatus};
 
-/// Sees that a caller has been let in, once its session is past the greeting, and closes the socket at the last of them. It shows
-/// another observer all that it is shown.
+/// Notices that a caller has been let in, once its session is past the greeting, and closes the socket after the last
+/// of them. It passes all that it sees to another observer.
 #[derive(Drop)]
 pub(crate) struct Doorkeeper<'a, 'p, W, T, R, A: Allocator> {
     observer: W,
     listening: Listening<'a, 'p, T, R, A>,
-    /// So many callers may be let in still.
+    /// The number of callers that may still be let in.
     left: u32,
-    /// Whether the one at the door has been let in.
+    /// Set once the caller at the door has been let in.
     has_let_in: bool,
 }
 
 impl<'a, 'p, W, T: Drop, R: Files, A: Allocator> Doorkeeper<'a, 'p, W, T, R, A> {
-    /// Who stands at this socket, and lets in so many callers.
+    /// Creates the doorkeeper of this socket, who lets in this many callers.
     pub(crate) fn new(observer: W, listening: Listening<'a, 'p, T, R, A>, callers: u32) -> Self
         ensures left { result.left ≡ callers }
         ensures has_let_in { result.has_let_in ≡ false }
@@ -37,26 +37,26 @@ impl<'a, 'p, W, T: Drop, R: Files, A: Allocator> Doorkeeper<'a, 'p, W, T, R, A> 
         }
     }
 
-    /// The next caller is at the door.
+    /// Starts over for the next caller.
     pub(crate) fn wait_for_next(&mut self)
         ensures { self.new ≡ record self.old { has_let_in = false } }
     {
         self.has_let_in = false;
     }
 
-    /// Whether the caller at the door has been let in.
+    /// Returns whether the caller at the door has been let in.
     pub(crate) fn has_let_in(&self) -> bool
         ensures { result ≡ self.now.has_let_in }
     {
         self.has_let_in
     }
 
-    /// Whether the socket listens still.
+    /// Returns whether the socket is still listening.
     pub(crate) fn is_open(&self) -> bool {
         self.listening.is_open()
     }
 
-    /// The socket is closed.
+    /// Closes the socket.
     pub(crate) fn close(&mut self)
         ensures left { self.new.left ≡ self.old.left }
         ensures has_let_in { self.new.has_let_in ≡ self.old.has_let_in }
@@ -64,7 +64,7 @@ impl<'a, 'p, W, T: Drop, R: Files, A: Allocator> Doorkeeper<'a, 'p, W, T, R, A> 
         self.listening.close();
     }
 
-    /// The caller at the door is let in, which is counted once. Behind the last one the socket is closed.
+    /// Lets in the caller at the door, counted once. Closes the socket after the last one.
     fn let_in(&mut self)
         ensures left { self.new.left ≡ left_behind self.old.left self.old.has_let_in }
         ensures has_let_in { self.new.has_let_in ≡ true }
@@ -88,7 +88,7 @@ impl<W, T: Listener + Drop, R: Files + Net + Clock, A: Allocator + Copy> Doorkee
     R,
     A,
 > {
-    /// The next caller, if one comes in time. The calls of its stream wait for so long.
+    /// Returns the next caller, if one comes in time. The calls of its stream wait as long as `time`.
     pub(crate) fn next_caller(
         &mut self,
         deadline: &Deadline,

@@ -1,4 +1,4 @@
-//! A line that is at its end where it fails.
+//! A line that ends if it fails.
 ghost use Rattle.std.specs.Prelude.{◌≡◌, ◌≤◌, ◌++◌, None, IfOk, OnErr, OnOk, length, string_bytes};
 ghost use Rattle.uug_sys.specs.LineEnds.{failure_remark, outcome_then, taken_then};
 ghost use Rattle.uug_transfer.specs.ReadOutcomes.{IsWithin};
@@ -9,17 +9,18 @@ use uug_port::SystemLine;
 use uug_reason::reason_line;
 use uug_transfer::{EndLine, LineFailed, ReadOutcome, SessionStatus};
 
-/// A line of which a failure is the end, whichever call meets it. What has come by then is read still, and what is written then is
-/// lost, as on any line; so a session is over in the same way whether a read or a write has found that the other end is gone.
+/// A line that is at its end after a failure of any call. Bytes that have come by then are still read, and bytes
+/// written then are lost, as on any line. A session thus ends in the same way whether a read or a write has found that
+/// the other end is gone.
 #[derive(Drop)]
 pub(crate) struct FailingLine<L> {
     line: L,
-    /// Whether a write has failed.
+    /// Set once a write has failed.
     is_cut: bool,
 }
 
 impl<L: SystemLine> FailingLine<L> {
-    /// This line.
+    /// Wraps this line.
     pub(crate) fn new(line: L) -> Self {
         FailingLine {
             line,
@@ -27,7 +28,7 @@ impl<L: SystemLine> FailingLine<L> {
         }
     }
 
-    /// Why the line has failed, if it has.
+    /// Returns why the line has failed, if it has.
     pub(crate) fn failure(&self) -> Option<SystemFailure> {
         self.line.failure()
     }
@@ -69,7 +70,7 @@ impl<L: SystemLine> EndLine for FailingLine<L> {
     }
 }
 
-/// How many bytes of this piece are gone behind a write of it.
+/// Returns how many bytes of this piece are gone after a write of it: all of them if the write failed.
 fn taken_then(written: Result<usize, LineFailed>, piece: &[u8]) -> usize
     requires { IfOk written (λ n. n ≤ length piece.now) }
     ensures taken { result ≡ taken_then (length piece.now) written }
@@ -81,7 +82,8 @@ fn taken_then(written: Result<usize, LineFailed>, piece: &[u8]) -> usize
     }
 }
 
-/// What a read into this buffer comes to. Behind a write that has failed nothing is waited for any more.
+/// Returns the outcome of a read into this buffer. After a failed write nothing is waited for: a timeout is the line's
+/// end.
 fn outcome_then(read: Result<ReadOutcome, LineFailed>, is_cut: bool, _buffer: &[u8]) -> ReadOutcome
     requires { IfOk read (λ outcome. IsWithin (length _buffer.now) outcome) }
     ensures outcome { result ≡ outcome_then is_cut read }
@@ -93,7 +95,7 @@ fn outcome_then(read: Result<ReadOutcome, LineFailed>, is_cut: bool, _buffer: &[
     }
 }
 
-/// Appends to the remark why the line of this name has failed, if it has. Out of memory leaves the remark as it was.
+/// Appends to the remark why the line of this name has failed, if it has. Out of memory leaves the remark unchanged.
 pub(crate) fn remark_failure<A: Allocator, B: Allocator>(
     alloc: A,
     remark: &mut String<B>,

@@ -1,4 +1,4 @@
-//! A line of which it is known who calls.
+//! A line that keeps who calls.
 ghost use Rattle.std.specs.Prelude.{◌≡◌, ◌≤◌, length};
 ghost use Rattle.std.specs.List.{position_or_len};
 ghost use Rattle.uug_session.specs.Greeting.{name_in_caller_text};
@@ -10,8 +10,8 @@ ghost use Rattle.uug_transfer.specs.ReadOutcomes.{IsWithin, outcome_bytes};
 use uug_talk::{Hail, Name};
 use uug_transfer::{EndLine, LineFailed, ReadOutcome, SessionStatus};
 
-/// A line that keeps the first text that comes, in which a caller says its name. It gives what the line gives, and keeps nothing
-/// back.
+/// A line that keeps the first text that comes, in which a caller gives its name. It passes on all that the line
+/// brings.
 #[derive(Drop)]
 pub(crate) struct HailedLine<L> {
     line: L,
@@ -19,7 +19,7 @@ pub(crate) struct HailedLine<L> {
 }
 
 impl<L> HailedLine<L> {
-    /// This line, at which nothing has come yet.
+    /// Wraps this line, which has brought nothing yet.
     pub(crate) fn new(line: L) -> Self
         ensures line { result.line ≡ line }
         ensures heard { result.hail ≡ Passing }
@@ -30,14 +30,14 @@ impl<L> HailedLine<L> {
         }
     }
 
-    /// The line of which this is kept.
+    /// Returns the line.
     pub(crate) fn line(&self) -> &L
         ensures { result.now ≡ self.now.line }
     {
         &self.line
     }
 
-    /// The name of the caller, once its text has come.
+    /// Returns the name of the caller, once its text has come.
     pub(crate) fn caller(&self) -> Option<Name>
         ensures { result ≡ caller_heard self.now.hail }
     {
@@ -48,7 +48,7 @@ impl<L> HailedLine<L> {
         }
     }
 
-    /// These bytes have come. Once a text is whole nothing more is heard, and one that is too long is none.
+    /// Takes bytes that came. After a complete text nothing more is heard. A text that is too long counts as none.
     fn hear(&mut self, piece: &[u8])
         ensures heard { self.new.hail ≡ heard_then self.old.hail piece.now }
         ensures line { self.new.line ≡ self.old.line }
@@ -57,7 +57,7 @@ impl<L> HailedLine<L> {
     }
 }
 
-/// The name that a caller says in this text.
+/// Returns the name that a caller gives in this text.
 fn caller_in(text: &[u8]) -> Option<Name>
     ensures { result ≡ caller_in text.now }
 {
@@ -67,7 +67,7 @@ fn caller_in(text: &[u8]) -> Option<Name>
     Name::new(name_in(text)).ok()
 }
 
-/// What stands behind the first byte, up to a space.
+/// Returns the bytes after the first one, up to a space.
 fn name_in(text: &[u8]) -> &[u8]
     requires { 1 ≤ length text.now }
     ensures { result.now ≡ name_in_caller_text text.now }
@@ -84,7 +84,7 @@ fn word_len(text: &[u8]) -> usize
     text.iter().take_while(|b| **b != b' ').count()
 }
 
-/// The bytes that a read brought.
+/// Returns the bytes of a read.
 fn piece_of(outcome: ReadOutcome, buffer: &[u8]) -> &[u8]
     requires { IsWithin (length buffer.now) outcome }
     ensures { result.now ≡ outcome_bytes outcome buffer.now }

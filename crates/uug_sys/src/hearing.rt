@@ -1,30 +1,30 @@
-//! What an end hears of the other one, as far as a person is told of it.
+//! The bytes heard from the other end, as far as they are reported to a person.
 
 use uug_reason::Heard;
 
-/// So many bytes of a text are kept.
+/// The maximum number of bytes that are kept of a text.
 const KEPT_MAX: usize = 60;
 
-/// In front of each text.
+/// The byte before each text.
 const TEXT_START: u8 = 0x10;
 
-/// The last text that came, or the first bytes where none did.
+/// The last text that came, or the first bytes if no text came.
 #[derive(Clone, Copy)]
 pub(crate) struct Hearing {
     bytes: [u8; KEPT_MAX],
     len: usize,
-    /// How many bytes came, up to the greatest number.
+    /// The number of bytes that came. It saturates.
     count: u64,
-    /// Whether a text came.
+    /// Set once a text came.
     has_text: bool,
-    /// Whether more of it may come.
+    /// Set while more of it may come.
     is_open: bool,
-    /// Whether a text may begin with the next byte.
+    /// Set if a text may begin with the next byte.
     may_begin: bool,
 }
 
 impl Hearing {
-    /// Nothing came so far.
+    /// Creates a hearing that has heard nothing.
     pub(crate) fn nothing() -> Self {
         Hearing {
             bytes: [0; KEPT_MAX],
@@ -36,14 +36,14 @@ impl Hearing {
         }
     }
 
-    /// These bytes came.
+    /// Takes bytes that came.
     pub(crate) fn hear(&mut self, piece: &[u8]) {
         for byte in piece {
             self.hear_byte(*byte);
         }
     }
 
-    /// A byte came. A packet begins as a text does, and with another byte behind that.
+    /// Takes a byte. A packet begins as a text does, but its next byte differs.
     fn hear_byte(&mut self, byte: u8) {
         self.count = self.count.saturating_add(1);
         if self.may_begin && byte >= b' ' {
@@ -61,7 +61,7 @@ impl Hearing {
         }
     }
 
-    /// What was heard.
+    /// Returns what was heard.
     pub(crate) fn heard(&self) -> Heard<'_> {
         let bytes = &self.bytes[..self.len.min(KEPT_MAX)];
         if self.has_text {

@@ -1,24 +1,24 @@
-//! An output that is kept until it is known whether it is wanted.
+//! An output that is held back until it is known whether it is wanted.
 ghost use Rattle.std.specs.Prelude.{◌≡◌, Some};
 
 use std::alloc::Allocator;
 use uug_stream::{Output, WriteFailed};
 
-/// What was written, in memory.
+/// The bytes that were written, in memory.
 #[derive(Drop)]
 pub(crate) struct HeldOutput<A: Allocator> {
     bytes: Vec<u8, A>,
 }
 
 impl<A: Allocator> HeldOutput<A> {
-    /// Nothing yet. It takes no memory.
+    /// Creates an empty output. Allocates nothing.
     pub(crate) fn new(alloc: A) -> Self {
         HeldOutput {
             bytes: Vec::new(alloc),
         }
     }
 
-    /// What was written so far.
+    /// Returns the bytes written so far.
     pub(crate) fn bytes(&self) -> &[u8]
         ensures { result.now ≡ self.now.bytes.items }
     {

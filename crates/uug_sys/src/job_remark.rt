@@ -1,4 +1,4 @@
-//! What is said of the jobs that an end has given up, and of those that its session put off.
+//! Remarks about the jobs that an end has given up, and those that its session put off.
 ghost use Rattle.std.specs.Prelude.{◌≡◌, ◌∷◌, [], ◌++◌, IfOk, OnErr, OnOk, codes, string_bytes};
 ghost use Rattle.uug_sys.specs.JobRemarks.{failed_remark, failed_words, job_line, put_off_lines, put_off_remark, put_off_words};
 ghost use Rattle.uug_talk.specs.Lines.{ended};
@@ -9,7 +9,7 @@ use uug_folder::{WhyFailed, why_failed};
 use uug_session::{End, Job, Phase, Spool};
 use uug_talk::Name;
 
-/// Appends to the remark why each of these jobs was given up. Out of memory leaves the remark as it was.
+/// Appends to the remark why each of these jobs was given up. Out of memory leaves the remark unchanged.
 pub(crate) fn remark_failed<A: Allocator, S: Spool, B: Allocator>(
     alloc: A,
     remark: &mut String<B>,
@@ -25,8 +25,8 @@ pub(crate) fn remark_failed<A: Allocator, S: Spool, B: Allocator>(
     remark.push_str(lines.as_str())
 }
 
-/// Appends to the remark that each of these pending jobs was put off, where the session of their end ended as done. Out of
-/// memory leaves the remark as it was.
+/// Appends to the remark that each of these pending jobs was put off, if the session of their end ended as done. Out of
+/// memory leaves the remark unchanged.
 pub(crate) fn remark_put_off<A: Allocator, B: Allocator>(
     alloc: A,
     remark: &mut String<B>,
@@ -78,7 +78,7 @@ fn add_put_off<A: Allocator>(
     Ok(())
 }
 
-/// Appends the line of a job that is not done for this.
+/// Appends the line of a job that is not done, with the reason.
 fn add_line<A: Allocator>(text: &mut String<A>, job: &Job, why: &str) -> Result<(), AllocError>
     ensures { OnOk result
         (string_bytes text.new ≡ string_bytes text.old ++ job_line job.now why.now) }
@@ -98,7 +98,7 @@ fn add_line<A: Allocator>(text: &mut String<A>, job: &Job, why: &str) -> Result<
     }
 }
 
-/// Appends the line of a job of these words.
+/// Appends the line of a job, made of these words.
 fn add_words<A: Allocator>(
     text: &mut String<A>,
     first: &str,
@@ -117,7 +117,7 @@ fn add_words<A: Allocator>(
     write!(text, "uucpair: {first} {source} {target} {user}: {why}\n")
 }
 
-/// Why a job was given up.
+/// Returns the words for why a job was given up.
 fn failed_words(why: WhyFailed) -> &'static str
     ensures { result.now ≡ failed_words why }
 {
@@ -129,7 +129,8 @@ fn failed_words(why: WhyFailed) -> &'static str
     }
 }
 
-/// Why a job was put off by an end that tells digests, or none. Where it tells none, nobody has compared them.
+/// Returns the words for why a job was put off, by an end that announces digests or one that does not. Without digests
+/// nobody has compared them.
 fn put_off_words(tells_digests: bool, job: &Job) -> &'static str
     ensures { result.now ≡ put_off_words tells_digests job.now }
 {

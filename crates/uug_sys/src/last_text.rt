@@ -5,7 +5,7 @@ use uug_packet::Packet;
 use uug_reader::{Found, READER_SIZE, Reader};
 use uug_talk::Gather;
 
-/// So many of the bytes that came last are kept where there are twice as many.
+/// The number of latest bytes that are kept once there are twice as many.
 const KEPT: usize = READER_SIZE;
 
 /// The bytes that came last.
@@ -16,7 +16,7 @@ pub(crate) struct Tail<A: Allocator> {
 }
 
 impl<A: Allocator + Copy> Tail<A> {
-    /// Nothing came so far. It takes no memory.
+    /// Creates an empty tail. Allocates nothing.
     pub(crate) fn new(alloc: A) -> Self {
         Tail {
             alloc,
@@ -24,7 +24,7 @@ impl<A: Allocator + Copy> Tail<A> {
         }
     }
 
-    /// These bytes came. Those for which there is no memory are left out.
+    /// Takes bytes that came. They are left out if there is no memory for them.
     pub(crate) fn hear(&mut self, piece: &[u8]) {
         if self.bytes.len() >= 2 * KEPT {
             let old = self.bytes.len() - KEPT;
@@ -33,13 +33,13 @@ impl<A: Allocator + Copy> Tail<A> {
         let _ = self.bytes.extend_from_slice(piece);
     }
 
-    /// Nothing came so far.
+    /// Forgets all bytes.
     pub(crate) fn clear(&mut self) {
         self.bytes.clear();
     }
 
-    /// The text that is heard last in these bytes, as far as it has come: what stands in the packets behind the text or the file
-    /// before, up to a zero byte.
+    /// Returns the last text in these bytes, as far as it has come. It is what the packets after the text or the file
+    /// before it contain, up to a zero byte.
     pub(crate) fn last_text(&self) -> Result<Gather<A>, AllocError> {
         let mut reader = Reader::new(self.alloc)?;
         let mut talk = Talk {
@@ -55,7 +55,7 @@ impl<A: Allocator + Copy> Tail<A> {
     }
 }
 
-/// Hears all packets that are found in what is held.
+/// Hears all packets that the reader finds in what it holds.
 fn hear_found<A: Allocator>(reader: &mut Reader<A>, talk: &mut Talk<A>) {
     for _ in 0..READER_SIZE {
         if !reader.search() {
@@ -68,18 +68,18 @@ fn hear_found<A: Allocator>(reader: &mut Reader<A>, talk: &mut Talk<A>) {
     }
 }
 
-/// The texts of the messages that go one way.
+/// The texts of the messages in one direction.
 #[derive(Drop)]
 struct Talk<A: Allocator> {
     /// The number of the packet before.
     before: Option<u8>,
-    /// The text that has begun, or is whole.
+    /// The text that has begun, or is complete.
     text: Gather<A>,
 }
 
 impl<A: Allocator> Talk<A> {
-    /// This message came in the packet of this number. One that comes twice in a row is heard once; an empty one ends a file, and
-    /// one with which a text would be too long begins another.
+    /// Takes the message in the packet of this number. A message that comes twice in a row is heard once. An empty one
+    /// ends a file. If one would make a text too long, another text begins.
     fn hear(&mut self, number: u8, message: &[u8]) {
         if self.before == Some(number) {
             return;

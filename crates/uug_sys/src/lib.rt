@@ -1,4 +1,4 @@
-//! One end over the system: over its folder, at its line.
+//! An end over the system: its folder and its line.
 #![tactic(auto)]
 
 mod answer;

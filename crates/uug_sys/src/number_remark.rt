@@ -1,12 +1,12 @@
-//! What is said where two ends keep other numbers of their conversations, so that a person can mend it.
+//! The remark about two ends with different numbers of their conversations, for a person who can fix that.
 ghost use Rattle.std.specs.Prelude.{◌≡◌, ◌++◌, IfOk, OnErr, OnOk, string_bytes};
 ghost use Rattle.uug_sys.specs.NumberRemarks.{heard_words, numbers_line, numbers_remark, own_words};
 
 use std::alloc::{AllocError, Allocator};
 use uug_session::{End, Phase};
 
-/// Appends to the remark which number this end has, and which it has heard of the other one, where its session ended since
-/// they differ. Out of memory leaves the remark as it was.
+/// Appends to the remark the number of this end, and the one heard from the other end, if the session ended because
+/// they differ. Out of memory leaves the remark unchanged.
 pub(crate) fn remark_numbers<A: Allocator + Copy, B: Allocator>(
     alloc: A,
     remark: &mut String<B>,
@@ -27,7 +27,7 @@ pub(crate) fn remark_numbers<A: Allocator + Copy, B: Allocator>(
     }
 }
 
-/// The line that says both numbers.
+/// Returns the line with both numbers.
 fn numbers_line<A: Allocator + Copy>(
     alloc: A,
     own: Option<u32>,
@@ -40,7 +40,7 @@ fn numbers_line<A: Allocator + Copy>(
     format!(in alloc; "uucpair: {own}{heard}\n")
 }
 
-/// What is said of the number of this end.
+/// Returns the words for the number of this end.
 fn own_words<A: Allocator>(alloc: A, own: Option<u32>) -> Result<String<A>, AllocError>
     ensures { IfOk result (λ words. string_bytes words ≡ own_words own) }
 {
@@ -50,7 +50,7 @@ fn own_words<A: Allocator>(alloc: A, own: Option<u32>) -> Result<String<A>, Allo
     }
 }
 
-/// What is said of the number that the other end has told: nothing where it has told none.
+/// Returns the words for the number that the other end has reported, or nothing if it has reported none.
 fn heard_words<A: Allocator>(alloc: A, heard: Option<u32>) -> Result<String<A>, AllocError>
     ensures { IfOk result (λ words. string_bytes words ≡ heard_words heard) }
 {

@@ -16,15 +16,15 @@ use uug_transfer::{BufferedNode, EndLine, FaultInjector, GreetedLine};
 /// The numbers of an end's conversations as its session begins.
 #[derive(Clone, Copy)]
 pub(crate) struct Numbers {
-    /// The one with which it begins, if it keeps one.
+    /// The number with which it begins, if it keeps one.
     pub(crate) begins: Option<u32>,
-    /// The one that its file has, if there is a file.
+    /// The number in its file, if there is a file.
     pub(crate) held: Option<u32>,
-    /// The one that the other end has told already, if it has told one.
+    /// The number that the other end has reported already, if it has reported one.
     pub(crate) heard: Option<u32>,
 }
 
-/// The number that the end keeps, and that its file has.
+/// Reads the number that the end keeps, and the one in its file.
 pub(crate) fn read_numbers<A: Allocator + Copy, R: Files>(
     alloc: A,
     rt: &R,
@@ -39,7 +39,7 @@ pub(crate) fn read_numbers<A: Allocator + Copy, R: Files>(
     numbers_of(Some(text.as_slice()), task.is_numbered)
 }
 
-/// The number that an end keeps whose file has this text, if there is a file, and the one that the file has.
+/// Returns the number that an end keeps whose file has this text, if there is a file, and the number in the file.
 fn numbers_of(text: Option<&[u8]>, is_told: bool) -> Result<Numbers, RunFault>
     ensures numbers { MatchResult result
         (λ numbers. MatchOption text.entry
@@ -61,8 +61,8 @@ fn numbers_of(text: Option<&[u8]>, is_told: bool) -> Result<Numbers, RunFault>
     }
 }
 
-/// The numbers with which the end begins. A called end that keeps one says its first words before, and hears its caller: where
-/// that is one behind, it begins with the caller's.
+/// Returns the numbers with which the end begins. A called end that keeps one says its first words before that, and
+/// hears its caller. If the caller's number is one behind, it begins with the caller's.
 pub(crate) fn meet<A: Allocator + Copy, R: Files, L: EndLine>(
     alloc: A,
     rt: &R,
@@ -85,7 +85,7 @@ pub(crate) fn meet<A: Allocator + Copy, R: Files, L: EndLine>(
     })
 }
 
-/// Lets a called end say its first words, and hear its caller's number, for so many seconds.
+/// Lets a called end say its first words, and hear its caller's number, for `seconds`.
 pub(crate) fn meet_caller<A: Allocator + Copy, L: EndLine>(
     alloc: A,
     place: &Place,

@@ -1,4 +1,4 @@
-//! What an end over a folder of the system is made of.
+//! The parts of an end over a folder of the system.
 ghost use Rattle.std.specs.Prelude.{◌≡◌, ◌<◌, IfErr, IfOk, IsSome, length};
 ghost use Rattle.uug_conversation.specs.Jobs.{pending};
 ghost use Rattle.uug_failure.specs.Faults.{IsStartFault};
@@ -29,7 +29,7 @@ pub(crate) type SystemEnd<'a, R, A> = TransferEnd<
     A,
 >;
 
-/// What such an end is made of.
+/// The parts of such an end.
 pub(crate) type SystemParts<'a, R, A> = EndParts<
     SystemSpool<'a, R, A>,
     SystemJobs<'a, R, A>,
@@ -37,7 +37,7 @@ pub(crate) type SystemParts<'a, R, A> = EndParts<
     A,
 >;
 
-/// Which call of the system on the folder of an end failed first: in `got`, else on its jobs or its number.
+/// Returns the first failed call of the system on the folder of an end: in `got`, else on its jobs or its number.
 pub(crate) fn failure_of<R: Files, A: Allocator + Copy>(
     end: &SystemEnd<'_, R, A>,
 ) -> Option<SystemFailure>
@@ -50,7 +50,7 @@ pub(crate) fn failure_of<R: Files, A: Allocator + Copy>(
         .or(end.number.failure())
 }
 
-/// What an end over the folder of the task is made of, as that stands.
+/// Reads the parts of an end over the folder of the task, as it is now.
 pub(crate) fn read_parts<'a, A: Allocator + Copy, R: Files + Eprint + Alloc + Clone + Drop>(
     alloc: A,
     rt: &'a R,
@@ -79,7 +79,8 @@ pub(crate) fn read_parts<'a, A: Allocator + Copy, R: Files + Eprint + Alloc + Cl
     Ok(make_parts(alloc, rt, task, place, numbers.held, jobs, given)?)
 }
 
-/// What an end over the folder of the task is made of, with these files to give, and the first of these jobs to offer.
+/// Makes the parts of an end over the folder of the task, with these files to give, and the first of these jobs to
+/// offer.
 #[tactic(auto, using(crate::proofs::FrontLemmas::first_are_front))]
 fn make_parts<'a, A: Allocator + Copy, R: Files + Alloc + Clone + Drop>(
     alloc: A,

@@ -1,4 +1,4 @@
-//! One end over a spool of Taylor UUCP: who holds the lock of the other system.
+//! An end over a spool of Taylor UUCP, and the lock of the other system.
 ghost use Rattle.std.specs.Prelude.{◌≡◌, ◌≢◌, ◌<◌, ◌≤◌, ◌⊎◌, IfErr, IfOk, IsSome, OnErr, codes, false, string_bytes, true};
 ghost use Rattle.uug_failure.specs.Faults.{IsCallFault, IsFolderFault};
 ghost use Rattle.uug_spool.specs.SpoolNames.{is_system_name};
@@ -32,10 +32,10 @@ use uug_talk::Name;
 use uug_task::{CallTask, Station, Terms};
 use uug_transfer::{EndLine, GreetedLine, LineMonitor, SessionObserver};
 
-/// What stands in a system's place where any may call that the spool knows.
+/// The word in place of a system's name that lets any system of the spool call.
 const ANY: &str = "*";
 
-/// Runs an end over a spool. One that calls locks the other system before it does.
+/// Runs an end over a spool. A calling end locks the other system first.
 pub(crate) fn call_over_spool<A, R, W, O, B>(
     alloc: A,
     rt: &R,
@@ -84,7 +84,7 @@ where
     )
 }
 
-/// An end calls that has the lock of the other system.
+/// Calls with the lock of the other system, if the end has got it.
 fn call_locked<A, R, W, O, B>(
     alloc: A,
     rt: &R,
@@ -143,7 +143,8 @@ where
     result
 }
 
-/// What comes of a call of a system whose lock the end has not got. Where another run has it the system is to be called later.
+/// Handles a call of a system whose lock the end has not got. If another run has the lock, the system is to be called
+/// later.
 fn call_later<A, R, B>(
     alloc: A,
     rt: &R,
@@ -175,7 +176,7 @@ where
     Ok(1)
 }
 
-/// Whether a call that ended so came to no line, and then whether another run has that.
+/// Returns `None` unless a call with this result got no line. Else returns whether another run has the line.
 fn line_fault(answer: Result<u8, ToolFault>, why: Option<SystemFailure>) -> Option<bool>
     ensures { result ≡ line_fault answer why }
 {
@@ -188,7 +189,7 @@ fn line_fault(answer: Result<u8, ToolFault>, why: Option<SystemFailure>) -> Opti
     }
 }
 
-/// Whether the spool is there: the folders in one that lacks would be made.
+/// Checks that the spool exists: the folders in a missing one would be created.
 fn see_spool<R: Files>(rt: &R, task: &CallTask<'_>) -> Result<(), RunFault>
     ensures { IfErr result IsFolderFault }
 {
@@ -198,7 +199,7 @@ fn see_spool<R: Files>(rt: &R, task: &CallTask<'_>) -> Result<(), RunFault>
     }
 }
 
-/// The end over a spool talks over its line. One that was called locks the other system meanwhile.
+/// Talks over the line of an end over a spool. A called end locks the other system during that.
 pub(crate) fn talk_in_spool<A, R, L, W, O>(
     alloc: A,
     rt: &R,
@@ -239,8 +240,8 @@ where
     }
 }
 
-/// The lock of the system that has called. Where another run has it the caller is heard before it is told so: one whose words are
-/// not read may not read ours.
+/// Locks the system that has called. If another run has the lock, the caller is heard before it hears that: one whose
+/// words are not read may not read ours.
 fn lock_caller<A, R, L, W>(
     alloc: A,
     rt: &R,
@@ -264,8 +265,9 @@ where
     lock
 }
 
-/// The end talks with a system that has called and whose lock it has. Where another run has that the caller hears `RLCK` and is
-/// hung up, and the next one may be let in; where there is none nothing is written at the line. Nothing is read there.
+/// Talks with a system that has called, if the end has its lock. If another run has the lock the caller hears `RLCK`
+/// and is hung up, and the next one may be let in. If there is no lock nothing is written to the line. Nothing is read
+/// there in either case.
 fn talk_locked<A, R, L, O>(
     alloc: A,
     rt: &R,
@@ -315,8 +317,8 @@ where
     }
 }
 
-/// What comes of a system that has called and whose lock the end has not got. Where another run has it that is said: behind the
-/// words with which each session begins, which a greeted line takes as said already.
+/// Handles a system that has called and whose lock the end has not got. If another run has the lock, the caller is told
+/// that, after the words with which each session begins. A greeted line takes those as said already.
 fn talk_unlocked<A, R, L, O>(
     alloc: A,
     rt: &R,
@@ -361,8 +363,8 @@ where
     talk_to_nobody(alloc, rt, task, station, output, why)
 }
 
-/// The session of an end that has heard no caller's name, or only that of one with which another run talks, whose folders are not
-/// looked at.
+/// Runs the session of an end that has heard no caller's name, or only the name of one with which another run talks.
+/// That one's folders are not looked at.
 fn talk_to_nobody<A, R, O>(
     alloc: A,
     rt: &R,
@@ -389,7 +391,7 @@ where
     talk_with(alloc, rt, task, &station, &mut SilentLine, output, why)
 }
 
-/// The end has its session at its line.
+/// Runs the session of the end at its line.
 fn talk_with<A, R, L, O>(
     alloc: A,
     rt: &R,
@@ -427,7 +429,8 @@ where
     )
 }
 
-/// The system that has called, if it has said a name. Where any may call that the spool knows that is known once it was heard.
+/// Returns the system that has called, if it has given a name. If any system of the spool may call, the end hears the
+/// caller first.
 fn system_at<A, R, L, W>(
     alloc: A,
     rt: &R,
@@ -447,8 +450,8 @@ where
     name_of_caller(alloc, rt, task, station, line)
 }
 
-/// Says the first words of a called end, and hears who calls. Where that is no system of the spool the name is one that the caller
-/// has not said, so it is refused.
+/// Says the first words of a called end, and hears who calls. If that is no system of the spool, returns a name that
+/// the caller has not given, and the caller is refused.
 fn name_of_caller<A, R, L, W>(
     alloc: A,
     rt: &R,
@@ -470,7 +473,7 @@ where
     Ok(Some(name_at(&name, is_known)))
 }
 
-/// The name for which the end waits of a caller that has said this one: its own where it is known.
+/// Returns the name that the end expects of a caller that has given this one: the same if it is known, else another.
 fn name_at(name: &Name, is_known: bool) -> Name
     ensures known { is_known ≡ true → result ≡ name.now }
     ensures other { is_known ≡ false → result ≢ name.now }
@@ -478,7 +481,7 @@ fn name_at(name: &Name, is_known: bool) -> Name
     if is_known { *name } else { other_than(name) }
 }
 
-/// A name of no system, other than this one.
+/// Returns a name of no system, other than this one.
 fn other_than(name: &Name) -> Name
     ensures nobody { result ≡ other_than name.now }
     ensures other { result ≢ name.now }
@@ -491,7 +494,7 @@ fn other_than(name: &Name) -> Name
     }
 }
 
-/// What stands in the place of a name where any may call, as a name.
+/// Returns `ANY` as a name.
 fn any() -> Name
     ensures { result ≡ codes "*" }
 {
@@ -501,7 +504,7 @@ fn any() -> Name
     any
 }
 
-/// A name of no system.
+/// Returns a name of no system.
 fn nobody() -> Name
     ensures { result ≡ codes "?" }
 {
@@ -511,7 +514,7 @@ fn nobody() -> Name
     nobody
 }
 
-/// Whether the spool has a folder of this system.
+/// Returns whether the spool has a folder of this system.
 fn has_folder<A: Allocator, R: Files>(
     alloc: A,
     rt: &R,
@@ -532,7 +535,7 @@ fn has_folder<A: Allocator, R: Files>(
     }
 }
 
-/// What a task says of a call over a spool.
+/// Returns what a task says of a call over a spool.
 fn said_of<'a>(task: &CallTask<'a>) -> SpoolCall<'a>
     ensures { IsCallOf task.now result }
 {

@@ -1,4 +1,5 @@
-//! The lock of the other system of an end over a spool, which uucico heeds too: who has it, and what is said where another run has.
+//! The lock of the other system of an end over a spool, which uucico heeds too, and the reports if another run holds
+//! it.
 ghost use Rattle.std.specs.Prelude.{◌≡◌, ◌++◌, IfErr, IfOk, None, Ok, OnOk, Some, false, string_bytes};
 ghost use Rattle.uug_failure.specs.Faults.{IsFolderFault};
 ghost use Rattle.uug_sys.specs.SpoolLocks.{IsRefusedLock, Says, file_words, is_held, is_in_use, is_locked, lock_words, locked_by, locked_remark};
@@ -17,10 +18,11 @@ use uug_stream::ToolFault;
 use uug_talk::{Name, TEXT_START};
 use uug_transfer::{EndLine, LineFailed};
 
-/// The number of the folder of the locks among the folders of one end, of which its own is the first.
+/// The number of the folder of the locks among the folders of one end, the first of which is its own.
 const LOCKS: usize = 1;
 
-/// The lock of the other system. One that can't even be looked at, as in a folder that is none, is refused, and not another run's.
+/// Locks the other system. A lock that can't even be looked at, for example because its folder is no folder, is
+/// refused, and is not another run's.
 pub(crate) fn lock_system<A: Allocator + Copy, R: Files<File = File>>(
     alloc: A,
     rt: &R,
@@ -38,7 +40,7 @@ pub(crate) fn lock_system<A: Allocator + Copy, R: Files<File = File>>(
     }
 }
 
-/// The lock, if the end has got it. Where the system makes none another run may talk with the other system.
+/// Returns the lock, if the end has got it. If the system makes none, another run may talk with the other system.
 fn got<A: Allocator + Copy, R: Files<File = File>, L>(
     alloc: A,
     rt: &R,
@@ -58,8 +60,8 @@ fn got<A: Allocator + Copy, R: Files<File = File>, L>(
     }
 }
 
-/// Why no lock can be made in this folder: why no file can. Where one can be made it is the link to its name that is refused, or
-/// the removal of the lock of a process that is gone.
+/// Returns why no lock can be made in this folder: why no file can. If a file can be made, the system refuses the link
+/// to its name, or the removal of the lock of a process that is gone.
 fn why_refused<A: Allocator + Copy, R: Files<File = File>>(
     alloc: A,
     rt: &R,
@@ -74,8 +76,8 @@ fn why_refused<A: Allocator + Copy, R: Files<File = File>>(
     }
 }
 
-/// That the system refuses to make a lock in this folder, with an error of this kind and number. Memory that was refused is no
-/// fault of the system's.
+/// Returns the fault that the system refuses to make a lock in this folder, with an error of this kind and number.
+/// Refused memory is no fault of the system's.
 fn refused(locks: &str, kind: ErrorKind, number: Option<i32>) -> RunFault
     ensures refused { IsRefusedLock result }
     ensures no_other { IsFolderFault result }
@@ -90,7 +92,7 @@ fn refused(locks: &str, kind: ErrorKind, number: Option<i32>) -> RunFault
     RunFault::System(locks.failure(Resource::Dir, Cause::Refused(kind, number)))
 }
 
-/// Makes a file in this folder, and removes it.
+/// Creates a file in this folder, and removes it.
 fn try_file<A: Allocator, R: Files<File = File>>(alloc: A, rt: &R, folder: &str) -> io::Result<()> {
     let path = format!(in alloc; "{folder}/.part.lock")?;
     let made = match File::create_new(rt, path.as_str()) {
@@ -102,7 +104,7 @@ fn try_file<A: Allocator, R: Files<File = File>>(alloc: A, rt: &R, folder: &str)
     made
 }
 
-/// Whether a lock was not got since another run has it.
+/// Returns whether a lock was not got because another run has it.
 pub(crate) fn is_locked(fault: &RunFault) -> bool
     ensures { result ≡ is_locked fault.now }
 {
@@ -118,7 +120,7 @@ pub(crate) fn is_in_use(cause: Cause) -> bool
     matches!(cause, Cause::InUse)
 }
 
-/// Whether another run has this lock.
+/// Returns whether another run has this lock.
 pub(crate) fn is_held<L>(lock: &Result<L, RunFault>) -> bool
     ensures { result ≡ is_held lock.now }
 {
@@ -165,7 +167,7 @@ fn add_file<A: Allocator>(text: &mut String<A>, path: &str) -> Result<(), AllocE
     text.push_str("\n")
 }
 
-/// What a called end says whose caller is a system that is locked: its name, and that.
+/// Returns what a called end says to a caller whose system is locked: its name, and `RLCK`.
 pub(crate) fn lock_words<A: Allocator>(alloc: A, me: &Name) -> Result<Vec<u8, A>, AllocError>
     ensures { IfOk result (λ words. words.items ≡ lock_words me.now) }
 {
@@ -191,7 +193,7 @@ fn add_text<A: Allocator>(
     Ok(())
 }
 
-/// Writes these words, up to a write that takes none of them, or fails. The answer is whether all have gone.
+/// Writes these words, until a write takes none of them, or fails. Returns whether all were written.
 pub(crate) fn say<L: EndLine>(line: &mut L, words: &[u8]) -> Result<bool, LineFailed>
     ensures says { Says words.now (L.taken line.old) (L.taken line.new)
         (L.writes line.old) (L.writes line.new) (L.fault_count line.old) (L.fault_count line.new) }

@@ -1,4 +1,4 @@
-//! What a person follows on standard error, and what goes to a log.
+//! The reports of a session on standard error, and in a log.
 
 use crate::hearing::Hearing;
 use crate::last_text::Tail;
@@ -15,34 +15,34 @@ use uug_talk::Name;
 use uug_task::CallTask;
 use uug_transfer::{ReadOutcome, SessionObserver, SessionStatus};
 
-/// Says on standard error what becomes of each session: its phases, the jobs of both ends, and what was lost. Where there is a log,
-/// it has in it how each session begins and ends, and each job.
+/// Reports each session on standard error: its phases, the jobs of both ends, and what was lost. A log, if there is
+/// one, gets how each session begins and ends, and each job.
 #[derive(Drop)]
 pub struct SystemObserver<'a, R, A: Allocator> {
     alloc: A,
     is_lenient: bool,
-    /// Nobody looks where nothing is to be said.
+    /// None without `-v` or a log.
     observer: Option<Observer<A>>,
     tellers: Tellers<'a, R, A>,
-    /// What was said of the session last.
+    /// The phase of the session that was noted last.
     phase: Option<Phase>,
-    /// Whether it came past its greeting.
+    /// Set once it came past its greeting.
     has_met: bool,
-    /// How many bytes were written and read, and how often nothing came, up to the greatest numbers.
+    /// The numbers of bytes written and read, and of silences. They saturate.
     written: u64,
     read: u64,
     silences: u64,
-    /// Whether the end calls, or is called, and the name of the other end, if it is one.
+    /// The side of this end, and the name of the other end, if it is a name.
     side: Side,
     peer: Option<Name>,
-    /// What was heard of it: the texts of its greeting, and the bytes that came last.
+    /// The bytes heard from it: the texts of its greeting, and the bytes that came last.
     hearing: Hearing,
     tail: Tail<A>,
 }
 
 impl<'a, R: Eprint + Clock, A: Allocator + Copy> SystemObserver<'a, R, A> {
-    /// An observer that says something of the session of this task, or nothing. At a terminal it shows how far a long file
-    /// has come. With a log it looks in any case.
+    /// Creates an observer that reports the session of this task, or nothing. At a terminal it shows the progress of a
+    /// long file. With a log it always observes.
     pub fn new(
         alloc: A,
         rt: &'a R,
@@ -76,7 +76,7 @@ impl<'a, R: Eprint + Clock, A: Allocator + Copy> SystemObserver<'a, R, A> {
         })
     }
 
-    /// The session is over: if another one follows nothing was seen of it.
+    /// Starts over after a session, as nothing was seen yet of the next one.
     fn begin_anew(&mut self) {
         if self.observer.is_some() {
             self.observer = Observer::new(self.alloc, self.is_lenient).ok();
@@ -90,7 +90,7 @@ impl<'a, R: Eprint + Clock, A: Allocator + Copy> SystemObserver<'a, R, A> {
         self.tail.clear();
     }
 
-    /// All that went over the line.
+    /// Says the totals of both directions.
     fn say_counts(&self) {
         let Some(observer) = &self.observer else {
             return;
@@ -104,7 +104,7 @@ impl<'a, R: Eprint + Clock, A: Allocator + Copy> SystemObserver<'a, R, A> {
         voice.say_silences(self.silences);
     }
 
-    /// What was heard of the other end, where the session ended badly: a line, or none.
+    /// Returns a line with what was heard of the other end, if the session ended badly, else an empty one.
     fn heard(&self, phase: Phase) -> Result<String<A>, AllocError> {
         match (phase, &self.peer) {
             (Phase::Ended(End::BadTalk), _) => self.last(true),
@@ -116,7 +116,8 @@ impl<'a, R: Eprint + Clock, A: Allocator + Copy> SystemObserver<'a, R, A> {
         }
     }
 
-    /// A line of what was heard last, or none: the session has ended for it, or for something else.
+    /// Returns a line with what was heard last, or an empty one. `ended_for_it` says whether the session ended because
+    /// of that text.
     fn last(&self, ended_for_it: bool) -> Result<String<A>, AllocError> {
         let last = self.tail.last_text()?;
         if last.is_whole() {
@@ -131,7 +132,7 @@ impl<'a, R: Eprint + Clock, A: Allocator + Copy> SystemObserver<'a, R, A> {
         }
     }
 
-    /// The session has ended so.
+    /// Reports the end of the session.
     fn tell_end(&mut self, status: SessionStatus) {
         let said = match self.heard(status.phase) {
             Ok(said) => said,
@@ -146,7 +147,7 @@ impl<'a, R: Eprint + Clock, A: Allocator + Copy> SystemObserver<'a, R, A> {
         self.tellers.log_end(status, line);
     }
 
-    /// These bytes go over the line.
+    /// Observes bytes that go over the line.
     fn see(&mut self, way: Way, piece: &[u8]) {
         let Some(observer) = &mut self.observer else {
             return;
@@ -197,7 +198,7 @@ impl<R: Eprint + Clock, A: Allocator + Copy> SessionObserver for SystemObserver<
     }
 }
 
-/// The line of the text that was heard last: the session has ended for it, or for something else.
+/// Returns the line for the text that was heard last. `ended_for_it` says whether the session ended because of it.
 fn remark_of<A: Allocator>(
     alloc: A,
     said: &[u8],

@@ -1,4 +1,4 @@
-//! Who tells what becomes of a session.
+//! The voice and the log that report a session.
 
 use crate::voice::Voice;
 use std::alloc::{AllocError, Allocator};
@@ -11,21 +11,21 @@ use uug_transfer::SessionStatus;
 /// A voice on standard error, and a log, if there is one.
 #[derive(Drop)]
 pub(crate) struct Tellers<'a, R, A: Allocator> {
-    /// Whether the voice tells all; else only what went wrong.
+    /// Set if the voice reports everything; else only what went wrong.
     pub(crate) is_loud: bool,
     pub(crate) voice: Voice<'a, R, A>,
     pub(crate) log: Option<SessionLog<'a, R, A>>,
 }
 
 impl<R: Eprint + Clock, A: Allocator + Copy> Tellers<'_, R, A> {
-    /// The first byte of the other end has come, or one more.
+    /// Notes that the first byte of the other end has come, or one more.
     pub(crate) fn begin(&mut self) {
         if let Some(log) = &mut self.log {
             log.begin();
         }
     }
 
-    /// All that has become of the jobs is on the disk.
+    /// Reports what was held back: all that has become of the jobs is on the disk.
     pub(crate) fn tell_held(&mut self) {
         self.voice.say_held();
         if let Some(log) = &mut self.log {
@@ -33,28 +33,28 @@ impl<R: Eprint + Clock, A: Allocator + Copy> Tellers<'_, R, A> {
         }
     }
 
-    /// The end now stands so.
+    /// Reports the state of the end.
     pub(crate) fn tell_status(&mut self, status: SessionStatus) {
         if self.is_loud {
             self.voice.say_status(status);
         }
     }
 
-    /// This line is to be said of a session that has ended badly.
+    /// Says this line about a session that has ended badly.
     pub(crate) fn tell_last(&self, line: Result<String<A>, AllocError>) {
         if self.is_loud {
             self.voice.say(line);
         }
     }
 
-    /// So much of the file of a job has passed.
+    /// Shows how much of the file of a job has passed.
     pub(crate) fn show_progress(&mut self, job: &Transfer, bytes: u64) {
         if self.is_loud {
             self.voice.show_progress(job, bytes);
         }
     }
 
-    /// The session is over, of which this line was said, if it is not empty.
+    /// Logs the end of the session, and this line that was said of it, if it is not empty.
     pub(crate) fn log_end(&mut self, status: SessionStatus, line: &str) {
         if let Some(log) = &mut self.log {
             log.end(bad_word(status.phase), words_of(line), status.failed);
@@ -62,7 +62,7 @@ impl<R: Eprint + Clock, A: Allocator + Copy> Tellers<'_, R, A> {
     }
 }
 
-/// The word of a session that ended otherwise than done.
+/// Returns the word of a session that ended otherwise than done.
 fn bad_word(phase: Phase) -> Option<&'static str> {
     match phase {
         Phase::Ended(End::Done) => None,

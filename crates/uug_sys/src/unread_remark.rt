@@ -1,4 +1,4 @@
-//! What is said of the text that was heard last.
+//! Remarks about the text that was heard last.
 ghost use Rattle.std.specs.Prelude.{◌≡◌, IfOk, string_bytes};
 ghost use Rattle.uug_sys.specs.UnreadRemarks.{front_words, is_read, last_remark, quoted_line, unread_remark};
 
@@ -6,24 +6,24 @@ use std::alloc::{AllocError, Allocator};
 use uug_reason::add_escaped;
 use uug_talk::{read_answer, read_order};
 
-/// So many bytes of it are shown.
+/// The maximum number of its bytes that are shown.
 const SHOWN_MAX: usize = 60;
 
-/// That this text can't be read, or that it was not its turn, as a line for standard error.
+/// Returns a line for standard error: this text can't be read, or was out of turn.
 pub(crate) fn unread_remark<A: Allocator>(alloc: A, said: &[u8]) -> Result<String<A>, AllocError>
     ensures { IfOk result (λ line. string_bytes line ≡ unread_remark said.now) }
 {
     quoted_line(alloc, front_words(is_read(said)), said)
 }
 
-/// That this text was heard last, as a line for standard error.
+/// Returns a line for standard error: this text was heard last.
 pub(crate) fn last_remark<A: Allocator>(alloc: A, said: &[u8]) -> Result<String<A>, AllocError>
     ensures { IfOk result (λ line. string_bytes line ≡ last_remark said.now) }
 {
     quoted_line(alloc, "uucpair: heard last \"", said)
 }
 
-/// The line with this in front of a text.
+/// Returns the line with `front` before a text.
 fn quoted_line<A: Allocator>(alloc: A, front: &str, said: &[u8]) -> Result<String<A>, AllocError>
     ensures { IfOk result (λ line. string_bytes line ≡ quoted_line front.now said.now) }
 {
@@ -33,7 +33,7 @@ fn quoted_line<A: Allocator>(alloc: A, front: &str, said: &[u8]) -> Result<Strin
     Ok(line)
 }
 
-/// What is said in front of a text that can be read, or can't.
+/// Returns the words before a text that can be read, or can't.
 fn front_words(is_read: bool) -> &'static str
     ensures { result.now ≡ front_words is_read }
 {
@@ -44,7 +44,7 @@ fn front_words(is_read: bool) -> &'static str
     }
 }
 
-/// Whether a text is a command or an answer.
+/// Returns whether a text is a command or an answer.
 fn is_read(said: &[u8]) -> bool
     ensures { result ≡ is_read said.now }
 {

@@ -1,4 +1,4 @@
-//! What is said on standard error.
+//! Messages on standard error.
 
 use std::alloc::{AllocError, Allocator};
 use std::time::{Clock, Instant};
@@ -6,24 +6,24 @@ use uug_follow::{Counts, Journal, News, Transfer, counts_line, news_line, progre
 use uug_session::phase_word;
 use uug_transfer::SessionStatus;
 
-/// What keeps a line that is to be written over from being seen any longer, at a terminal.
+/// The bytes that wipe a line of progress off a terminal.
 const WIPE: &str = "\r\u{1b}[K";
 
-/// Speaks to a person on standard error. What can't be said, or for which there is no memory, is left out. What becomes of a job is
-/// said when that is on the disk, so that a kill behind it does no job that is said to be done a second time.
+/// Speaks to a person on standard error. What can't be written, or for which there is no memory, is left out. Results
+/// of a job are said once they are on the disk. A kill after that does not repeat a job that was said to be done.
 #[derive(Drop)]
 pub(crate) struct Voice<'a, R, A: Allocator> {
     alloc: A,
     rt: &'a R,
-    /// Whether standard error is a terminal.
+    /// Set if standard error is a terminal.
     at_terminal: bool,
-    /// When the session began, where the clock says so.
+    /// The time at which the session began, if the clock gives one.
     since: Option<Instant>,
-    /// In which second of the session the job that is on began.
+    /// The second of the session in which the current job began.
     begun: u64,
-    /// In which second of the session its last line was written over, which is then still seen.
+    /// The second of the session in which the job's line of progress was last written, if that is still seen.
     shown: Option<u64>,
-    /// What is to be said of jobs, once it stands on the disk.
+    /// Messages about jobs, held back until the results are on the disk.
     held: String<A>,
 }
 
@@ -40,7 +40,7 @@ impl<'a, R: Eprint + Clock, A: Allocator + Copy> Voice<'a, R, A> {
         }
     }
 
-    /// So many seconds have passed, where the clock says so.
+    /// Returns the seconds that have passed, or 0 without a clock.
     fn seconds(&self) -> u64 {
         let Some(since) = self.since else {
             return 0;
@@ -65,7 +65,7 @@ impl<'a, R: Eprint + Clock, A: Allocator + Copy> Voice<'a, R, A> {
         }
     }
 
-    /// A line that was to be written over is wiped away.
+    /// Wipes the line of progress, if there is one.
     fn wipe(&mut self) {
         if self.shown.take().is_some() {
             let _ = eprint!(self.rt; "{WIPE}");
@@ -83,7 +83,7 @@ impl<'a, R: Eprint + Clock, A: Allocator + Copy> Voice<'a, R, A> {
         self.held.clear();
     }
 
-    /// The end now stands so.
+    /// Says the state of the end.
     pub(crate) fn say_status(&mut self, status: SessionStatus) {
         self.wipe();
         let seconds = self.seconds();
@@ -94,17 +94,17 @@ impl<'a, R: Eprint + Clock, A: Allocator + Copy> Voice<'a, R, A> {
         ));
     }
 
-    /// All that has gone one way.
+    /// Says the totals of one direction.
     pub(crate) fn say_counts(&self, verb: &str, bytes: u64, counts: Counts) {
         self.say(counts_line(self.alloc, verb, bytes, counts));
     }
 
-    /// How often nothing came.
+    /// Says how often nothing came.
     pub(crate) fn say_silences(&self, silences: u64) {
         self.say(format!(in self.alloc; "uucpair: {silences} timeouts\n"));
     }
 
-    /// How far the file of the job has come, at a terminal, once a second from its second one on.
+    /// Shows how far the file of the job is, at a terminal, once a second from its second one on.
     pub(crate) fn show_progress(&mut self, job: &Transfer, bytes: u64) {
         if !self.at_terminal || bytes == 0 {
             return;

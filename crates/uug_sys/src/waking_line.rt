@@ -1,4 +1,4 @@
-//! A line at which the other end may sleep.
+//! A line whose other end may sleep.
 ghost use Rattle.std.specs.Prelude.{◌≡◌, None};
 
 use std::time::Duration;
@@ -7,20 +7,20 @@ use uug_port::SystemLine;
 use uug_session::Side;
 use uug_transfer::{EndLine, LineFailed, ReadOutcome, SessionStatus};
 
-/// What wakes an end that says nothing before it hears a byte. It is no part of a text.
+/// The byte that wakes an end that says nothing before it hears one. It is no part of a text.
 const WAKE: &[u8] = b"\r";
 
-/// A line at which an end that calls is heard before it has heard anything: it writes a byte before each read, until one has come
-/// from the other end. So two ends that wait for each other's greeting begin.
+/// A line at which a calling end is heard before it has heard anything. It writes a byte before each read, until one
+/// has come from the other end. Two ends that wait for each other's greeting thus begin.
 #[derive(Drop)]
 pub(crate) struct WakingLine<L> {
     line: L,
-    /// Whether the other end may still sleep.
+    /// Set while the other end may still sleep.
     wakes: bool,
 }
 
 impl<L: SystemLine> WakingLine<L> {
-    /// This line of an end on this side: who is called wakes nobody.
+    /// Wraps this line of an end on this side. A called end wakes nobody.
     pub(crate) fn new(line: L, side: Side) -> Self
         ensures { result.line ≡ line }
     {

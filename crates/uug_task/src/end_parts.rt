@@ -24,22 +24,22 @@ use uug_transfer::{
     call_over,
 };
 
-/// What an end is made of: where it stands, its jobs, its files, and the texts in which it stands from one session to the next.
+/// The parts of an end: its place, its jobs, its files, and the texts that hold its state between sessions.
 #[derive(Drop)]
 pub struct EndParts<S: Spool, J, N, A: Allocator> {
-    /// Where it stands.
+    /// Its place: the names of both ends, and what it announces.
     pub place: Place,
     /// Its jobs, all of which are to be offered.
     pub queue: Queue<A>,
     /// Its files.
     pub spool: S,
-    /// Where its jobs are written.
+    /// The file of its jobs.
     pub jobs: JobsFile<J, A>,
-    /// Where its number is written, if it keeps one.
+    /// The file of its number, if it keeps one.
     pub number: N,
 }
 
-/// An end whose session is over, and what the program answers.
+/// An end whose session is over, and the result of the program.
 #[derive(Drop)]
 pub struct FinishedEnd<S: Spool, J, N, A: Allocator> {
     /// The end as it is then.
@@ -49,7 +49,7 @@ pub struct FinishedEnd<S: Spool, J, N, A: Allocator> {
 }
 
 impl<S: Spool + Drop, J: Drop, N: Drop, A: Allocator + Copy> EndParts<S, J, N, A> {
-    /// The end on this side, whose session begins. What it says first is to be written.
+    /// Creates the end on this side, whose session begins. Its first words are to be written.
     pub fn begin(
         self,
         alloc: A,
@@ -94,8 +94,8 @@ impl<S: Spool + Drop, J: JobTexts + Drop, N: TextFile + Drop, A: Allocator + Cop
     N,
     A,
 > {
-    /// The end on this side has a session over its line. It is handed back as it is when that is over: it has run the session
-    /// that so began, up to there.
+    /// Runs the session of the end on this side over its line. Returns the end as it is after that: it has run the
+    /// session that began here, up to that point.
     pub fn run<L: EndLine, O: Output>(
         self,
         alloc: A,
@@ -130,7 +130,7 @@ impl<S: Spool + Drop, J: JobTexts + Drop, N: TextFile + Drop, A: Allocator + Cop
     }
 }
 
-/// What the types say of where an end stands, and of its jobs.
+/// Brings in what the types say of an end's place, and of its jobs.
 fn note_types<A: Allocator>(place: &Place, queue: &Queue<A>)
     ensures window { IsWindow (announced place.now.announce).window }
     ensures names { All HasNames (pending queue.now) }
@@ -139,7 +139,7 @@ fn note_types<A: Allocator>(place: &Place, queue: &Queue<A>)
     let _jobs = queue.pending();
 }
 
-/// The end itself, with these jobs.
+/// Creates the node on this side, with these jobs.
 pub fn make_node<S: Spool + Drop, A: Allocator + Copy>(
     alloc: A,
     side: Side,

@@ -1,11 +1,11 @@
-//! Laws of what the task of an end may take. A call does nothing: its contract is the law.
+//! Laws of the limits of an end's task. A call does nothing: its contract is the law.
 ghost use Rattle.std.specs.Prelude.{◌≡◌};
 ghost use Rattle.uug_task.specs.declared.places.TheConstants.{SIZE, WINDOW};
 ghost use Rattle.uug_task.specs.declared.task.TheConstants.{MOST_MIN, SECONDS_MAX, SESSIONS_MAX, WAIT_MAX};
 
-/// Each limit is this number: the seconds for which a line waits, and for which an end waits to be called, its sessions, the
-/// bytes of files that may be offered in a session, at least, and the window and the packet size that both ends of a pair
-/// announce.
+/// States the value of each limit: the seconds that a line waits, and that an end waits to be called; its sessions; the
+/// minimum for the bytes of files that may be offered in a session; and the window and the packet size that both ends
+/// of a pair announce.
 pub fn limits()
     ensures seconds { SECONDS_MAX ≡ 600 }
     ensures most { MOST_MIN ≡ 1048576 }

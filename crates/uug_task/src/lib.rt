@@ -1,4 +1,4 @@
-//! The task of one end: what its words say, and the end that is made and run for it.
+//! The task of one end, the terms in its words, and the end that is made and run for it.
 #![tactic(auto)]
 
 mod end_parts;

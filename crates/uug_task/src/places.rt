@@ -1,4 +1,4 @@
-//! Where an end of a pair stands.
+//! The places of the ends of a pair.
 ghost use Rattle.std.specs.Prelude.{◌≡◌};
 ghost use Rattle.uug_talk.specs.Name.{IsName};
 ghost use Rattle.uug_task.specs.Places.{IsPlaceInPair};
@@ -19,7 +19,7 @@ const CALLER: &[u8] = b"a";
 /// The name of the end that is called.
 const CALLED: &[u8] = b"b";
 
-/// Where the end of a pair on this side stands. It keeps no number of its conversations.
+/// Returns the place of the end of a pair on this side. It keeps no number of its conversations.
 pub fn place_in_pair(side: Side) -> Place
     ensures { IsPlaceInPair side result }
 {
@@ -39,7 +39,7 @@ pub fn place_in_pair(side: Side) -> Place
     }
 }
 
-/// The name of these bytes, which are one.
+/// Returns the name of these bytes, which are one.
 fn name(bytes: &[u8]) -> Name
     requires { IsName bytes.now }
     ensures { result ≡ bytes.now }

@@ -1,4 +1,4 @@
-//! What one end is run over, and what its words say.
+//! The task of one end, and the terms in its words.
 ghost use Rattle.std.specs.Prelude.{◌≡◌, ◌≢◌, ◌≤◌, ◌↔◌, IfSome, IsTrue, MatchOption, Some};
 ghost use Rattle.uug_task.specs.Tasks.{IsSaidBy, IsTask, may_have, thinning_with, wait_at_device};
 ghost use Rattle.uug_transfer.specs.LineNames.{line_of, shown, standard};
@@ -11,27 +11,27 @@ use uug_session::{Place, Side};
 use uug_talk::Name;
 use uug_transfer::{LineName, PatienceLimits, Thinning, read_line_name};
 
-/// The most seconds that a line waits.
+/// The maximum seconds that a line waits.
 pub const SECONDS_MAX: u32 = 600;
 
-/// So many bytes of files an end offers in a session at least, if it has as many: each file that may go fits.
+/// The minimum for the bytes of files that an end offers in a session, if it has as many. Each file that may go fits.
 pub const MOST_MIN: u32 = 1_048_576;
 
-/// The most seconds that an end waits to be called.
+/// The maximum seconds that an end waits to be called.
 pub const WAIT_MAX: u32 = 1_000_000_000;
 
-/// The most sessions that an end has that is called at a socket.
+/// The maximum number of sessions of an end that is called at a socket.
 pub const SESSIONS_MAX: u32 = 1_000_000;
 
-/// For so many seconds an end waits to be called at a socket that is told nothing else: a day.
+/// The seconds that an end waits to be called at a socket by default: a day.
 const WAIT: u32 = 86_400;
 
-/// What one end is run over.
+/// The task of one end.
 #[derive(Clone, Copy, Debug, PartialEq, Eq)]
 pub struct CallTask<'a> {
-    /// Whether the end calls, or is called.
+    /// The side of the end.
     pub side: Side,
-    /// What its line is called.
+    /// The name of its line.
     pub line: &'a str,
     /// Its folder.
     pub dir: &'a str,
@@ -43,45 +43,45 @@ pub struct CallTask<'a> {
     pub window: u32,
     /// The packet size that it announces.
     pub size: u32,
-    /// For so many seconds the line waits.
+    /// The seconds that the line waits.
     pub seconds: u32,
-    /// The bits a second of its line, where they are told.
+    /// The speed of its line in bits a second, if it is given.
     pub speed: Option<u32>,
-    /// For so many seconds it waits to be called, where that is told.
+    /// The seconds that it waits to be called, if they are given.
     pub wait: Option<u32>,
-    /// So many sessions it has at most, one after the other.
+    /// The maximum number of its sessions, one after the other.
     pub sessions: u32,
-    /// Whether it is quiet on repeats.
+    /// Set if it is quiet on repeats.
     pub is_quiet: bool,
-    /// Whether its commands are short.
+    /// Set if its commands are short.
     pub is_short: bool,
-    /// Whether it refuses what it can't read, and goes on.
+    /// Set if it refuses what it can't read, and goes on.
     pub is_lenient: bool,
-    /// Whether it tells digests of its files, and compares those that it is told.
+    /// Set if it announces digests of its files, and compares those that are announced to it.
     pub tells_digests: bool,
-    /// Whether it acknowledges each data packet on its own.
+    /// Set if it acknowledges each data packet on its own.
     pub is_every_ack: bool,
-    /// Whether it begins to keep a number of its conversations, where it keeps none yet.
+    /// Set if it begins to keep a number of its conversations, in case it keeps none yet.
     pub is_numbered: bool,
-    /// Whether it says on standard error how the end stands.
+    /// Set if it reports the state of the end on standard error.
     pub is_loud: bool,
     /// The folder of the lock files of devices.
     pub locks: &'a str,
-    /// The file to which the report goes, where one is named.
+    /// The file of the report, if one is named.
     pub report: Option<&'a str>,
-    /// The file of its log, where one is named.
+    /// The file of its log, if one is named.
     pub log: Option<&'a str>,
-    /// So many bytes at most have the files together of the jobs that it offers in a session.
+    /// The maximum total size of the files of the jobs that it offers in a session, in bytes.
     pub most: u32,
-    /// Whether its folder is a spool of Taylor UUCP.
+    /// Set if its folder is a spool of Taylor UUCP.
     pub is_spool: bool,
-    /// The public folder of a spool, where one is named.
+    /// The public folder of a spool, if one is named.
     pub public: Option<&'a str>,
-    /// The statistics of a spool, where they are named.
+    /// The statistics of a spool, if they are named.
     pub stats: Option<&'a str>,
 }
 
-/// Where the report of an end goes.
+/// The destination of an end's report.
 #[derive(Clone, Copy, Debug, PartialEq, Eq)]
 pub enum ReportPlace<'a> {
     /// The file of this path.
@@ -93,8 +93,8 @@ pub enum ReportPlace<'a> {
 }
 
 impl<'a> CallTask<'a> {
-    /// Where the report of its end goes: to the file that is named, else to standard output, and never to a standard output that is
-    /// its line.
+    /// Returns the destination of its end's report: the file that is named, else standard output. A standard output
+    /// that is its line gets no report; standard error does.
     pub fn report_place(&self) -> ReportPlace<'a>
         ensures file { IfSome self.now.report (λ path. result ≡ ReportPlace.File path) }
         ensures apart { line_of self.now.line.now ≡ Some standard → result ≢ ReportPlace.Output }
@@ -107,14 +107,14 @@ impl<'a> CallTask<'a> {
         }
     }
 
-    /// Whether it may be run: its numbers are in their ranges, and its line and its names are such.
+    /// Returns whether it may be run: its numbers are in their ranges, and its line and its names are valid.
     pub fn may_run(&self) -> bool
         ensures { IsTrue result ↔ IsTask self.now }
     {
         read_terms(self).is_some()
     }
 
-    /// What its end leaves out of what it emits.
+    /// Returns what its end leaves out of what it emits.
     pub fn thinning(&self) -> Thinning
         ensures { result ≡ thinning_with self.now.is_every_ack }
     {
@@ -125,7 +125,7 @@ impl<'a> CallTask<'a> {
         }
     }
 
-    /// The folder of the end.
+    /// Returns the folder of the end.
     pub fn end_dir(&self) -> EndDir<'a> {
         EndDir {
             path: self.dir,
@@ -134,36 +134,37 @@ impl<'a> CallTask<'a> {
     }
 }
 
-/// What is known once the words of a task were read.
+/// The terms in the words of a task.
 #[derive(Clone, Copy)]
 pub struct Terms<'a> {
     pub line: LineName<'a>,
     pub station: Station,
 }
 
-/// Where an end stands, and how long it waits there.
+/// The place of an end, and how long it waits there.
 #[derive(Clone, Copy)]
 pub struct Station {
     pub place: Place,
     pub pace: Pace,
-    /// For so many seconds the end waits to be called, where that is told.
+    /// The seconds that the end waits to be called, if they are given.
     pub wait: Option<u32>,
-    /// So many sessions it has at most.
+    /// The maximum number of its sessions.
     pub sessions: u32,
 }
 
 impl Station {
-    /// How long the line waits where nothing of this end is on the way.
+    /// Returns how long the line waits while nothing of this end is on the way.
     pub fn time(&self) -> Duration {
         self.pace.time(0)
     }
 
-    /// How long bytes may come at the line without progress.
+    /// Returns how long bytes may come at the line without progress.
     pub fn limits(&self) -> PatienceLimits {
         PatienceLimits::of_timer(self.pace.longest())
     }
 
-    /// How long an end on this side says nothing at a device, and counts no silence, before the first byte has come.
+    /// Returns how long an end on this side says nothing at a device, and counts no silence, before the first byte has
+    /// come.
     pub fn wait_at_device(&self, side: Side) -> Option<u32>
         ensures { result ≡ wait_at_device side self.now.wait }
     {
@@ -173,13 +174,13 @@ impl Station {
         }
     }
 
-    /// How long the end waits to be called at a socket.
+    /// Returns how long the end waits to be called at a socket.
     pub fn wait_at_socket(&self) -> Duration {
         Duration::from_secs(u64::from(self.wait.unwrap_or(WAIT)))
     }
 }
 
-/// What a task says, if its numbers are in their ranges and its names are names.
+/// Returns the terms of a task, if its numbers are in their ranges and its line and names are valid.
 pub fn read_terms<'a>(task: &CallTask<'a>) -> Option<Terms<'a>>
     ensures said { MatchOption result (IsTask task.now → ⊥) (λ terms. IsSaidBy task.now terms) }
     ensures task { IfSome result (λ _. IsTask task.now) }
@@ -218,7 +219,8 @@ pub fn read_terms<'a>(task: &CallTask<'a>) -> Option<Terms<'a>>
     })
 }
 
-/// Whether an end on this side may have so many sessions over its line: it has more than one where it is called at a socket.
+/// Returns whether an end on this side may have this many sessions over its line. It may have more than one only if it
+/// is called at a socket.
 pub fn may_have(sessions: u32, side: Side, line: LineName<'_>) -> bool
     ensures { result ≡ may_have sessions side (shown line.entry) }
 {
@@ -228,7 +230,7 @@ pub fn may_have(sessions: u32, side: Side, line: LineName<'_>) -> bool
     }
 }
 
-/// Whether a number is in its range, where there is one.
+/// Returns whether a number is in its range, or there is none.
 fn is_within(number: Option<u32>, least: u32, most: u32) -> bool
     ensures { IsTrue result ↔ IfSome number (λ n. (least ≤ n) × (n ≤ most)) }
 {

@@ -15,9 +15,9 @@ use std::mem;
 use uug_session::node_laws::a_number_stands_as_the_session_does;
 use uug_session::{Node, Phase, Spool};
 
-/// One end at something that is written and read: a node, and the bytes that are still to be written for it. It is given
-/// is read, and says what is to be written. What its node emits goes through an injector, which may leave packets out,
-/// lose them or change them, as a line may. Without memory for a call it can only be hung up.
+/// One end of a byte stream: a node, and the bytes that it still has to write. The owner passes in what it reads, and
+/// asks what to write. What the node emits goes through an injector, which may leave out, lose or change packets, as a
+/// line may. After a call that ran out of memory it can only be hung up.
 #[derive(Drop)]
 pub struct BufferedNode<S: Spool, A: Allocator> {
     node: Node<S, A>,
@@ -26,7 +26,8 @@ pub struct BufferedNode<S: Spool, A: Allocator> {
 }
 
 impl<S: Spool + Drop, A: Allocator + Copy> BufferedNode<S, A> {
-    /// A buffer for what this node emits, which goes through this injector. What it has emitted so far is to be written.
+    /// Creates a buffer for what this node emits, through this injector. What the node has emitted already is queued
+    /// for writing.
     pub fn new(alloc: A, node: Node<S, A>, injector: FaultInjector) -> Result<Self, AllocError>
         ensures jobs { IfOk result (λ buffered. KeepsJobs (S.holdings node.spool)
             (S.holdings (spool_in buffered))
@@ -47,14 +48,14 @@ impl<S: Spool + Drop, A: Allocator + Copy> BufferedNode<S, A> {
         Ok(buffered)
     }
 
-    /// What is still to be written.
+    /// Returns the bytes that are still to be written.
     pub fn outgoing(&self) -> &[u8]
         ensures { result.now ≡ to_write self.now }
     {
         &self.outgoing
     }
 
-    /// The first bytes that were to be written were written.
+    /// Removes the first `count` bytes, which were written.
     pub fn written(&mut self, count: usize)
         requires { count ≤ length (to_write self.old) }
         ensures outgoing { to_write self.new ≡ drop count (to_write self.old) }
@@ -69,7 +70,7 @@ impl<S: Spool + Drop, A: Allocator + Copy> BufferedNode<S, A> {
         }
     }
 
-    /// These bytes were read.
+    /// Passes the node the bytes of a read.
     pub fn arrive(&mut self, piece: &[u8]) -> Result<(), AllocError>
         ensures jobs { KeepsJobs (S.holdings (spool_in self.old))
             (S.holdings (spool_in self.new))
@@ -96,7 +97,7 @@ impl<S: Spool + Drop, A: Allocator + Copy> BufferedNode<S, A> {
         self.note_emitted()
     }
 
-    /// A timeout.
+    /// Passes the node a timeout.
     pub fn time_out(&mut self) -> Result<(), AllocError>
         ensures jobs { KeepsJobs (S.holdings (spool_in self.old))
             (S.holdings (spool_in self.new))
@@ -119,7 +120,7 @@ impl<S: Spool + Drop, A: Allocator + Copy> BufferedNode<S, A> {
         self.note_emitted()
     }
 
-    /// There is nothing to be written or read any more: the session is over.
+    /// Ends the session: nothing can be written or read any more.
     pub fn hang_up(&mut self)
         ensures jobs { KeepsJobs (S.holdings (spool_in self.old))
             (S.holdings (spool_in self.new))
@@ -144,7 +145,7 @@ impl<S: Spool + Drop, A: Allocator + Copy> BufferedNode<S, A> {
         self.node.hang_up();
     }
 
-    /// Gives its injector to another end, and takes the one that that end had.
+    /// Swaps injectors with another end.
     pub fn exchange_injectors<T: Spool + Drop>(&mut self, other: &mut BufferedNode<T, A>)
         ensures here { injector_in self.new ≡ injector_in other.old }
         ensures there { injector_in other.new ≡ injector_in self.old }
@@ -158,7 +159,7 @@ impl<S: Spool + Drop, A: Allocator + Copy> BufferedNode<S, A> {
         mem::swap(&mut self.injector, &mut other.injector);
     }
 
-    /// Whether the session is over.
+    /// Returns whether the session is over.
     pub fn has_ended(&self) -> bool
         ensures { IsTrue result ↔ IsEnded (node_in self.now).engine.stage }
     {
@@ -168,21 +169,21 @@ impl<S: Spool + Drop, A: Allocator + Copy> BufferedNode<S, A> {
         }
     }
 
-    /// The node.
+    /// Returns the node.
     pub fn node(&self) -> &Node<S, A>
         ensures { node_of result.now ≡ node_in self.now }
     {
         &self.node
     }
 
-    /// Its files.
+    /// Returns the node's files.
     pub fn spool(&self) -> &S
         ensures { result.now ≡ spool_in self.now }
     {
         self.node.spool()
     }
 
-    /// How far its session has come, and whether it has left its line.
+    /// Returns how far the session is. `is_over` says whether the end has left its line.
     pub fn status(&self, is_over: bool) -> SessionStatus
         ensures { result ≡ status_of is_over (node_in self.now) }
     {
@@ -197,7 +198,7 @@ impl<S: Spool + Drop, A: Allocator + Copy> BufferedNode<S, A> {
         }
     }
 
-    /// What the node has emitted is to be written behind the rest, as far as it is not left out and not lost.
+    /// Appends what the node has emitted to the bytes to be written, except what the injector leaves out or loses.
     fn note_emitted(&mut self) -> Result<(), AllocError>
         ensures sends { OnOk result
             (SendsOut (injector_in self.old) (injector_in self.new) (to_write self.old) (to_write self.new)

@@ -27,12 +27,12 @@ use uug_folder::{JobTexts, TextFile};
 use uug_session::{Node, Phase, Side, Spool};
 use uug_stream::{Output, ToolFault, write_all};
 
-/// An end stays at its line until its session is over, reads so many bytes at most, and has patience for so long. What becomes of it is put on its disk
-/// meanwhile: a job that is over is taken out of the file of jobs, where it has failed it is told why, and its number goes to its own file, if it keeps one, before
-/// anything that the end says of it is written. When the session is over the report goes to the output, also where the line or a
-/// file has failed. The answer is the program's status: 0 where the session is done, even if the line has failed behind it, and
-/// 1 where it is not. Of several faults the first is answered, and none of them keeps the report from being printed, except
-/// running out of memory.
+/// Runs an end at its line until its session is over. It reads at most `most` bytes, and its patience is `limits`.
+/// Results go to its disk during the session: a finished job is removed from the file of jobs, and a failed one gets a
+/// notice. An end that keeps a number writes it to its own file. All this precedes anything that the end writes about
+/// it. When the session is over the report is written to the output, even if the line or a file has failed. Returns the
+/// program's status: 0 if the session is done, even if the line failed after that, and 1 if not. Returns the first of
+/// several faults. No fault prevents the report from being printed, except running out of memory.
 pub fn call_over<S, L, J, N, O, A>(
     alloc: A,
     side: Side,
@@ -152,7 +152,7 @@ where
     }
 }
 
-/// Prints how an end stands, and then the jobs that it has given up.
+/// Prints the state of an end, then the jobs that it has given up.
 fn print_report<S: Spool, O: Output, A: Allocator + Copy>(
     alloc: A,
     side: Side,
@@ -170,8 +170,8 @@ fn print_report<S: Spool, O: Output, A: Allocator + Copy>(
     write_all(output, report.as_bytes())
 }
 
-/// What is answered where a device has failed, and this came of what was left to do: the device's fault, which came before all
-/// that the writing meets; but memory is told where it ran out.
+/// Returns the fault to report after a device has failed, given the result of the remaining work. It is the device's
+/// fault, which came first, unless memory ran out.
 pub(crate) fn fault_behind_line(left: Result<(), ToolFault>) -> ToolFault
     ensures { result ≡ fault_behind_line left }
 {
@@ -181,7 +181,7 @@ pub(crate) fn fault_behind_line(left: Result<(), ToolFault>) -> ToolFault
     }
 }
 
-/// 0 where the session is done, and 1 where it is not.
+/// Returns 0 if the session is done, else 1.
 fn status(phase: Phase) -> u8
     ensures { result ≡ status_of_phase phase }
 {

@@ -9,22 +9,22 @@ use crate::line::LineFailed;
 use crate::read_outcome::ReadOutcome;
 use crate::status::SessionStatus;
 
-/// The line of one end, whose other end is elsewhere. It waits for as long as it was made to, and no longer.
+/// The line of one end, whose other end is elsewhere. It waits as long as it was made to, and no longer.
 pub trait EndLine {
-    /// How many times the line has failed.
+    /// The number of times that the line has failed.
     ghost fault_count: { Self → ℕ };
 
-    /// What its reads have brought so far, in order, where the line tells it.
+    /// The results of its reads, in order, if the line exposes them.
     ghost received: { Self → Option (List Received) };
 
-    /// Which bytes it has taken so far, in order, where the line tells it.
+    /// The bytes that it has taken, in order, if the line exposes them.
     ghost taken: { Self → Option (List ℕ) };
 
-    /// How many bytes each of its writes has taken so far, in order, where the line tells it.
+    /// The number of bytes that each of its writes took, in order, if the line exposes them.
     ghost writes: { Self → Option (List ℕ) };
 
-    /// Writes the first bytes of a piece, and says how many. None is a silence: the write could not go on for as long as the
-    /// line waits.
+    /// Writes the first bytes of a piece, and returns how many. 0 is a silence: the write could not go on for as long
+    /// as the line waits.
     fn write(&mut self, piece: &[u8]) -> Result<usize, LineFailed>
         requires some { 0 < length piece.now }
         ensures within { IfOk result (λ n. n ≤ length piece.now) }
@@ -40,8 +40,8 @@ pub trait EndLine {
             (HasFailed u64.MAX (fault_count self.old) (fault_count self.new)) }
         ensures grows { fault_count self.old ≤ fault_count self.new };
 
-    /// Reads what has come to the front of `buffer`, or says that nothing came for as long as the line waits, or that
-    /// nothing will come any more.
+    /// Reads into the front of `buffer`. Reports a timeout if nothing came for as long as the line waits, or the end of
+    /// the line.
     fn read(&mut self, buffer: &mut [u8]) -> Result<ReadOutcome, LineFailed>
         requires room { 0 < length buffer.old }
         ensures size { length buffer.new ≡ length buffer.old }
@@ -56,7 +56,7 @@ pub trait EndLine {
             (HasFailed u64.MAX (fault_count self.old) (fault_count self.new)) }
         ensures grows { fault_count self.old ≤ fault_count self.new };
 
-    /// The session of the line's end has come so far. A line that only carries bytes has no use for it.
+    /// Notes how far the session of the line's end is. A line that only carries bytes ignores it.
     fn note(&mut self, _status: SessionStatus)
         ensures received { received self.new ≡ received self.old }
         ensures taken { taken self.new ≡ taken self.old }
@@ -64,10 +64,10 @@ pub trait EndLine {
         ensures calm { fault_count self.new ≡ fault_count self.old }
     {}
 
-    /// How many whole seconds have passed since the line was opened, as far as the system says; 0 of a line without a clock.
+    /// Returns the whole seconds since the line was opened, by the system's clock, or 0 for a line without a clock.
     fn seconds(&self) -> u64;
 
-    /// How many times the line has failed. At the greatest number the count stands.
+    /// Returns the number of times that the line has failed. The count saturates.
     fn faults(&self) -> u64
         ensures { result ≡ fault_count self.now };
 }

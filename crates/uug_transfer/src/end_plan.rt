@@ -1,4 +1,4 @@
-//! What is to be written of an end when its session is over.
+//! What is written for an end when its session is over.
 ghost use Rattle.std.specs.Prelude.{◌≡◌, ◌≤◌, ◌⊎◌, IfOk, OnErr, OnOk};
 ghost use Rattle.uug_session.specs.Engine.{HasFailed};
 ghost use Rattle.uug_folder.specs.JobsFile.{settled};
@@ -13,7 +13,7 @@ use uug_folder::{FolderFailed, JobsPlan, TextFile, number_line};
 use uug_session::Spool;
 use uug_stream::ToolFault;
 
-/// What is to become of the file of an end's jobs, and the number that it keeps.
+/// The plan for the file of an end's jobs, and the number that it keeps.
 #[derive(Drop)]
 pub(crate) struct EndPlan<A: Allocator> {
     pub(crate) jobs: JobsPlan<A>,
@@ -21,7 +21,7 @@ pub(crate) struct EndPlan<A: Allocator> {
 }
 
 impl<A: Allocator + Copy> EndPlan<A> {
-    /// Reads the file of jobs again, if it is to be written, and plans what is to be written of this end.
+    /// Reads the file of jobs again, if it has to be written, and plans what to write for this end.
     pub(crate) fn new<S: Spool + Drop, J: TextFile, N: TextFile>(
         alloc: A,
         end: &mut TransferEnd<S, J, N, A>,
@@ -48,7 +48,7 @@ impl<A: Allocator + Copy> EndPlan<A> {
 }
 
 impl<A: Allocator> EndPlan<A> {
-    /// Writes the file of jobs and that of the number, each of them whatever became of the other.
+    /// Writes the file of jobs and the number's file. A failure of one does not prevent the other.
     pub(crate) fn carry_out<J: TextFile, N: TextFile>(
         &self,
         jobs: &mut J,
@@ -79,7 +79,8 @@ impl<A: Allocator> EndPlan<A> {
         number_written
     }
 
-    /// What is answered where memory is refused before anything was written: the device's fault, if it came before.
+    /// Returns the fault to report if memory is refused before anything was written: the device's fault, if it came
+    /// before.
     pub(crate) fn fault_without_memory(&self) -> ToolFault
         ensures { result ≡ fault_without_memory self.now.jobs }
     {
@@ -87,7 +88,7 @@ impl<A: Allocator> EndPlan<A> {
     }
 }
 
-/// Writes the number to its file, if one is kept.
+/// Writes the number to its file, if the end keeps one.
 fn keep_number<N: TextFile>(number: Option<u32>, file: &mut N) -> Result<(), FolderFailed>
     ensures ok { OnOk result (N.text file.new ≡ holding_number number (N.text file.old)) }
     ensures holds { OnOk result (HoldsNumber number (N.text file.new)) }

@@ -7,7 +7,7 @@ use std::alloc::{AllocError, Allocator};
 use uug_folder::{add_failed, add_state};
 use uug_session::{Node, Side, Spool};
 
-/// How an end stands, and then the jobs that it has given up.
+/// Returns the state of an end, then the jobs that it has given up.
 pub(crate) fn report<S: Spool, A: Allocator + Copy>(
     alloc: A,
     side: Side,
@@ -34,7 +34,7 @@ fn add_report<S: Spool, A: Allocator + Copy>(
     add_failed(alloc, text, side, end.queue())
 }
 
-/// How two ends stand, and then the jobs that each has given up.
+/// Returns the state of both ends, then the jobs that each has given up.
 pub(crate) fn report_of_both<S: Spool, T: Spool, A: Allocator + Copy>(
     alloc: A,
     caller: &Node<S, A>,

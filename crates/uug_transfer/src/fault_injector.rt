@@ -5,32 +5,32 @@ ghost use Rattle.uug_transfer.specs.FaultInjection.{fate_of, is_in_range, is_nth
 use crate::packet_fate::PacketFate;
 use crate::thinning::Thinning;
 
-/// The least N of which every Nth packet may be lost or changed.
+/// The least N for losing or changing every Nth packet.
 pub const EVERY_MIN: u32 = 2;
 
-/// The greatest such N.
+/// The greatest N for losing or changing every Nth packet.
 pub const EVERY_MAX: u32 = 1_000_000;
 
-/// What is done to packets before they are written: some are left out that need not go, and some of the rest are lost or
-/// changed. Those that are not left out are counted from 1, over both directions, in the order in which they are emitted,
-/// those that are lost included.
+/// The changes made to packets before they are written. Some packets that need not go are left out, and some of the
+/// rest are lost or changed. Packets that are not left out, lost ones included, are counted from 1 in the order in
+/// which they are emitted, over both directions.
 #[derive(Drop)]
 pub struct FaultInjector {
-    /// Which packets are left out.
+    /// The packets to leave out.
     pub thinning: Thinning,
-    /// The N of which every Nth packet is lost, if any is.
+    /// N, if every Nth packet is lost.
     pub drop_every: Option<u32>,
-    /// The N of which every Nth packet is changed, if any is.
+    /// N, if every Nth packet is changed.
     pub flip_every: Option<u32>,
-    /// How many packets were counted. At the greatest number the count stands.
+    /// The number of packets counted. It saturates.
     pub count: u64,
     pub ghost drops: { ForSome drop_every (λ n. 0 < n) },
     pub ghost flips: { ForSome flip_every (λ n. 0 < n) },
 }
 
 impl FaultInjector {
-    /// Every Nth packet is to be lost, and every Nth changed, for an N of its own each. None where an N is less than
-    /// `EVERY_MIN` or more than `EVERY_MAX`.
+    /// Creates an injector that loses every Nth packet, and changes every Nth, with an N of its own each. Returns
+    /// `None` if an N is less than `EVERY_MIN` or more than `EVERY_MAX`.
     pub fn new(drop_every: Option<u32>, flip_every: Option<u32>) -> Option<Self>
         ensures some { is_some result ≡ (is_in_range drop_every && is_in_range flip_every) }
         ensures drop_every { IfSome result (λ injector. injector.drop_every ≡ drop_every) }
@@ -49,7 +49,7 @@ impl FaultInjector {
         })
     }
 
-    /// One that does nothing: each packet goes out as it is.
+    /// Returns an injector that does nothing: each packet goes out unchanged.
     pub fn none() -> Self
         ensures drop_every { result.drop_every ≡ None }
         ensures flip_every { result.flip_every ≡ None }
@@ -59,7 +59,7 @@ impl FaultInjector {
         FaultInjector::without_faults(Thinning::Nothing)
     }
 
-    /// One that loses and changes nothing: each packet that is not left out goes out as it is.
+    /// Returns an injector that loses and changes nothing: each packet that is not left out goes out unchanged.
     pub fn without_faults(thinning: Thinning) -> Self
         ensures drop_every { result.drop_every ≡ None }
         ensures flip_every { result.flip_every ≡ None }
@@ -74,7 +74,7 @@ impl FaultInjector {
         }
     }
 
-    /// Counts a packet, and says what becomes of it.
+    /// Counts a packet, and returns its fate.
     pub fn next(&mut self) -> PacketFate
         ensures count { self.new.count ≡ min (self.old.count + 1) u64.MAX }
         ensures fate { result ≡ fate_of self.old.drop_every self.old.flip_every self.new.count }
@@ -93,7 +93,7 @@ impl FaultInjector {
     }
 }
 
-/// Whether a line may be made to do something to every Nth packet, where there is an N.
+/// Returns whether N is in range, or there is none.
 fn is_in_range(every: Option<u32>) -> bool
     ensures value { result ≡ is_in_range every }
     ensures some { result ≡ true → ForSome every (λ n. 0 < n) }
@@ -104,7 +104,7 @@ fn is_in_range(every: Option<u32>) -> bool
     }
 }
 
-/// Whether the packet of this number is an Nth one, where there is an N.
+/// Returns whether there is an N, and the packet of this number is an Nth one.
 fn is_nth(every: Option<u32>, number: u64) -> bool
     requires { ForSome every (λ n. 0 < n) }
     ensures { result ≡ is_nth every number }

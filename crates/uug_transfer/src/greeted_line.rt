@@ -1,4 +1,4 @@
-//! A line at which the first words of both ends have gone before the session of its end begins.
+//! A line that has carried the first words of both ends before its end's session begins.
 ghost use Rattle.std.specs.Prelude.{◌≡◌, ◌<◌, ◌≤◌, length, IfOk, None};
 
 use crate::end_line::EndLine;
@@ -8,26 +8,27 @@ use crate::status::SessionStatus;
 use std::alloc::{AllocError, Allocator};
 use uug_talk::{Hail, caller_number};
 
-/// The most reads that wait for the caller's text.
+/// The maximum number of reads while waiting for the caller's text.
 const GREETING_READS_MAX: u32 = 1024;
 
-/// For so many silences in a row the caller's text is waited for.
+/// The maximum number of silences in a row while waiting for the caller's text.
 const GREETING_SILENCES_MAX: u32 = 3;
 
-/// A line of an end, at which the first words may have gone: what the end has said already is taken as written when it says it
-/// again, and what was heard is read again. Behind that it is the line as it is. It does not tell what it brings and takes.
+/// The line of an end that may have carried the first words already. What the end has said is taken as written when it
+/// says it again, and what was heard is read again. After that the line is used directly. It does not expose what it
+/// carries.
 #[derive(Drop)]
 pub struct GreetedLine<L, A: Allocator> {
     line: L,
-    /// So many bytes were written, and are still to be said again.
+    /// The number of bytes that were written, and that the end will say again.
     said: usize,
     heard: Vec<u8, A>,
-    /// So many of these were read again.
+    /// The number of bytes of `heard` that were read again.
     read: usize,
 }
 
 impl<L, A: Allocator> GreetedLine<L, A> {
-    /// A line at which nothing has gone yet. It takes no memory.
+    /// Creates a line that has carried nothing yet. Allocates nothing.
     pub fn new(alloc: A, line: L) -> Self
         ensures { result.line ≡ line }
     {
@@ -39,14 +40,14 @@ impl<L, A: Allocator> GreetedLine<L, A> {
         }
     }
 
-    /// The line.
+    /// Returns the line.
     pub fn line(&self) -> &L
         ensures { result.now ≡ self.now.line }
     {
         &self.line
     }
 
-    /// The line as it is. What was heard and not read again is gone.
+    /// Returns the line. Bytes that were heard and not read again are dropped.
     pub fn into_line(self) -> L
         ensures { result ≡ self.line }
     {
@@ -55,8 +56,8 @@ impl<L, A: Allocator> GreetedLine<L, A> {
 }
 
 impl<L: EndLine, A: Allocator> GreetedLine<L, A> {
-    /// Writes the first words of the end, and hears the text that answers them, for so many seconds. The answer is the number
-    /// of a conversation in it, if it has one. Whatever the line does, the session begins as if none of this had been.
+    /// Writes the first words of the end, then waits up to `seconds` for the text that answers them. Returns the number
+    /// of a conversation in it, if it has one. Whatever the line does, the session begins as if this had not happened.
     pub fn meet(&mut self, words: &[u8], seconds: u64) -> Result<Option<u32>, AllocError> {
         self.say(words);
         let mut hail = Hail::new();
@@ -68,7 +69,7 @@ impl<L: EndLine, A: Allocator> GreetedLine<L, A> {
         }
     }
 
-    /// Writes these words, as far as the line takes them without a silence.
+    /// Writes these words, until the line is silent or fails.
     fn say(&mut self, words: &[u8]) {
         let mut rest = words;
         for _ in 0..words.len() {
@@ -85,7 +86,8 @@ impl<L: EndLine, A: Allocator> GreetedLine<L, A> {
         }
     }
 
-    /// Reads until a text is whole, nothing more comes, or so many seconds are over.
+    /// Reads until a text is complete, no more will come, or a limit is reached: `GREETING_READS_MAX` reads,
+    /// `GREETING_SILENCES_MAX` silent ones in a row, or `seconds`.
     fn hear(&mut self, hail: &mut Hail, seconds: u64) -> Result<(), AllocError> {
         let begun = self.line.seconds();
         let mut silences = 0;
@@ -103,7 +105,7 @@ impl<L: EndLine, A: Allocator> GreetedLine<L, A> {
         Ok(())
     }
 
-    /// Reads once: whether bytes came, or nothing if no more will.
+    /// Reads once. Returns whether bytes came, or `None` if no more will come or the text is too long.
     fn hear_more(&mut self, hail: &mut Hail) -> Result<Option<bool>, AllocError> {
         let mut buffer = [0; 256];
         match self.line.read(&mut buffer) {
@@ -161,7 +163,7 @@ impl<L: EndLine, A: Allocator> EndLine for GreetedLine<L, A> {
     }
 }
 
-/// Copies the first of these bytes to the front of the buffer, as many as there is room for, and says how many.
+/// Copies as many of these bytes as fit to the front of the buffer, and returns how many.
 fn copy_front(bytes: &[u8], buffer: &mut [u8]) -> usize
     requires some { 0 < length bytes.now }
     requires room { 0 < length buffer.old }

@@ -15,9 +15,9 @@ ghost use Rattle.uug_transfer.specs.declared.patience.TheConstants.{GREETING_SEC
 ghost use Rattle.uug_transfer.specs.declared.read_budget.TheConstants.{BYTES_MAX, READ_MAX, SILENCES_MAX, STALLS_MAX};
 ghost use Rattle.uug_transfer.specs.declared.thinning.Thinning.{Thinning};
 
-/// Each limit is this number: of the bytes that are on their way to an end of a pair, or that one read of a call brings; of the
-/// bytes that a session reads, and the silences in a row, at reads and at writes, for which it waits; of the seconds of the greeting, and of the reads for as long as
-/// which a session may be without progress; and of the packets of which one may be lost or changed.
+/// States the value of each limit: bytes on their way to an end of a pair, and bytes per read of a call; bytes of a
+/// session, and silences in a row at reads and at writes; seconds of the greeting, and reads without progress; and the
+/// N of every Nth packet.
 pub fn limits()
     ensures unread { UNREAD_MAX ≡ 4096 }
     ensures read { READ_MAX ≡ 8192 }
@@ -28,23 +28,25 @@ pub fn limits()
     ensures every { (EVERY_MIN ≡ 2) × (EVERY_MAX ≡ 1000000) }
 {}
 
-/// An injector that loses and changes nothing, as that of an end at a real line, lets all go out that was emitted.
+/// States that an injector that loses and changes nothing, like that of an end at a real line, lets out all that was
+/// emitted.
 pub fn all_goes_out_without_faults()
     ensures { (count : ℕ) (entries : List EntryValue) →
         outgoing_from None None count entries ≡ emitted_bytes entries }
 {}
 
-/// Where nothing is to be left out, all that was emitted remains, by one event and by several.
+/// States that all that was emitted remains if nothing is to be left out, for one event and for several.
 pub fn all_remains_without_thinning()
     ensures event { (entries : List EntryValue) → thinned Thinning.Nothing entries ≡ entries }
     ensures events { (says : List (List Emitted)) →
         all_thinned Thinning.Nothing says ≡ map entry_of (all_said says) }
 {}
 
-/// What remains of what an event had an end emit: it is what a line lets through that loses the rest. Each data packet is among
-/// it, or an equal one, and each text; one that is left out is sent again behind its place; and where an RR is left out, the
-/// next that remains is an RR, in front of which only RRs stand, or behind it only RRs stand and then a new data packet that
-/// acknowledges the same as the last of them, and of which an equal one remains.
+/// States what remains of all that an event had an end emit: what a line that loses the rest lets through. Each data
+/// packet remains, or an equal one does, and each text remains. A data packet that is left out is sent again after its
+/// place. If an RR is left out, one of two things follows it. Either the next that remains is an RR, with only RRs in
+/// between. Or only RRs follow, then a new data packet that acknowledges the same as the last of them, and of which an
+/// equal one remains.
 pub fn what_is_left_out_need_not_go()
     ensures lost { (thinning : Thinning) (entries : List EntryValue) →
         IsLetThrough entries (thinned thinning entries) }

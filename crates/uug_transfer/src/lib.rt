@@ -1,5 +1,5 @@
-//! One end at a line, and two ends in turn: what is written and read until a session is over, and what is written of its
-//! jobs then. Nothing here calls the system: lines, files and outputs are traits.
+//! One end at a line, and two ends in turn: their reads and writes until a session is over, and what is then written
+//! about their jobs. Nothing here calls the system: lines, files and outputs are traits.
 #![tactic(auto)]
 
 mod buffered_node;

@@ -6,7 +6,7 @@ ghost use Rattle.uug_session.specs.Engine.{HasFailed};
 use thiserror::Error;
 use uug_session::Side;
 
-/// So many bytes at most are on their way to an end.
+/// The maximum number of bytes on their way to an end.
 pub const UNREAD_MAX: usize = 4096;
 
 /// The line failed, or ended.
@@ -14,16 +14,16 @@ pub const UNREAD_MAX: usize = 4096;
 #[error("device fault")]
 pub struct LineFailed;
 
-/// A line between two ends, in both directions. It counts the bytes that were written for an end and not yet read there.
-/// As much as is counted can be read, and up to `UNREAD_MAX` can be written, without waiting.
+/// A line between two ends, in both directions. It counts the bytes that were written for an end and not yet read
+/// there. That many can be read, and up to `UNREAD_MAX` can be written, without waiting.
 pub trait Line {
-    /// How many bytes are on their way to the end on a side.
+    /// The number of bytes on their way to the end on a side.
     ghost unread: { Self → Side → ℕ };
 
-    /// How many times the line has failed.
+    /// The number of times that the line has failed.
     ghost fault_count: { Self → ℕ };
 
-    /// Writes the first bytes of a piece, at least one, for the end on this side, and says how many.
+    /// Writes the first bytes of a piece, at least one, for the end on this side, and returns how many.
     fn write(&mut self, to: Side, piece: &[u8]) -> Result<usize, LineFailed>
         requires some { 0 < length piece.now }
         requires room { unread self.old to + length piece.now ≤ UNREAD_MAX }
@@ -35,8 +35,8 @@ pub trait Line {
             (HasFailed u64.MAX (fault_count self.old) (fault_count self.new)) }
         ensures grows { fault_count self.old ≤ fault_count self.new };
 
-    /// Reads bytes that are on their way to the end on this side to the front of `buffer`, at least one, and says how
-    /// many.
+    /// Reads bytes that are on their way to the end on this side into the front of `buffer`, at least one, and returns
+    /// how many.
     fn read(&mut self, at: Side, buffer: &mut [u8]) -> Result<usize, LineFailed>
         requires some { 0 < unread self.old at }
         requires room { 0 < length buffer.old }
@@ -48,11 +48,11 @@ pub trait Line {
             (HasFailed u64.MAX (fault_count self.old) (fault_count self.new)) }
         ensures grows { fault_count self.old ≤ fault_count self.new };
 
-    /// How many bytes are on their way to the end on this side.
+    /// Returns the number of bytes on their way to the end on this side.
     fn unread(&self, side: Side) -> usize
         ensures { result ≡ unread self.now side };
 
-    /// How many times the line has failed. At the greatest number the count stands.
+    /// Returns the number of times that the line has failed. The count saturates.
     fn faults(&self) -> u64
         ensures { result ≡ fault_count self.now };
 }

@@ -1,4 +1,4 @@
-//! What a line is called on the command line.
+//! Names of lines on the command line.
 ghost use Rattle.std.specs.Prelude.{◌≡◌, MatchOption, Some, None};
 ghost use Rattle.std.specs.Option.{option_copied};
 ghost use Rattle.uug_transfer.specs.LineNames.{behind, host_and_port, line_of, not_empty, port_of, shown};
@@ -6,10 +6,10 @@ ghost use Rattle.uug_transfer.specs.LineNames.{behind, host_and_port, line_of, n
 /// The name of the standard streams.
 const STANDARD: &str = "-";
 
-/// Where no host is named.
+/// The host if none is named.
 const LOOPBACK: &str = "127.0.0.1";
 
-/// What a line is, by its name.
+/// A line, as named on the command line.
 #[derive(Clone, Copy, Debug, PartialEq, Eq)]
 pub enum LineName<'a> {
     /// `-`: standard input and output.
@@ -22,8 +22,8 @@ pub enum LineName<'a> {
     Device(&'a str),
 }
 
-/// The line of this name. A path or a host that is empty is refused, and so is a port that is no number from 0 to 65,535.
-/// A host may have colons in it: the last one stands in front of the port.
+/// Parses the name of a line. Returns `None` if the path or the host is empty, or the port is not a number from 0 to
+/// 65,535. A host may contain colons: the last one precedes the port.
 pub fn read_line_name(name: &str) -> Option<LineName<'_>>
     ensures { MatchOption result (line_of name.now ≡ None)
         (λ line. line_of name.now ≡ Some (shown line)) }
@@ -41,14 +41,14 @@ pub fn read_line_name(name: &str) -> Option<LineName<'_>>
     Some(LineName::Tcp(not_empty(host)?, port_of(port)?))
 }
 
-/// What stands behind this word, where the text begins with it.
+/// Returns the text after this word, if it begins with it.
 fn behind<'a>(text: &'a str, word: &str) -> Option<&'a str>
     ensures { option_copied result ≡ behind word.now text.now }
 {
     text.strip_prefix(word)
 }
 
-/// The text, if it is not empty.
+/// Returns the text, if it is not empty.
 fn not_empty(text: &str) -> Option<&str>
     ensures { option_copied result ≡ not_empty text.now }
 {
@@ -58,7 +58,7 @@ fn not_empty(text: &str) -> Option<&str>
     Some(text)
 }
 
-/// The host and the port of an address.
+/// Splits an address into its host and port.
 fn host_and_port(address: &str) -> (&str, &str)
     ensures { (result.0.now, result.1.now) ≡ host_and_port address.now }
 {
@@ -68,7 +68,7 @@ fn host_and_port(address: &str) -> (&str, &str)
     }
 }
 
-/// The port of this text.
+/// Parses a port.
 fn port_of(text: &str) -> Option<u16>
     ensures { result ≡ port_of text.now }
 {

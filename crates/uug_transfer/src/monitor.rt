@@ -1,4 +1,4 @@
-//! A line that is watched.
+//! A line with an observer.
 ghost use Rattle.std.specs.Prelude.{◌≡◌, length};
 ghost use Rattle.uug_transfer.specs.ReadOutcomes.{IsWithin, outcome_bytes};
 
@@ -7,20 +7,20 @@ use crate::line::LineFailed;
 use crate::read_outcome::ReadOutcome;
 use crate::status::SessionStatus;
 
-/// Looks on while an end is at its line. It is only shown things, and returns nothing, so it changes nothing of the
-/// session: what is promised of a session holds with every observer.
+/// Watches an end at its line. It sees things and returns nothing, and changes nothing of the session: what is promised
+/// of a session holds with every observer.
 pub trait SessionObserver {
-    /// The end has written these bytes.
+    /// Notes bytes that the end has written.
     fn wrote(&mut self, piece: &[u8]);
 
-    /// A read came to this, and these are its bytes.
+    /// Notes the outcome of a read, and its bytes.
     fn read(&mut self, outcome: ReadOutcome, piece: &[u8]);
 
-    /// The session has come so far.
+    /// Notes how far the session is.
     fn note(&mut self, status: SessionStatus);
 }
 
-/// The line of an end, and somebody who sees what goes over it.
+/// The line of an end, and an observer of what it carries.
 #[derive(Drop)]
 pub struct LineMonitor<L, O> {
     line: L,
@@ -28,7 +28,7 @@ pub struct LineMonitor<L, O> {
 }
 
 impl<L: EndLine, O: SessionObserver> LineMonitor<L, O> {
-    /// This line, watched by this observer.
+    /// Creates a line that this observer watches.
     pub fn new(line: L, observer: O) -> Self
         ensures faults { ⟦<LineMonitor<L, O> as EndLine>⟧.fault_count result ≡ L.fault_count line }
         ensures received { ⟦<LineMonitor<L, O> as EndLine>⟧.received result ≡ L.received line }
@@ -38,14 +38,14 @@ impl<L: EndLine, O: SessionObserver> LineMonitor<L, O> {
         LineMonitor { line, observer }
     }
 
-    /// The line.
+    /// Returns the line.
     pub fn line(&self) -> &L
         ensures { result.now ≡ self.now.line }
     {
         &self.line
     }
 
-    /// The observer, without the line.
+    /// Returns the observer, without the line.
     pub fn into_observer(self) -> O
     where
         L: Drop,
@@ -90,7 +90,7 @@ impl<L: EndLine, O: SessionObserver> EndLine for LineMonitor<L, O> {
     }
 }
 
-/// The bytes that a read brought.
+/// Returns the bytes of a read.
 fn piece_of(outcome: ReadOutcome, buffer: &[u8]) -> &[u8]
     requires { IsWithin (length buffer.now) outcome }
     ensures { result.now ≡ outcome_bytes outcome buffer.now }

@@ -1,4 +1,4 @@
-//! What goes out of what an end has emitted.
+//! What goes out of the packets and texts that an end has emitted.
 ghost use Rattle.std.specs.Prelude.{◌≡◌, ◌++◌, OnOk};
 ghost use Rattle.uug_link.specs.Entries.{shown_entry};
 ghost use Rattle.uug_transfer.specs.Outgoing.{count_behind, count_with, flipped, outgoing_from, outgoing_of, outgoing_of_entry};
@@ -11,8 +11,8 @@ use crate::waiting::is_left_out;
 use std::alloc::{AllocError, Allocator};
 use uug_link::{Entry, Outbox};
 
-/// Appends what goes out of all that an outbox holds, but for what its injector's thinning leaves out. Of what goes out
-/// each packet is counted, and no text.
+/// Appends what goes out of an outbox's entries, except those that the injector's thinning leaves out. Packets that go
+/// out are counted, texts are not.
 pub(crate) fn add_outgoing<A: Allocator>(
     outgoing: &mut Vec<u8, A>,
     outbox: &Outbox<A>,

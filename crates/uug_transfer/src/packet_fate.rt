@@ -1,4 +1,4 @@
-/// What becomes of a packet on the line.
+/// The fate of a packet on the line.
 #[derive(Clone, Copy, Debug, PartialEq, Eq)]
 pub enum PacketFate {
     /// It goes out as it is.

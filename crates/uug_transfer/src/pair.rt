@@ -19,11 +19,11 @@ use uug_folder::TextFile;
 use uug_session::{Phase, Spool};
 use uug_stream::{Output, ToolFault};
 
-/// Two ends take at most so many turns at a line. Then the file of jobs of each is read again, and what is to stay of it
-/// is written: the jobs that are pending, and what was put into it meanwhile; and its number to its own file, if it keeps
-/// one. The report goes to the output, also where the line has failed. The answer is the program's status: 0 where both
-/// sessions are done, and 1 where one is not. Of several faults the first is answered, and none of them keeps what comes
-/// behind it from being done, except running out of memory before the first write.
+/// Runs two ends for at most `limit` turns at a line. Then each file of jobs is read again, and what stays is written:
+/// the pending jobs, and what was added meanwhile. An end that keeps a number writes it to its own file. The report is
+/// written to the output, even if the line has failed. Returns the program's status: 0 if both sessions are done, and 1
+/// if one is not. Returns the first of several faults. No fault prevents the steps after it, except running out of
+/// memory before the first write.
 pub fn pair_over<S, L, J, N, O, A>(
     alloc: A,
     caller: &mut TransferEnd<S, J, N, A>,
@@ -123,8 +123,8 @@ where
     }
 }
 
-/// What is to stay of the jobs of each end is written to its file, its number to its own, if it keeps one, and the report
-/// to the output.
+/// Writes what stays of each end's jobs to its file, its number to its own file if it keeps one, and the report to the
+/// output.
 fn leave<S, J, N, O, A>(
     alloc: A,
     caller: &mut TransferEnd<S, J, N, A>,
@@ -186,7 +186,7 @@ where
     }
 }
 
-/// 0 where both sessions are done, and 1 where one is not.
+/// Returns 0 if both sessions are done, else 1.
 fn status(caller: Phase, called: Phase) -> u8
     ensures { result ≡ status_of_phases caller called }
 {

@@ -1,4 +1,4 @@
-//! What is written of two ends when their turns are over.
+//! What is written for two ends when their turns are over.
 ghost use Rattle.std.specs.Prelude.{◌≡◌, ◌≤◌, ◌⊎◌, IfErr, IfOk, OnErr, OnOk, string_bytes};
 ghost use Rattle.uug_session.specs.Engine.{HasFailed};
 ghost use Rattle.uug_stream.specs.Fault.{StopsWriting};
@@ -18,7 +18,7 @@ use uug_folder::{FolderFailed, TextFile};
 use uug_session::Spool;
 use uug_stream::{Output, ToolFault, write_all};
 
-/// What is to become of the files of both ends, and the report.
+/// The plans for the files of both ends, and the report.
 #[derive(Drop)]
 pub(crate) struct PairPlan<A: Allocator> {
     pub(crate) caller: EndPlan<A>,
@@ -27,7 +27,7 @@ pub(crate) struct PairPlan<A: Allocator> {
 }
 
 impl<A: Allocator + Copy> PairPlan<A> {
-    /// Plans what is to be written of these two ends. All memory is taken here.
+    /// Plans what to write for these two ends. All memory is allocated here.
     pub(crate) fn new<S: Spool + Drop, J: TextFile, N: TextFile>(
         alloc: A,
         caller: &mut TransferEnd<S, J, N, A>,
@@ -74,8 +74,8 @@ impl<A: Allocator + Copy> PairPlan<A> {
 }
 
 impl<A: Allocator> PairPlan<A> {
-    /// Writes the files of both ends, the caller's first, and then prints the report, each of them whatever became of the
-    /// others. The first fault is answered.
+    /// Writes the files of both ends, the caller's first, and then prints the report. A failure of one does not prevent
+    /// the others. Returns the first fault.
     pub(crate) fn write<S: Spool + Drop, J: TextFile, N: TextFile, O: Output>(
         &self,
         caller: &mut TransferEnd<S, J, N, A>,
@@ -146,7 +146,7 @@ impl<A: Allocator> PairPlan<A> {
         printed
     }
 
-    /// Prints the report: when both files of jobs are as planned, or writing them has failed, and not before.
+    /// Prints the report, after each file of jobs is as planned, or writing it has failed.
     fn print<J: TextFile, O: Output>(
         &self,
         _caller: &J,
@@ -168,7 +168,7 @@ impl<A: Allocator> PairPlan<A> {
     }
 }
 
-/// What is answered where memory is refused behind both plans: the device's fault, if it came before.
+/// Returns the fault to report if memory is refused after both plans: the device's fault, if it came before.
 fn first_fault<A: Allocator>(caller: &EndPlan<A>, called: &EndPlan<A>) -> ToolFault
     ensures { result ≡ first_fault caller.now.jobs called.now.jobs }
 {

@@ -1,4 +1,4 @@
-//! How long an end stays at a line over which bytes come, where its session makes no progress.
+//! How long an end stays at a line that brings bytes but no progress.
 ghost use Rattle.std.specs.Prelude.{◌≡◌, ◌*◌, ◌↔◌, IsTrue, max};
 ghost use Rattle.uug_session.specs.Node.{node_of};
 ghost use Rattle.uug_transfer.specs.Patience.{HasPatience, Notes, standing_of};
@@ -8,26 +8,26 @@ use crate::read_outcome::ReadOutcome;
 use std::alloc::Allocator;
 use uug_session::{Node, Phase, Spool};
 
-/// For so many seconds at least the greeting may last.
+/// The minimum limit of the greeting, in seconds.
 pub const GREETING_SECONDS: u64 = 60;
 
-/// At a line that waits for long, the greeting may last for as long as so many reads wait there.
+/// The limit of the greeting at a line with a long timer, as a number of timers.
 pub const GREETING_TIMERS: u64 = 6;
 
-/// For as long as so many reads wait, a session may be without progress.
+/// The limit of a session without progress, as a number of timers.
 pub const SESSION_TIMERS: u64 = 20;
 
-/// For how many seconds bytes may come at a line without progress.
+/// The limits on seconds without progress while bytes come.
 #[derive(Clone, Copy, Debug, PartialEq, Eq)]
 pub struct PatienceLimits {
-    /// In the greeting, which is one step.
+    /// The limit in the greeting, which is one step.
     pub greeting: u64,
-    /// Behind it.
+    /// The limit after the greeting.
     pub session: u64,
 }
 
 impl PatienceLimits {
-    /// Those of a line whose reads wait for so many seconds.
+    /// Returns the limits for a line whose reads wait this many seconds.
     pub fn of_timer(seconds: u32) -> Self
         ensures greeting { result.greeting ≡ max GREETING_SECONDS (GREETING_TIMERS * seconds) }
         ensures session { result.session ≡ SESSION_TIMERS * seconds }
@@ -40,19 +40,19 @@ impl PatienceLimits {
     }
 }
 
-/// Where a session stands, as far as progress goes: it has made some where this has changed. The two numbers are counted modulo
-/// eight; what comes with one read moves each by seven at most, unless the other end sends more than it may.
+/// The state of a session that counts for progress: a change of it is progress. The two numbers are counted modulo
+/// eight. The bytes of one read move each by at most seven, unless the other end sends more than it may.
 #[derive(Clone, Copy, Debug, PartialEq, Eq)]
 pub(crate) struct Standing {
     pub(crate) phase: Phase,
     /// The number of the oldest message that was sent and not acknowledged.
     pub(crate) oldest: u8,
-    /// The number of the data packet that is to be taken next.
+    /// The number of the next data packet to be taken.
     pub(crate) expected: u8,
 }
 
 impl Standing {
-    /// Where the session of this end stands.
+    /// Returns the standing of this end's session.
     pub(crate) fn of<S: Spool, A: Allocator + Copy>(node: &Node<S, A>) -> Self
         ensures { result ≡ standing_of (node_of node.now) }
     {
@@ -63,7 +63,7 @@ impl Standing {
         }
     }
 
-    /// Whether a session that stood here and now stands there has made no progress.
+    /// Returns whether both are equal: no progress was made.
     fn is(self, other: Standing) -> bool
         ensures { IsTrue result ↔ (self ≡ other) }
     {
@@ -71,20 +71,20 @@ impl Standing {
     }
 }
 
-/// How long an end has had patience.
+/// The progress of an end over time, and its limits.
 #[derive(Clone, Copy)]
 pub(crate) struct Patience {
     pub(crate) limits: PatienceLimits,
-    /// Where its session stood when bytes came last.
+    /// The standing of its session when bytes came last.
     pub(crate) standing: Standing,
-    /// In which second of the line it had come there.
+    /// The second of the line in which it reached this standing.
     pub(crate) since: u64,
-    /// In which second bytes came last.
+    /// The second in which bytes came last.
     pub(crate) heard: u64,
 }
 
 impl Patience {
-    /// Of a session that begins in this second.
+    /// Starts the patience of a session that begins in this second.
     pub(crate) fn new(limits: PatienceLimits, standing: Standing, second: u64) -> Self
         ensures limits { result.limits ≡ limits }
         ensures standing { result.standing ≡ standing }
@@ -99,8 +99,8 @@ impl Patience {
         }
     }
 
-    /// A read came to this, by which the session stands so in this second. A silence has a limit of its own, and leaves this as
-    /// it is.
+    /// Notes a read's outcome, and the standing of the session after it in this second. A silence changes nothing here:
+    /// it has a limit of its own.
     pub(crate) fn note(&mut self, outcome: ReadOutcome, standing: Standing, second: u64)
         ensures { Notes outcome standing second self.old self.new }
     {
@@ -113,7 +113,7 @@ impl Patience {
         }
     }
 
-    /// Whether the session may go on: the last progress is not longer ago than its limit.
+    /// Returns whether the session may go on: its last progress is within the limit.
     pub(crate) fn holds(&self) -> bool
         ensures { IsTrue result ↔ HasPatience self.now }
     {

@@ -5,20 +5,21 @@ ghost use Rattle.uug_transfer.specs.declared.read_budget.TheConstants.{SILENCES_
 use crate::read_outcome::ReadOutcome;
 use uug_link::TIMEOUTS_MAX;
 
-/// So many bytes one read brings at most: a window of seven packets of 1,024 bytes at once.
+/// The maximum number of bytes per read: a window of seven packets of 1,024 bytes at once.
 pub const READ_MAX: usize = 8192;
 
-/// So many bytes are read of a session at most.
+/// The maximum number of bytes that a session reads.
 pub const BYTES_MAX: u64 = 1_099_511_627_776;
 
-/// So many silences in a row are waited for at most. An end has given up by itself before.
+/// The maximum number of silences in a row. The end itself gives up before.
 pub const SILENCES_MAX: u8 = TIMEOUTS_MAX + 1;
 
-/// So many writes in a row may take nothing. After the last one the line is taken for gone, as an end gives up at as many silent
-/// reads.
+/// The maximum number of writes in a row that take nothing. After the last one the line counts as gone, as an end gives
+/// up after as many silent reads.
 pub const STALLS_MAX: u8 = TIMEOUTS_MAX;
 
-/// How many writes more in a row may take nothing, where so many were left and one has taken so many bytes.
+/// Returns how many more writes in a row may take nothing, after a write that took `count` bytes. Before it, `left`
+/// were allowed.
 #[tactic(auto, using(crate::proofs::BudgetLemmas::one_fewer, crate::proofs::BudgetLemmas::all_again))]
 pub(crate) fn stalls_left(left: u8, count: usize) -> u8
     ensures { result ≡ stalls_left left count }
@@ -30,17 +31,17 @@ pub(crate) fn stalls_left(left: u8, count: usize) -> u8
     }
 }
 
-/// How much more an end reads, and how often it waits, before it takes the line for gone.
+/// What an end may still read, and how often it may still wait, before the line counts as gone.
 #[derive(Clone, Copy)]
 pub(crate) struct ReadBudget {
-    /// So many bytes more.
+    /// The number of bytes left to read.
     pub(crate) bytes: u64,
-    /// So many silences more in a row.
+    /// The number of silences in a row that are left.
     pub(crate) silences: u8,
 }
 
 impl ReadBudget {
-    /// For a session of so many bytes.
+    /// Creates the budget of a session of this many bytes.
     pub(crate) fn new(bytes: u64) -> Self
         ensures bytes { result.bytes ≡ bytes }
         ensures silences { result.silences ≡ SILENCES_MAX }
@@ -51,14 +52,14 @@ impl ReadBudget {
         }
     }
 
-    /// Whether there is any left.
+    /// Returns whether any budget is left.
     pub(crate) fn lasts(&self) -> bool
         ensures { IsTrue result ↔ Lasts self.now.bytes self.now.silences }
     {
         self.bytes > 0 && self.silences > 0
     }
 
-    /// How many bytes the next read may bring to a buffer of this size.
+    /// Returns how many bytes the next read may bring to a buffer of this size.
     pub(crate) fn room(&self, size: usize) -> usize
         requires bytes { 0 < self.now.bytes }
         requires size { 0 < size }
@@ -73,7 +74,7 @@ impl ReadBudget {
         }
     }
 
-    /// A read came to this.
+    /// Charges the budget for a read.
     pub(crate) fn spend(&mut self, outcome: ReadOutcome)
         ensures bytes { self.new.bytes ≡ bytes_left self.old.bytes outcome }
         ensures silences { self.new.silences ≡ silences_left self.old.silences outcome }

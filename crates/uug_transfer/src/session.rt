@@ -1,4 +1,4 @@
-//! One end stays at its line until its session is over.
+//! The session of one end at its line.
 ghost use Rattle.std.specs.Prelude.{◌≡◌, ◌≢◌, ◌<◌, ◌≤◌, ◌↔◌, [], length, IfOk, IsTrue, OnErr, OnOk};
 ghost use Rattle.uug_session.specs.Engine.{HasFailed, IsEnded};
 ghost use Rattle.uug_session.specs.NumberStanding.{KeepsNumber};
@@ -28,13 +28,13 @@ use std::alloc::{AllocError, Allocator};
 use uug_folder::{JobStore, TextFile};
 use uug_session::Spool;
 
-/// Lets an end write and read at its line until its session is over. It writes all that it has to write, and reads once:
-/// bytes come to it, and a silence is a timeout. After the line's end it is hung up, also where the line failed, memory
-/// ran out, so many bytes were read of it, it was silent for `SILENCES_MAX` reads in a row or took nothing
-/// for `STALLS_MAX` writes, or bytes came without progress for longer than the limits say. The line is told each time
-/// how far the session has come. What becomes of the end is on its disk before what it says of that is written: a job that is
-/// over is taken out of `jobs`, where it is told of each that has failed, and `number` has the number that the end keeps. Where that can't be done the end hangs up, and
-/// nothing more is written.
+/// Lets an end write and read at its line until its session is over. It writes all that it has, then reads once: it
+/// gets the bytes, or a timeout for a silence. The end is hung up at the line's end, if the line fails, or if memory
+/// runs out. The same happens after `most` bytes were read, `SILENCES_MAX` reads in a row were silent, or `STALLS_MAX`
+/// writes in a row took nothing. It also happens if bytes come without progress for longer than `limits`. The line is
+/// notified each time how far the session is. Results are on the end's disk before it writes about them. A finished job
+/// is removed from `jobs`, which gets a notice of each failed one, and `number` holds the number that the end keeps. If
+/// that fails the end hangs up, and nothing more is written.
 pub fn run_session<S, J, N, L, A>(
     alloc: A,
     buffered: &mut BufferedNode<S, A>,
@@ -105,7 +105,7 @@ where
     result
 }
 
-/// The turns themselves.
+/// Takes the turns of a session.
 #[tactic(auto, using(crate::proofs::BudgetLemmas::fewer_then))]
 fn take_turns<S, J, N, L, A>(
     alloc: A,
@@ -201,7 +201,7 @@ where
     Ok(())
 }
 
-/// Whether an end stays at its line.
+/// Returns whether an end stays at its line.
 fn stays(budget: &ReadBudget, patience: &Patience) -> bool
     ensures lasts { IsTrue result → Lasts budget.now.bytes budget.now.silences }
     ensures patient { IsTrue result → HasPatience patience.now }
@@ -211,15 +211,15 @@ fn stays(budget: &ReadBudget, patience: &Patience) -> bool
     budget.lasts() && patience.holds()
 }
 
-/// Whether something is left to write, at a line that is still waited for.
+/// Returns whether bytes are left to write, and the line may still stall.
 fn may_write(left: u8, bytes: &[u8]) -> bool
     ensures { IsTrue result ↔ ((0 < left) × (0 < length bytes.now)) }
 {
     left > 0 && !bytes.is_empty()
 }
 
-/// Writes all that there is to write: where all that has become of the end is on its disk, and not before. The answer is false
-/// where the line took nothing for `STALLS_MAX` writes in a row: the rest is left then.
+/// Writes all that there is to write. The end's results must be on its disk. Returns false if the line took nothing for
+/// `STALLS_MAX` writes in a row: the rest is left then.
 fn write_all<S: Spool + Drop, N: TextFile, L: EndLine, A: Allocator + Copy>(
     buffered: &mut BufferedNode<S, A>,
     line: &mut L,
@@ -252,8 +252,8 @@ fn write_all<S: Spool + Drop, N: TextFile, L: EndLine, A: Allocator + Copy>(
     Ok(buffered.outgoing().is_empty())
 }
 
-/// Tells an end whose session goes on what a read came to, and puts what becomes of it then on its disk: before anything that
-/// it has emitted by that is written to its line. What was struck is put there also where memory ran out.
+/// Passes a read's outcome to an end whose session goes on, then puts the results on its disk. Nothing that it emitted
+/// in reply is written to its line before that. Struck jobs are put there even if memory ran out.
 fn take_and_settle<S, J, N, A>(
     alloc: A,
     buffered: &mut BufferedNode<S, A>,
@@ -318,7 +318,7 @@ where
     on_disk
 }
 
-/// Tells an end whose session goes on what a read came to.
+/// Passes a read's outcome to an end whose session goes on.
 fn take_outcome<S: Spool + Drop, A: Allocator + Copy>(
     buffered: &mut BufferedNode<S, A>,
     outcome: ReadOutcome,

@@ -5,13 +5,13 @@ use crate::line::LineFailed;
 use std::alloc::AllocError;
 use thiserror::Error;
 
-/// Why an end has left its line before its session was over.
+/// The reason why an end left its line before its session was over.
 #[derive(Clone, Copy, Debug, PartialEq, Eq, Error)]
 pub enum SessionFault {
     /// The line failed.
     #[error("device fault")]
     Line,
-    /// What had become of its jobs could not be put where they stand.
+    /// The results of its jobs could not be stored.
     #[error("device fault")]
     Jobs,
     /// Its number could not be written.

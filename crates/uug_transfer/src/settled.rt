@@ -1,4 +1,4 @@
-//! What becomes of an end is put on its disk.
+//! Storing an end's results on its disk.
 ghost use Rattle.std.specs.Prelude.{◌≡◌, ◌≢◌, ◌≤◌, drop, length, IfErr, IfOk, OnErr, OnOk};
 ghost use Rattle.uug_session.specs.Engine.{HasFailed};
 ghost use Rattle.uug_folder.specs.NumberText.{HoldsNumber, IsNumberKept, holding_number};
@@ -15,19 +15,19 @@ use uug_folder::{JobStore, TextFile, number_line, write_notices};
 use uug_session::{Node, Queue, Spool};
 use uug_stream::ToolFault;
 
-/// How much of what became of an end is on its disk.
+/// The part of an end's results that is on its disk.
 #[derive(Clone, Copy)]
 pub(crate) struct Settled {
-    /// So many of its struck jobs are taken out of their store, the first ones.
+    /// The number of struck jobs that are removed from their store, the first ones.
     pub(crate) struck: usize,
-    /// So many of its failed jobs.
+    /// The number of failed jobs that are removed from their store, the first ones.
     pub(crate) failed: usize,
-    /// The number that its file has, if it keeps one.
+    /// The number in its file, if the end keeps one.
     pub(crate) number: Option<u32>,
 }
 
 impl Settled {
-    /// Nothing is to be taken out of a store, as the session begins. The number is written, if the end keeps one.
+    /// Starts with nothing to remove from a store, as the session begins. Writes the number, if the end keeps one.
     pub(crate) fn begin<N: TextFile, A: Allocator>(
         queue: &Queue<A>,
         number: Option<u32>,
@@ -52,8 +52,8 @@ impl Settled {
         })
     }
 
-    /// Takes the jobs out of their store that were struck or have failed since, and writes the number of the end, if it keeps
-    /// one and that is another now.
+    /// Removes the jobs that were struck or have failed since from their store. Writes the end's number, if it keeps
+    /// one and it has changed.
     pub(crate) fn put_on_disk<S: Spool, J: JobStore, N: TextFile, A: Allocator + Copy>(
         &mut self,
         alloc: A,
@@ -95,7 +95,7 @@ impl Settled {
         self.keep_number(node.number(), number)
     }
 
-    /// Takes the jobs out of their store that were struck or have failed since. Of the latter it is told why.
+    /// Removes the jobs that were struck or have failed since from their store. Each failed one gets a notice.
     fn settle_jobs<S: Spool, J: JobStore, A: Allocator + Copy, B: Allocator>(
         &mut self,
         alloc: A,
@@ -139,7 +139,7 @@ impl Settled {
         Ok(())
     }
 
-    /// Writes the number of an end, if it keeps one and that is another now.
+    /// Writes an end's number, if it keeps one and it has changed.
     fn keep_number<N: TextFile>(
         &mut self,
         number: Option<u32>,

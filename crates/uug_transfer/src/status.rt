@@ -1,18 +1,18 @@
 use uug_session::Phase;
 
-/// How far the session of an end has come.
+/// The state of an end's session, as a line or an observer sees it.
 #[derive(Clone, Copy, Debug, PartialEq, Eq)]
 pub struct SessionStatus {
-    /// Where the session stands.
+    /// The phase of the session.
     pub phase: Phase,
-    /// How many of its jobs are pending.
+    /// The number of its pending jobs.
     pub pending: usize,
-    /// How many of them are done.
+    /// The number of its jobs that are done.
     pub struck: usize,
-    /// How many of them were given up.
+    /// The number of its jobs that were given up.
     pub failed: usize,
-    /// How many messages were sent and not acknowledged.
+    /// The number of messages that were sent and not acknowledged.
     pub unacked: usize,
-    /// Whether the end has left its line: nothing is written or read any more.
+    /// Set if the end has left its line: nothing is written or read any more.
     pub is_over: bool,
 }

@@ -1,11 +1,12 @@
-/// What an end leaves out of what it has emitted, before that is written: as if a line had lost it.
+/// The emitted packets that an end leaves out before writing, as if a line had lost them.
 #[derive(Clone, Copy, Debug, PartialEq, Eq)]
 pub enum Thinning {
-    /// Nothing.
+    /// None.
     Nothing,
-    /// A data packet behind which the same goes out again, so that each goes out once, in the order in which it was sent last.
+    /// Data packets that go out again later. Each goes out once, in the order in which the packets were sent last.
     Repeats,
-    /// Such packets, and each RR right behind which two more stand, or a new data packet that acknowledges the same: so two
-    /// acknowledge what came at once, of which one may get lost, and none where something is said to it.
+    /// Those packets, and each RR that is directly followed by two more, or by a new data packet that acknowledges the
+    /// same. Two RRs then acknowledge what came at once, and one of them may get lost. None does if a data packet
+    /// acknowledges it.
     RepeatsAndAcks,
 }

@@ -5,7 +5,7 @@ use crate::line::LineFailed;
 use std::alloc::AllocError;
 use thiserror::Error;
 
-/// Why two ends could not go on.
+/// The reason why two ends could not go on.
 #[derive(Clone, Copy, Debug, PartialEq, Eq, Error)]
 pub enum TurnFault {
     /// The line failed.

@@ -1,4 +1,4 @@
-//! Two ends take turns at a line.
+//! Turns of two ends at a line.
 ghost use Rattle.std.specs.Prelude.{◌≡◌, ◌<◌, ◌≤◌, ◌↔◌, length, IsTrue, OnOk};
 ghost use Rattle.uug_session.specs.Engine.{HasFailed, IsEnded};
 ghost use Rattle.uug_transfer.specs.BufferedNodes.{node_in, spool_in, to_write, IsLate, IsLed, KeepsJobs};
@@ -10,10 +10,10 @@ use crate::turn_fault::TurnFault;
 use std::alloc::{AllocError, Allocator};
 use uug_session::{Side, Spool};
 
-/// Lets two ends take turns at a line until both sessions are over, and at most so many. In a turn the caller, and then
-/// the called end, writes what it has to write, as far as there is room, and takes all that is unread for it. Where
+/// Lets two ends take turns at a line until both sessions are over, or for `limit` turns. In a turn the caller, and
+/// then the called end, writes what it has to write, as far as there is room, and takes all that is unread for it. If
 /// nothing is unread and nothing is to be written, a turn is a timeout at each end. What both emit goes through the
-/// caller's injector. After the last turn the line is gone for both, also where it failed or memory ran out.
+/// caller's injector. After the last turn the line is gone for both, also if it failed or memory ran out.
 pub fn run_turns<S: Spool + Drop, T: Spool + Drop, L: Line, A: Allocator + Copy>(
     caller: &mut BufferedNode<S, A>,
     called: &mut BufferedNode<T, A>,
@@ -50,7 +50,7 @@ pub fn run_turns<S: Spool + Drop, T: Spool + Drop, L: Line, A: Allocator + Copy>
     result
 }
 
-/// The turns themselves.
+/// Takes the turns.
 fn take_turns<S: Spool + Drop, T: Spool + Drop, L: Line, A: Allocator + Copy>(
     caller: &mut BufferedNode<S, A>,
     called: &mut BufferedNode<T, A>,
@@ -89,7 +89,7 @@ fn take_turns<S: Spool + Drop, T: Spool + Drop, L: Line, A: Allocator + Copy>(
     Ok(())
 }
 
-/// One turn of both ends.
+/// Runs one turn of both ends.
 fn take_turn<S: Spool + Drop, T: Spool + Drop, L: Line, A: Allocator + Copy>(
     caller: &mut BufferedNode<S, A>,
     called: &mut BufferedNode<T, A>,
@@ -133,7 +133,7 @@ fn take_turn<S: Spool + Drop, T: Spool + Drop, L: Line, A: Allocator + Copy>(
     move_end_with(caller, called, line, Side::Called, buffer)
 }
 
-/// A timeout of an end that has the injector of another for so long.
+/// Passes an end a timeout while it has the injector of another.
 fn time_out_with<S: Spool + Drop, T: Spool + Drop, A: Allocator + Copy>(
     owner: &mut BufferedNode<S, A>,
     buffered: &mut BufferedNode<T, A>,
@@ -156,7 +156,7 @@ fn time_out_with<S: Spool + Drop, T: Spool + Drop, A: Allocator + Copy>(
     late
 }
 
-/// An end moves that has the injector of another for so long.
+/// Moves an end while it has the injector of another.
 fn move_end_with<S: Spool + Drop, T: Spool + Drop, L: Line, A: Allocator + Copy>(
     owner: &mut BufferedNode<S, A>,
     buffered: &mut BufferedNode<T, A>,
@@ -188,7 +188,7 @@ fn move_end_with<S: Spool + Drop, T: Spool + Drop, L: Line, A: Allocator + Copy>
     moved
 }
 
-/// Whether nothing is unread and nothing is to be written.
+/// Returns whether nothing is unread and nothing is to be written.
 fn is_quiet<L: Line>(from_caller: &[u8], from_called: &[u8], line: &L) -> bool
     ensures quiet { IsTrue result ↔ IsQuiet (L.unread line.now) from_caller.now from_called.now }
 {
@@ -198,7 +198,7 @@ fn is_quiet<L: Line>(from_caller: &[u8], from_called: &[u8], line: &L) -> bool
         && line.unread(Side::Called) == 0
 }
 
-/// An end writes what it may, and takes what is unread for it.
+/// Lets an end write what it may, and take what is unread for it.
 fn move_end<S: Spool + Drop, L: Line, A: Allocator + Copy>(
     buffered: &mut BufferedNode<S, A>,
     line: &mut L,
@@ -229,8 +229,8 @@ fn move_end<S: Spool + Drop, L: Line, A: Allocator + Copy>(
     take_unread(buffered, line, side, buffer)
 }
 
-/// Writes as much as there is room for, in one write: each write costs a socket room of its own, so that many small ones
-/// could wait where one does not.
+/// Writes as much as there is room for, in one write. Each write takes up extra room in a socket, and many small ones
+/// could block where one does not.
 fn write_some<S: Spool + Drop, L: Line, A: Allocator + Copy>(
     buffered: &mut BufferedNode<S, A>,
     line: &mut L,

@@ -1,4 +1,4 @@
-//! Which of the entries of an outbox are left out before they are written.
+//! The entries of an outbox that are left out before writing.
 ghost use Rattle.std.specs.Prelude.{◌≡◌, ◌+◌, ◌<◌, ◌&&◌, ◌||◌, drop, length};
 ghost use Rattle.std.specs.List.{list_any};
 ghost use Rattle.uug_link.specs.Entries.{shown_entry};
@@ -11,7 +11,7 @@ use std::alloc::Allocator;
 use uug_link::{Entry, Outbox};
 use uug_packet::{Control, HEADER_SIZE, Packet, decode};
 
-/// Whether the entry at a place is left out.
+/// Returns whether the entry at a place is left out.
 pub(crate) fn is_left_out<A: Allocator>(thinning: Thinning, outbox: &Outbox<A>, i: usize) -> bool
     requires { i < length outbox.now.entries }
     ensures { result ≡ is_left_out_at thinning outbox.now.entries i }
@@ -23,7 +23,7 @@ pub(crate) fn is_left_out<A: Allocator>(thinning: Thinning, outbox: &Outbox<A>, 
     }
 }
 
-/// Whether the entry at a place is a data packet behind which the same goes out again.
+/// Returns whether the entry at a place is a data packet that goes out again after it.
 fn is_repeated<A: Allocator>(outbox: &Outbox<A>, i: usize) -> bool
     requires { i < length outbox.now.entries }
     ensures { result ≡ is_repeated_of (drop i outbox.now.entries) }
@@ -36,7 +36,7 @@ fn is_repeated<A: Allocator>(outbox: &Outbox<A>, i: usize) -> bool
     }
 }
 
-/// Whether a packet of these bytes goes out again behind this place.
+/// Returns whether a packet of these bytes goes out again after this place.
 fn goes_out_again<A: Allocator>(outbox: &Outbox<A>, i: usize, packet: &[u8]) -> bool
     requires { i < length outbox.now.entries }
     ensures { result ≡ list_any (is_sent_again packet.now) (drop (i + 1) outbox.now.entries) }
@@ -50,7 +50,7 @@ fn goes_out_again<A: Allocator>(outbox: &Outbox<A>, i: usize, packet: &[u8]) -> 
     false
 }
 
-/// Whether the entry at a place is an RR, and those right behind it say as much.
+/// Returns whether the entry at a place is an RR, and those directly after it say as much.
 fn is_covered<A: Allocator>(outbox: &Outbox<A>, i: usize) -> bool
     requires { i < length outbox.now.entries }
     ensures { result ≡ is_covered_of (drop i outbox.now.entries) }
@@ -65,7 +65,7 @@ fn is_covered<A: Allocator>(outbox: &Outbox<A>, i: usize) -> bool
     is_said_by_two(outbox.entry(i), outbox.entry(i + 1), outbox.entry(i + 2))
 }
 
-/// Whether an entry is an RR, and the next one says as much.
+/// Returns whether an entry is an RR, and the next one says as much.
 fn is_said_by_one(entry: Entry<'_>, next: Entry<'_>) -> bool
     ensures { result ≡ (is_rr (shown_entry entry.entry)
         && is_said_by (shown_entry entry.entry) (shown_entry next.entry)) }
@@ -73,7 +73,7 @@ fn is_said_by_one(entry: Entry<'_>, next: Entry<'_>) -> bool
     is_rr(entry) && is_said_by(entry, next)
 }
 
-/// Whether an entry is an RR, and the next two say as much.
+/// Returns whether an entry is an RR, and the next two say as much.
 fn is_said_by_two(entry: Entry<'_>, next: Entry<'_>, last: Entry<'_>) -> bool
     ensures { result ≡ (is_rr (shown_entry entry.entry)
         && (is_said_by (shown_entry entry.entry) (shown_entry next.entry)
@@ -84,7 +84,7 @@ fn is_said_by_two(entry: Entry<'_>, next: Entry<'_>, last: Entry<'_>) -> bool
         && (is_said_by(entry, next) || is_rr(next) && (is_rr(last) || is_said_by(next, last)))
 }
 
-/// Whether an entry is a header alone, and a new data packet acknowledges the same.
+/// Returns whether an entry is a header alone, and the next is a new data packet that acknowledges the same.
 fn is_said_by(entry: Entry<'_>, carrier: Entry<'_>) -> bool
     ensures { result ≡ is_said_by (shown_entry entry.entry) (shown_entry carrier.entry) }
 {
@@ -94,7 +94,7 @@ fn is_said_by(entry: Entry<'_>, carrier: Entry<'_>) -> bool
     }
 }
 
-/// Whether an entry is a new data packet that acknowledges the same as this header.
+/// Returns whether an entry is a new data packet that acknowledges the same as this header.
 fn acknowledges(carrier: Entry<'_>, header: &[u8]) -> bool
     requires { length header.now ≡ HEADER_SIZE }
     ensures { result ≡ acknowledges header.now (shown_entry carrier.entry) }
@@ -107,7 +107,7 @@ fn acknowledges(carrier: Entry<'_>, header: &[u8]) -> bool
     }
 }
 
-/// Whether an entry is a packet of these bytes that was sent before.
+/// Returns whether an entry is a packet of these bytes that was sent before.
 fn is_sent_again(entry: Entry<'_>, packet: &[u8]) -> bool
     ensures { result ≡ is_sent_again packet.now (shown_entry entry.entry) }
 {
@@ -117,7 +117,7 @@ fn is_sent_again(entry: Entry<'_>, packet: &[u8]) -> bool
     }
 }
 
-/// Whether an entry is an RR.
+/// Returns whether an entry is an RR.
 fn is_rr(entry: Entry<'_>) -> bool
     ensures { result ≡ is_rr (shown_entry entry.entry) }
 {
@@ -127,7 +127,7 @@ fn is_rr(entry: Entry<'_>) -> bool
     }
 }
 
-/// Whether these bytes begin with an RR.
+/// Returns whether these bytes begin with an RR.
 fn is_read_as_rr(bytes: &[u8]) -> bool
     ensures { result ≡ is_read_as_rr (decoded bytes.now) }
 {
