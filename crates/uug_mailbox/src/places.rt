@@ -123,7 +123,10 @@ impl<A: Allocator> PublicFolder<A> {
             return None;
         };
         let is_there = has_name(self.folders.as_slice(), folder.as_bytes());
-        if is_there && is_public_last(last.as_bytes()) && !has_name(self.barred.as_slice(), name.as_bytes()) {
+        if is_there
+            && is_public_last(last.as_bytes())
+            && !has_name(self.barred.as_slice(), name.as_bytes())
+        {
             Some(Spot {
                 room: Room::Public,
                 name: *name,

@@ -78,12 +78,7 @@ fn take_pieces(rt: &impl Abort, reader: &mut Reader<Global>) {
 }
 
 /// Pushes a byte. Asserts that nothing is found, and how many bytes then wait.
-fn take_byte<A: Allocator>(
-    rt: &impl Abort,
-    reader: &mut Reader<A>,
-    byte: u8,
-    waiting: usize,
-) {
+fn take_byte<A: Allocator>(rt: &impl Abort, reader: &mut Reader<A>, byte: u8, waiting: usize) {
     take_piece(rt, reader, &[byte], &[], waiting);
 }
 
