@@ -1,4 +1,4 @@
-//! One end or both are run, with what is said beside their report, and the log.
+//! Runs of one end or both, with their messages beside the report, and the log.
 ghost use Rattle.std.specs.Prelude.{◌≡◌, ◌≤◌, IfOk, IfSome, IsSome};
 ghost use Rattle.uug_stop.specs.declared.of_end.TheConstants.{LOG};
 ghost use Rattle.uug_stream.specs.Streams.{CountsFault};
@@ -55,7 +55,7 @@ where
     answer
 }
 
-/// Appends what is wrong with the jobs of this folder, where a line of them is the fault. What can't be said is left out.
+/// Appends what is wrong with the jobs of this folder, if a line of them is the fault. What can't be said is left out.
 fn remark_jobs<R: Files + AllocGlobal>(
     rt: &R,
     dir: &str,
@@ -69,15 +69,15 @@ fn remark_jobs<R: Files + AllocGlobal>(
     }
 }
 
-/// What is wrong with this line of the jobs of this folder, which are read again.
+/// Returns what is wrong with this line of the jobs of this folder, which are read again.
 fn read_remark<R: Files + AllocGlobal>(rt: &R, dir: &str, line: usize) -> io::Result<String> {
     let path = format!(in rt.alloc(); "{dir}/jobs")?;
     let text = fs::read(rt, path.as_str())?;
     Ok(jobs_remark(rt.alloc(), dir, text.as_slice(), line)?)
 }
 
-/// Runs one end, and says on standard error how it stands where that is asked for. Its report goes to the file that is named,
-/// else to the output, or where the standard streams are its line to standard error.
+/// Runs one end, and reports its state on standard error if that is asked for. Its report goes to the file that is
+/// named, else to the output, or to standard error if the standard streams are its line.
 pub fn do_call<R, O>(
     rt: &R,
     call: &CallTask<'_>,
@@ -119,8 +119,8 @@ where
     }
 }
 
-/// Returns which file that one end is to write is a named pipe, where it may be run: its report, its log, or the statistics. None of them is
-/// opened then, since that might wait for a reader.
+/// Returns the failure of one end that may be run, if its report, its log, or the statistics is a named pipe. None of
+/// them is opened then, since that might wait for a reader.
 fn pipe_of<R: Files + AllocGlobal>(
     rt: &R,
     call: &CallTask<'_>,
@@ -134,7 +134,7 @@ fn pipe_of<R: Files + AllocGlobal>(
     Ok(report.or(log).or(stats))
 }
 
-/// That the output of this number, which is at this path, is a named pipe, if it is one.
+/// Returns the failure that the output of this number, which is at this path, is a named pipe, if it is one.
 fn pipe_at<R: Files + AllocGlobal>(
     rt: &R,
     path: Option<&str>,
@@ -155,7 +155,7 @@ fn pipe_at<R: Files + AllocGlobal>(
     }))
 }
 
-/// The same, where the report goes to the file of this path.
+/// Does the same, with its report to the file of this path.
 fn do_call_reporting<R>(
     rt: &R,
     call: &CallTask<'_>,
@@ -194,7 +194,7 @@ where
     }
 }
 
-/// The same, where the report goes to this output.
+/// Does the same, with its report to this output.
 fn do_call_over<R, O>(
     rt: &R,
     call: &CallTask<'_>,
@@ -242,8 +242,8 @@ where
     answer
 }
 
-/// The log of one end, where one is named, and the end may be run. The line of its call is in it. An end over a spool writes to
-/// its log itself: it knows who calls.
+/// Opens the log of one end, if one is named, and the end may be run. The line of its call is in it. An end over a
+/// spool writes its log itself: it knows who calls.
 fn open_log<'a, R>(rt: &'a R, call: &CallTask<'a>) -> io::Result<Option<SessionLog<'a, R, Global>>>
 where
     R: Files<File = File> + Env + Clock + AllocGlobal,
@@ -262,7 +262,7 @@ where
     Ok(Some(log))
 }
 
-/// That the file of a log can't be opened.
+/// Returns the failure that the file of a log can't be opened.
 fn failure_of_log(error: &io::Error) -> SystemFailure
     ensures end { result.end ≡ LOG }
     ensures resource { result.resource ≡ Resource.Output }
@@ -274,7 +274,7 @@ fn failure_of_log(error: &io::Error) -> SystemFailure
     }
 }
 
-/// Has in the log, where there is one, why one end gave up. What can't be written is left out.
+/// Logs why one end gave up, if there is a log. What can't be written is left out.
 fn log_fault<R>(
     rt: &R,
     call: &CallTask<'_>,
@@ -299,7 +299,7 @@ where
     }
 }
 
-/// Why one end gave up, for its log.
+/// Returns why one end gave up, for its log.
 fn fault_text(
     alloc: Global,
     call: &CallTask<'_>,

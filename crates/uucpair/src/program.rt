@@ -1,4 +1,4 @@
-//! What the program does, from its command line to its status.
+//! The program, from its command line to its status.
 ghost use Rattle.std.specs.Prelude.{◌≡◌, IfOk, OnOk, map, string_bytes};
 ghost use Rattle.uug_input.specs.Inputs.{streams};
 ghost use Rattle.uug_stream.specs.Streams.{Appends};
@@ -35,7 +35,7 @@ fn show_version<O: Output>(alloc: Global, output: &mut O) -> Result<u8, ToolFaul
     Ok(0)
 }
 
-/// Does a task, and gives the program's status.
+/// Does a task, and returns the program's status.
 fn do_task<R, I, O>(
     rt: &R,
     task: Task<'_>,
@@ -75,11 +75,11 @@ where
     do_on(rt, over, file, input, output, remark, why)
 }
 
-/// Says that standard input is read, where somebody sits before it, or at which line a call is waited for.
+/// Says that standard input is read, if somebody sits before it, or at which line a call is waited for.
 fn greet<R: Eprint + AllocGlobal>(rt: &R, task: Task<'_>, terminals: Terminals) {
     match task {
         Task::Call(call) if terminals.errors && call.side == Side::Called => {
-            // What there is no memory for is left out.
+            // A message for which there is no memory is left out.
             let _ = say_waiting(rt, &call);
         }
         Task::Scan(None)
@@ -95,7 +95,7 @@ fn greet<R: Eprint + AllocGlobal>(rt: &R, task: Task<'_>, terminals: Terminals) 
     }
 }
 
-/// Says at which line an end waits to be called, where it may be run and its line is not the terminal's own.
+/// Says at which line an end waits to be called, if it may be run and its line is not the terminal's own.
 fn say_waiting<R: Eprint + AllocGlobal>(rt: &R, call: &CallTask<'_>) -> Result<(), AllocError> {
     if call.line == "-" || !call.may_run() {
         return Ok(());
@@ -107,15 +107,15 @@ fn say_waiting<R: Eprint + AllocGlobal>(rt: &R, call: &CallTask<'_>) -> Result<(
     Ok(())
 }
 
-/// Says what is remarked of a task that was done.
+/// Prints the remark on a task that was done.
 fn tell(rt: &impl Eprint, answer: Result<u8, ToolFault>, remark: &str) {
     if answer.is_ok() && !remark.is_empty() {
         let _ = eprint!(rt; "{remark}");
     }
 }
 
-/// Does what the words of a command line ask for, the name of the program first, and gives the program's status.
-/// Somebody who sits before standard input is told where it is read.
+/// Does what the words of a command line ask for, the name of the program first, and returns the program's status.
+/// Somebody who sits before standard input gets a message when it is read.
 pub fn perform<R, S, I, O>(
     rt: &R,
     words: &[S],

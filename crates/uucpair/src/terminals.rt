@@ -1,8 +1,8 @@
-/// Which of the program's streams are terminals.
+/// The streams of the program that are terminals.
 #[derive(Clone, Copy, Debug, PartialEq, Eq)]
 pub struct Terminals {
-    /// Standard input.
+    /// Set if standard input is one.
     pub input: bool,
-    /// Standard error.
+    /// Set if standard error is one.
     pub errors: bool,
 }

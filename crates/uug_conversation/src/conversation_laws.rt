@@ -26,7 +26,7 @@ pub fn each_job_is_offered_once()
         → commands_of Caller (conversation a b) ≡ offered a.holdings a.jobs ++ HangUp ∷ [] }
     ensures called { (a b : Party)
         → commands_of Called (conversation a b) ≡ until_hang_up (offered b.holdings b.jobs) }
-    // what a master chooses next is the first of it
+    // a master's next command is the first of these
     ensures next { (h : Holdings) (jobs : List Job)
         → (choice h jobs).next ≡ first_of (offered h jobs) }
 {}
@@ -54,14 +54,15 @@ pub fn entries_are_asked_for()
 /// States that each job of an end is in exactly one list, as often as it was given. Each list has its jobs in the
 /// order in which they were given.
 pub fn jobs_are_in_one_list()
-    // whatever the other end says, and in whatever order the end sends and takes; those that it has brought are of them
+    // whatever the other end says, and in whatever order the end sends and takes; jobs of earlier sessions are among
+    // them
     ensures always { (me : Side) (p : Party) (struck failed : List Job) (kept : List Kept) (acts : List Act)
         → let l = (after_acts p.holdings (link_up me p struck failed kept) acts).talk.machine.lists in
         AreShared ((struck ++ failed) ++ p.jobs) (pending l) l.struck l.failed }
     // and in a conversation
     ensures told { (me : Side) (a b : Party) (k : ℕ) → let jobs = (party me a b).jobs in
         let l = lists_after me a b k in AreShared jobs (pending l) l.struck l.failed }
-    // so what holds of all jobs, as that their names are names, holds of all jobs of each list
+    // so a property of all jobs, such as that their names are names, holds for all jobs of each list
     ensures names { (jobs pending struck failed : List Job) → AreShared jobs pending struck failed
         → All HasNames jobs
         → All HasNames pending × All HasNames struck × All HasNames failed }

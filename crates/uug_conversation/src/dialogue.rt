@@ -116,7 +116,7 @@ impl<A: Allocator + Copy> Dialogue<A> {
 
     /// Opens the conversation after the link has come up. A message has at most `size` bytes. If `short` is set, the
     /// last message of a command or an answer ends with its zero byte.
-    // Once a session: apart, so that a packet makes no room for what this brings to be said.
+    // A separate call, made once a session, so that a packet reserves no room for what this causes to be said.
     #[inline(never)]
     pub fn open<S: Spool>(&mut self, side: Side, spool: &S, size: usize, short: bool)
         requires room { SAYINGS_MAX ≤ self.old.outgoing.room }

@@ -96,7 +96,7 @@ pub fn lenient_is_a_setting()
 /// States that a file kept by an end has the digest that was announced for it, if any, whatever the end receives. The
 /// announced digest was read from the command or the answer that was taken.
 pub fn kept_files_fit()
-    // What fits is told of exactly these bytes.
+    // A file fits an announced digest exactly if it is the digest of its bytes.
     ensures fits { (told : FileDigest) (bytes : List ℕ)
         → (fits (Some told) bytes ≡ true) ↔ (told ≡ digest_of bytes) }
     ensures kept { (h : Holdings) (s : State) (message : List ℕ) (told : FileDigest)
@@ -139,7 +139,7 @@ pub fn an_end_with_all_settings_off_goes_by_the_plain_table()
     ensures replies { (h : Holdings) (none_waits : Bool) (s : State) (message : List ℕ)
         → AreOff h → awaits_plainly s.awaits ≡ true
         → reply_to h none_waits s message ≡ plain_reply_to h none_waits s message }
-    // It keeps to that table: whatever it awaits then is one of its states.
+    // It stays in that table: the state that follows is one of the table's.
     ensures first { (side : Side) (h : Holdings) (l : Lists)
         → awaits_plainly (plain_opening side h l).state.awaits ≡ true }
     ensures stays { (h : Holdings) (none_waits : Bool) (s : State) (message : List ℕ)

@@ -82,7 +82,7 @@ impl<A: Allocator> Outgoing<A> {
         requires sayable { All IsSayable (sayings_of says) }
         ensures sayings { self.new.sayings ≡ self.old.sayings ++ sayings_of says }
         ensures offset { self.new.offset ≡ self.old.offset }
-        // The first text is not sent further than its end, and where nothing was to be said, nothing of it.
+        // The bytes sent of a first text lie within it. If nothing was to be said, none was sent.
         ensures within { IsWithin self.old.sayings self.old.offset }
     {
         match says {

@@ -39,7 +39,7 @@ pub fn own_entries_of_sessions()
         → OwnEntries h others later_jobs later_givers later_receivers later_entries
         → OwnEntries h others (jobs ++ later_jobs) (givers ++ later_givers) (receivers ++ later_receivers)
         (entries ++ later_entries) }
-    // Of the giver's jobs it matters only that those with an entry are among them.
+    // The giver's jobs matter only in that those with an entry are among them.
     ensures more_jobs { (h others : Holdings) (jobs more givers receivers : List Job) (entries : List Kept)
         → ((job : Job) → Contains jobs job → Contains more job)
         → OwnEntries h others jobs givers receivers entries → OwnEntries h others more givers receivers entries }

@@ -189,7 +189,7 @@ pub(crate) fn on_file<A: Allocator, S: Spool>(
         ≡ S.kept spool.old ++ (on_file (S.holdings spool.old) awaits bytes.now queue.old).keeps) }
     ensures jobs_stay { OnErr result (queue.new ≡ queue.old) }
     ensures none_kept { OnErr result (S.kept spool.new ≡ S.kept spool.old) }
-    // The spool was asked only where a file is awaited that this one fits, and that can be put in its place.
+    // The spool was asked only if a file is awaited, this one fits it, and it can be put in its place.
     ensures only { OnErr result
         (MayBeKept (S.holdings spool.old)
         (file_awaited (S.holdings spool.old) awaits queue.old.ahead) bytes.now) }

@@ -20,9 +20,9 @@ pub const TELLING_MAX: usize = 1_152;
 pub fn order_telling(order: &Order, told: &FileDigest) -> ArrayVec<u8, TELLING_MAX>
     requires { HasMode order.now }
     ensures text { result.items ≡ order_telling_text order.now told.now }
-    // It is read as the command, whether that is looked at or not.
+    // It is read as the command, whether the digest is read or not.
     ensures order { ReadsOrder result.items order.now }
-    // It tells that.
+    // It announces this digest.
     ensures told { IsSend order.now → told_by_order result.items ≡ Some told.now }
     // It may be cut into messages.
     ensures command { IsCommandText result.items }
@@ -34,9 +34,9 @@ pub fn order_telling(order: &Order, told: &FileDigest) -> ArrayVec<u8, TELLING_M
 pub fn give_telling(mode: u16, told: &FileDigest) -> ArrayVec<u8, TELLING_MAX>
     requires { mode ≤ MODE_MAX }
     ensures text { result.items ≡ give_telling_text mode told.now }
-    // It is read as that answer, whether that is looked at or not.
+    // It is read as that answer, whether the digest is read or not.
     ensures answer { ReadsAnswer result.items (GiveYes mode) }
-    // It tells that.
+    // It announces this digest.
     ensures told { told_by_answer result.items ≡ Some told.now }
     // It may be cut into messages.
     ensures command { IsCommandText result.items }

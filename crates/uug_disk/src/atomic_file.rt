@@ -37,9 +37,9 @@ pub(crate) fn replace_file<'b, R: Files, A: Allocator>(
 
 /// Does the same while others append to the file at `path`. What that file has after `read_len` bytes stays after the
 /// new ones. The new file gets its mode and its owner, as far as the system permits. The old file is locked during
-/// that: a process that holds its lock appends to a file that stays in its place. Bytes that are appended without the
-/// lock are looked for once the new file is in its place, and again once the folder is on disk, since a process that
-/// has opened the old file still writes there.
+/// that: a process that holds its lock appends to a file that stays in its place. A process that has opened the old
+/// file may still append to it without the lock. These bytes are looked for once the new file is in its place, and
+/// again once the folder is on disk.
 pub(crate) fn replace_appended<'b, R: Files<File = File>, A: Allocator>(
     rt: &R,
     part: &mut PartPath<A>,

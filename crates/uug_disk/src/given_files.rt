@@ -18,7 +18,7 @@ use uug_folder::local_source;
 use uug_session::{Job, Stored};
 use uug_talk::Name;
 
-/// The maximum number of files given by an end that none of its offered jobs sends.
+/// The maximum number of files that an end gives beside those of its offered jobs.
 pub const OTHERS_MAX: usize = 256;
 
 /// The files that an end gives in a session, and the number of jobs that it offers.

@@ -148,8 +148,9 @@ impl<A: Allocator> Copied<A> {
 }
 
 /// Puts a copy with these bytes into `send`, under this name or the first with a number that is free. A name is free if
-/// no file has it there or with those of failed jobs, and none of the jobs does that wait or that the text `failed`
-/// lists. None of these is thus ever sent this file. Nothing is overwritten, and an incomplete file has another name.
+/// no file there, or with those of failed jobs, has it. No job that waits may have it either, nor one that the text
+/// `failed` lists. None of these is thus ever sent this file. Nothing is overwritten, and an incomplete file has
+/// another name.
 pub(crate) fn place_copy<A: Allocator + Copy, R: Files + Alloc + Clone + Drop>(
     alloc: A,
     rt: &R,

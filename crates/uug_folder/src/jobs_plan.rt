@@ -44,7 +44,7 @@ impl<A: Allocator + Copy> JobsPlan<A> {
 }
 
 impl<A: Allocator> JobsPlan<A> {
-    /// Carries out the plan.
+    /// Carries out the plan on the file.
     pub fn carry_out<J: TextFile>(&self, file: &mut J) -> Result<(), FolderFailed>
         ensures ok { OnOk result (J.text file.new ≡ carried self.now (J.text file.old)) }
         ensures feasible { OnOk result (IsFeasible self.now) }

@@ -20,7 +20,7 @@ pub fn written_jobs_are_read()
         → jobs_of (jobs_text jobs) ≡ Ok jobs }
 {}
 
-/// States that of some jobs that are over each is removed once, and each other job is left as often as before.
+/// States that each job that is over is removed once, and every other job is left as often as before.
 pub fn each_job_is_taken_out_once()
     ensures { (over jobs : List Job) (job : Job)
         → times job (jobs_left over jobs) ≡ times job jobs - times job over }
@@ -32,8 +32,8 @@ pub fn the_jobs_that_were_read_stand_there()
         → Holds (open_in (Some text)) (pending queue) }
 {}
 
-/// States that a text of jobs with the line appended for one more says that job too, after the others. They must be
-/// fewer than may be pending, and the job must have names and not the name of a copy.
+/// States that a text of jobs, with the line of one more job appended, says that job too, after the others. They must
+/// be fewer than may be pending, and the job must have names and not the name of a copy.
 pub fn what_is_queued_is_read()
     ensures { (text : List ℕ) → (jobs : List Job) → (job : Job) → jobs_of text ≡ Ok jobs
         → length jobs < JOBS_MAX → IsPlainJob job

@@ -1,4 +1,4 @@
-//! A task with an input is done: with standard input, or with a file.
+//! Tasks with an input: with standard input, or with a file.
 ghost use Rattle.std.specs.Prelude.{IfErr, string_bytes};
 ghost use Rattle.uug_scan.specs.Scan.{IsScanFault};
 ghost use Rattle.uug_input.specs.Inputs.{DoesOn, DoesOver, IsFaultOf, Scans, ScansVerbose, streams};
@@ -40,7 +40,7 @@ where
     Ok(0)
 }
 
-/// Opens a file as an input, or says why that failed.
+/// Opens a file as an input, or returns why that failed.
 fn open<R: Files>(rt: &R, path: &str) -> Result<SystemInput<R::File>, SystemFailure> {
     match File::open(rt, path) {
         Ok(file) => Ok(SystemInput::new(file)),
@@ -73,7 +73,7 @@ where
     }
 }
 
-/// Does a task with the file of this name, or with the input where none is named.
+/// Does a task with the file of this name, or with the input if none is named.
 pub fn do_on<R, I, O>(
     rt: &R,
     task: InputTask,

@@ -1,7 +1,7 @@
-//! What is done with an input, whether it is standard input or a file.
+//! The tasks with an input, which is standard input or a file.
 use uug_ladder::Drawn;
 
-/// What is done with an input.
+/// A task with an input.
 #[derive(Clone, Copy, Debug, PartialEq, Eq)]
 pub enum InputTask {
     /// Its packets are listed.
@@ -10,10 +10,10 @@ pub enum InputTask {
     ScanVerbose,
     /// The script in it is played.
     Play,
-    /// The same, with a remark on its jobs, or where it is bad.
+    /// The script is played, with a remark on its jobs, or on the script if it is bad.
     PlayVerbose,
-    /// The same, and what the run settles to.
+    /// The script is played, with what the run settles to.
     PlaySettled,
-    /// The same, with a picture of its sessions.
+    /// The script is played, with a picture of its sessions.
     PlayDrawn(Drawn),
 }

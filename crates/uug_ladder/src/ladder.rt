@@ -5,7 +5,7 @@ use crate::rung::{Fate, Rung, What};
 use std::alloc::{AllocError, Allocator};
 use uug_line::Side;
 
-/// The events in the sessions of a script, at both ends.
+/// The occurrences in the sessions of a script.
 #[derive(Drop)]
 pub struct Ladder<A: Allocator> {
     /// The rungs, in order.

@@ -100,10 +100,11 @@ fn show<A: Allocator + Copy>(alloc: A, script: &[u8], how: Drawn) -> Result<Play
 }
 
 /// Reads the input to its end as a script, plays it, and writes the report and then the ladder, or the picture of the
-/// ladder alone. Returns the program's status, as `play_stream` does. Nothing is written before all was played.
+/// ladder alone. Returns the program's status, as `play_stream` does, or the first error. Nothing is written before all
+/// was played.
 ///
-/// A picture of more than `ROWS_MAX` rungs is the error `Usage`. Of two faults, the one that the work meets first is
-/// returned. If a write failed, or memory ran out in writing, a front of what is shown was written.
+/// A picture of more than `ROWS_MAX` rungs is the error `Usage`. If a write failed, or memory ran out in writing, a
+/// front part of what is shown was written.
 pub fn play_ladder<A: Allocator + Copy, I: Input, O: Output>(
     alloc: A,
     input: &mut I,

@@ -13,7 +13,7 @@ pub enum Fate {
     Lost(usize),
 }
 
-/// The event at an end.
+/// An occurrence at an end.
 #[derive(Drop)]
 pub enum What<A: Allocator> {
     /// The session of this number, counted from 1, begins.
@@ -46,10 +46,10 @@ pub enum What<A: Allocator> {
 /// A step of a ladder.
 #[derive(Drop)]
 pub struct Rung<A: Allocator> {
-    /// The number of the line's event, counted from 0; `None` before the first one.
+    /// The event at which it occurs, counted from 0; `None` before the first one.
     pub event: Option<usize>,
     /// The end; if a session begins, the one that calls.
     pub side: Side,
-    /// The event at the end.
+    /// The occurrence.
     pub what: What<A>,
 }

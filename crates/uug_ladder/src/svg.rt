@@ -121,7 +121,7 @@ fn add_head<A: Allocator>(text: &mut String<A>, height: usize) -> Result<(), All
     add_line(text, (580, 30), (580, height), "")
 }
 
-/// Returns the height at which a row is drawn.
+/// Returns the y coordinate of a row.
 fn row_y(row: usize) -> usize
     requires { row ≤ ROWS_MAX }
     ensures { result ≡ row_y row }

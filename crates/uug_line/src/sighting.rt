@@ -14,7 +14,7 @@ use uug_session::{Item, MemorySpool, Node};
 /// The next item that an end has found in the bytes that arrived.
 #[derive(Clone, Copy)]
 pub(crate) enum Sighting {
-    /// No complete item.
+    /// The bytes have no complete item.
     Nothing,
     /// A text, or a broken packet.
     Other,

@@ -30,9 +30,8 @@ pub fn a_run_is_the_world()
         → report_of_ends setup events ≡ report_of_world setup events }
 {}
 
-/// States the headline. In every session each end has taken a front of the messages that the other sent, and no end
-/// ever has more unacknowledged packets than the other announced. A job is struck only after its exact bytes were
-/// stored.
+/// States the headline. In every session each end has taken the first messages that the other sent, and no end ever has
+/// more unacknowledged packets than the other announced. A job is struck only after its exact bytes were stored.
 pub fn the_headline()
     ensures front { (setup : SetupValue) (events : List Event) → IsSoundSetup setup
         → AllTookFronts (report_of_ends setup events) }

@@ -37,18 +37,18 @@ pub fn limits()
 pub fn what_a_link_answers()
     // Up comes from INITC alone, Taken from a data packet, Closed from CLOSE, GaveUp from a timeout.
     ensures answers { (s : State) (e : Event) → MayAnswer (step s e).outcome e }
-    // The answer to a packet, a broken one or a timeout tells how the phase moves: Up, GaveUp and Closed say that the
+    // The answer to a packet, a broken one or a timeout says how the phase moves: Up, GaveUp and Closed say that the
     // link has come up or has ended, and no other answer does.
     ensures phases { (s : State) (e : Event) → IsComing e
         → MovesPhase (step s e).outcome s.phase (step s e).state.phase }
-    // How the calls move it.
+    // The calls move the phase.
     ensures begins { (s : State) → IsFresh s → (step s to_begin).state.phase ≡ AwaitsInitA }
     ensures sends { (s : State) (message : List ℕ) → IsUp s
         → (step s (to_send message)).state.phase ≡ Up }
     ensures closes { (s : State) → IsUp s → (step s to_close).state.phase ≡ Closing }
-    // A link that has ended answers Halted from then on, and emits and changes nothing.
+    // A link that has ended answers Halted from then on. It emits and changes nothing.
     ensures ended { (s : State) (e : Event) → s.phase ≡ Halted → step s e ≡ answers_halted s }
-    // Only a sending emits a packet that is marked first.
+    // Only sending a message emits a packet that is marked first.
     ensures firsts { (s : State) (e : Event) → FirstBySend e (step s e).emitted }
     // What this end has announced stays, and on a link that is up so do the size and the window.
     ensures own_stays { (s : State) (e : Event) → (step s e).state.own ≡ s.own }
@@ -59,10 +59,10 @@ pub fn what_a_link_answers()
 
 /// States the rules of a link that is quiet on repeats, and of one that is not.
 pub fn quiet_on_repeats()
-    // One that is not steps by the old rules: the setting moves nothing then.
+    // A link that is not quiet steps by the old rules: the setting then changes nothing.
     ensures plain { (s : State) (e : Event) → IsPlain s → step s e ≡ plain_step s e }
-    // What each keeps of rejects stays within its bounds: at most one more than the window that it has announced, and a
-    // number of a packet.
+    // Each link's record of rejects stays within its bounds: at most one more than the window that it has announced,
+    // and a packet number.
     ensures first { (own : Announced) → KeepsRejects (caller_state own) × KeepsRejects (called_state own) }
     ensures bounds { (s : State) (e : Event) → KeepsRejects s → MayMeet s e
         → KeepsRejects (step s e).state }
@@ -126,8 +126,8 @@ pub fn the_window_is_safe()
     ensures numbers { Always (λ d o. NumbersNear d) }
     // The acknowledgements in flight never fall, and lie from what counts as acknowledged to what was taken.
     ensures acks { Always (λ d o. AcksRise d o) }
-    // So a data packet with the digit of the expected one is that one, and the digit of an acknowledgement gives the
-    // number: as far ahead of what counts as acknowledged as the digits are apart.
+    // A data packet with the digit of the expected one is therefore that one. The digit of an acknowledgement gives
+    // its number: as far ahead of the acknowledged number as the digits are apart.
     ensures number_digits { Always (λ d o.
         EachNumber (λ n. n % 8 ≡ d.taken % 8 → n ≡ d.taken) d.flight) }
     ensures ack_digits { Always (λ d o.
@@ -145,9 +145,10 @@ pub fn two_links_run_as_the_machine()
         × Reads ends.near ends.far m.out × Reads ends.far ends.near m.back }
     // Each end has taken the front of what the other sent.
     ensures front { AlwaysOfTwo (λ e other announced. IsFrontOf e.taken other.sent) }
-    // What is unacknowledged at an end is at most what the other announced, before and after it is up too.
+    // The number of unacknowledged messages at an end is at most what the other announced, before and after it is up
+    // too.
     ensures unacked { AlwaysOfTwo (λ e other announced. length e.link.unacked ≤ announced.window) }
-    // What an end is set to stays: what it announces, and whether it is quiet on repeats.
+    // An end's settings stay: its announcement, and whether it is quiet on repeats.
     ensures own { AlwaysOfTwo (λ e other announced. other.link.own ≡ announced) }
     // From INITA on an end knows the window, and from INITB on the size, that the other announced.
     ensures window { AlwaysOfTwo (λ e other announced.
@@ -201,12 +202,12 @@ pub fn runs_of_two_links()
 /// States the place of a packet that is found among those that the other end emitted.
 pub fn arrivals()
     ensures same { (p q : PacketValue) → IsTrue (same_packet p q) ↔ (p ≡ q) }
-    // The place that is computed is the least one, and none only where there is none.
+    // The computed place is the least one. There is none only if no place exists.
     ensures place { (p : PacketValue) (emitted : List PacketValue) (passed : ℕ) →
         MatchOption (place_of p emitted passed)
         ((i : ℕ) → passed ≤ i → slice_get emitted i ≢ Some p)
         (λ i. IsPlace p emitted passed i) }
-    // An arrival is so many misses and then a hearing, and makes a run longer.
+    // An arrival is a number of misses and then a hearing, and makes a run longer.
     ensures happens { (e other : End) (p : PacketValue) (i : ℕ)
         → IsPlace p other.emitted e.passed i →
         AllMayHappen e other (as_happenings p e.passed i)
@@ -225,7 +226,8 @@ pub fn what_two_links_emit_arrives()
     ensures written { AlwaysEmits CanBeWritten }
     // The numbers of both are counts of what was sent, taken and acknowledged.
     ensures counted { AlwaysOfTwo (λ e other announced. AreCounted e other announced.window) }
-    // An acknowledgement that arrives at a link that is up counts: the packet behind that one is then the oldest.
+    // An acknowledgement that arrives at a link that is up counts: the packet after the acknowledged one is then the
+    // oldest.
     ensures acknowledges { (near far : Announced) (ends : Ends) (p : PacketValue) (place y : ℕ) →
         IsWindow near.window → IsWindow far.window → IsRun near far ends → IsUp ends.near.link →
         ends.near.passed ≤ place → slice_get ends.far.emitted place ≡ Some p
@@ -236,8 +238,8 @@ pub fn what_two_links_emit_arrives()
 /// States what a line that loses nothing brings between two links that are up. This is why both come to the end of
 /// what they have to say.
 pub fn a_clean_line_brings_all()
-    // A packet that arrives, whatever was lost before it, leaves the others on the way; it is taken where it is the
-    // expected one, what it acknowledges counts, and data is always answered by a link that is not quiet on repeats.
+    // A packet that arrives, whatever was lost before it, leaves the others on the way. It is taken if it is the
+    // expected one, and its acknowledgement counts. A link that is not quiet on repeats always answers data.
     ensures hears { (near far : Announced) (ends : Ends) (p : PacketValue) (ps : List PacketValue)
         (place : ℕ) →
         IsWindow near.window → IsWindow far.window → IsRun near far ends → IsUp ends.near.link

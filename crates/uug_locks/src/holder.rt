@@ -1,14 +1,14 @@
-//! The text of the lock file of a device, and who holds it by that.
+//! The text of the lock file of a device, and the holder by that text.
 ghost use Rattle.std.specs.Prelude.{◌≡◌, ◌<◌, ◌≤◌, IfOk, string_bytes};
 ghost use Rattle.uug_locks.specs.DeviceLocks.{holder_in, device_name, is_held, lock_named, lock_path, lock_text};
 
 use std::alloc::{AllocError, Allocator};
 use uug_talk::{NUMBER_MAX, read_number, split_line, split_word};
 
-/// The number of a process stands in so many columns.
+/// The number of columns for the number of a process.
 const COLUMNS: usize = 10;
 
-/// Who holds the lock file of a device, by its text.
+/// The holder of the lock file of a device, by its text.
 #[derive(Clone, Copy, Debug, PartialEq, Eq)]
 pub enum Holder {
     /// The process of this number.
@@ -19,7 +19,7 @@ pub enum Holder {
     Unknown,
 }
 
-/// The name of a device: what stands behind the last slash of its path.
+/// Returns the name of a device: the part of its path after the last slash.
 fn device_name(path: &str) -> &str
     ensures { result.now ≡ device_name path.now }
 {
@@ -29,7 +29,7 @@ fn device_name(path: &str) -> &str
     }
 }
 
-/// The path of the lock file of a device, in the folder of the locks.
+/// Returns the path of the lock file of a device, in the folder of the locks.
 pub fn lock_path<A: Allocator>(
     alloc: A,
     folder: &str,
@@ -40,24 +40,24 @@ pub fn lock_path<A: Allocator>(
     lock_named(alloc, folder, device_name(device))
 }
 
-/// The path of the lock file of a device of this name.
+/// Returns the path of the lock file of a device of this name.
 fn lock_named<A: Allocator>(alloc: A, folder: &str, name: &str) -> Result<String<A>, AllocError>
     ensures { IfOk result (λ path. string_bytes path ≡ lock_named folder.now name.now) }
 {
     format!(in alloc; "{folder}/LCK..{name}")
 }
 
-/// The text of a lock file that this process holds.
+/// Returns the text of a lock file that this process holds.
 pub fn lock_text<A: Allocator + Copy>(alloc: A, process: u32) -> Result<Vec<u8, A>, AllocError>
     ensures text { IfOk result (λ text. text.items ≡ lock_text process) }
-    // It is read as this process again.
+    // It is read back as this process.
     ensures read_back { 0 < process → IfOk result (λ text.
         holder_in text.items ≡ Holder.Process process) }
 {
     written_text(alloc, process)
 }
 
-/// The number of a process in its columns, and a line feed.
+/// Returns the number of a process in its columns, and a line feed.
 fn written_text<A: Allocator + Copy>(alloc: A, process: u32) -> Result<Vec<u8, A>, AllocError>
     ensures text { IfOk result (λ text. text.items ≡ lock_text process) }
     ensures within { process ≤ u32.MAX }
@@ -69,8 +69,8 @@ fn written_text<A: Allocator + Copy>(alloc: A, process: u32) -> Result<Vec<u8, A
     Ok(text)
 }
 
-/// Who holds a lock file with this text: the process whose number is the first word of its first line. Nobody does where there
-/// is no word, as in a file that was made and not written, and where the number is 0.
+/// Returns who holds a lock file with this text: the process whose number is the first word of its first line. Nobody
+/// does if there is no word, as in a file that was created and not written, or if the number is 0.
 pub fn holder_of(text: &[u8]) -> Holder
     ensures { result ≡ holder_in text.now }
 {
@@ -87,7 +87,7 @@ pub fn holder_of(text: &[u8]) -> Holder
     }
 }
 
-/// Whether a lock is held, where it is known of its process whether that is gone.
+/// Returns whether a lock is held. `is_gone` says whether its process is gone.
 pub fn is_held(holder: Holder, is_gone: bool) -> bool
     ensures { result ≡ is_held holder is_gone }
 {

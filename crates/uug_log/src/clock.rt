@@ -13,7 +13,7 @@ use uug_spool::Moment;
 /// The folder of the files of the system's time zones.
 const ZONES: &str = "/usr/share/zoneinfo";
 
-/// The clock of the system, as it is read where the program runs. It shows UTC if its time zone can't be read.
+/// The clock of the system, in local time. It shows UTC if its time zone can't be read.
 #[derive(Drop)]
 pub struct LocalClock {
     zone: Option<SystemTimeZone>,

@@ -128,7 +128,7 @@ impl<R: Clock, A: Allocator + Copy> Journal for SessionLog<'_, R, A> {
             if *outcome == Outcome::Done {
                 self.bytes = self.bytes.saturating_add(*bytes);
             }
-            // What there is no memory for is left out.
+            // News for which there is no memory is left out.
             let _ = self.held.push(*news);
         }
     }

@@ -38,9 +38,9 @@ pub fn what_is_open_stays()
         → AfterEach (IsAsBefore s (spot rooms.Commands file)) (over_ops outcome over others) s }
 {}
 
-/// States that a received file is whole, wherever a power cut stops it. While a file of another system is put into its
-/// place and the markers of those before are removed, or while it is dropped because it had arrived before, its place
-/// has what it had before or the whole file.
+/// States that a received file is never there in part, wherever a power cut stops it. While a file of another system is
+/// put into its place and the markers of those before are removed, or while it is dropped because it had arrived
+/// before, its place has what it had before or the whole file.
 pub fn what_comes_is_whole()
     ensures { (marks : Marks) (again : Bool) (name bytes : List ℕ) (place : Spot) (s : Standing)
         → is_place place.room ≡ true

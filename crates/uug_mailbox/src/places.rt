@@ -138,8 +138,8 @@ impl<A: Allocator> PublicFolder<A> {
 }
 
 impl<A: Allocator> PublicFolder<A> {
-    /// Returns the name under which a file of the one name is kept that is sent to the other. In the public folder, or
-    /// in a folder there, it is kept under the last part of its own name.
+    /// Returns the name under which a file called `source` is kept that is sent to `target`. If the target is the
+    /// public folder, or a folder there, the file is kept in it under the last part of its own name.
     pub fn landing(&self, source: &Name, target: &Name) -> Name
         ensures { result ≡ landing (shown_public self.now) source.now target.now }
     {

@@ -20,8 +20,8 @@ use uug_session::Job;
 use uug_spool::{Disk, DiskFailed};
 use uug_stream::ToolFault;
 
-/// The jobs of an end over the C. files of a system: their lines that are not over, the texts that have these lines,
-/// and the disk from which a line that is over is removed.
+/// The jobs of an end over the C. files of a system: their lines that are not over, the texts of these files, and the
+/// disk from which a line that is over is removed.
 #[derive(Drop)]
 pub struct WorkStore<D, A: Allocator> {
     pub disk: D,
@@ -120,7 +120,7 @@ fn tell_some<D: Disk>(disk: &mut D, notice: &[u8]) -> Result<(), DiskFailed>
     disk.tell(notice)
 }
 
-/// Removes the lines that go from the disk, and then writes these C. files anew.
+/// Removes from the disk the lines that are over, and then writes these C. files anew.
 #[tactic(auto, using(crate::proofs::OverLemmas::both_done, crate::proofs::OverLemmas::front_of_first, crate::proofs::OverLemmas::front_of_both))]
 fn settle_all<D: Disk, A: Allocator, B: Allocator, C: Allocator>(
     disk: &mut D,
@@ -143,7 +143,7 @@ fn settle_all<D: Disk, A: Allocator, B: Allocator, C: Allocator>(
     Ok(())
 }
 
-/// Removes the lines that go from the disk.
+/// Removes from the disk the lines that are over.
 #[tactic(auto, using(crate::proofs::OverLemmas::both_done, crate::proofs::OverLemmas::front_of_first, crate::proofs::OverLemmas::front_of_both))]
 fn settle_parted<D: Disk, A: Allocator, B: Allocator>(
     disk: &mut D,

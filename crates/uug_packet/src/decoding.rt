@@ -72,7 +72,7 @@ pub fn decode(bytes: &[u8]) -> Result<(Packet<'_>, usize), NoPacket>
     // What is spelled so is read.
     ensures only { (p : PacketValue) (w rest : List ℕ) → IsSpelling p w → bytes.now ≡ w ++ rest →
         IsOkAnd result (λ found. (shown found.0 ≡ p) × (found.1 ≡ length w)) }
-    // Which refusal it is.
+    // Which error it is.
     ensures short { IsErrOf result NoPacket.Short ↔ Waits bytes.now }
     ensures broken { IsErrAnd result (λ fault. IsDamage fault bytes.now) ↔ IsBroken bytes.now }
     ensures exact { MatchResult result

@@ -75,7 +75,7 @@ pub fn waiting_is_undecided()
     ensures packet { (p : PacketValue) (w t : List ℕ) → IsSpelling p w → Waits (w ++ t) → ⊥ }
     ensures broken { (s : List ℕ) → IsBroken s → Waits s → ⊥ }
     ensures longer { (s t : List ℕ) → IsBroken s → IsBroken (s ++ t) }
-    // Where bytes begin with a packet, their front waits or begins with it. A front that doesn't wait is broken where
+    // If bytes begin with a packet, their front waits or begins with it. A front that doesn't wait is broken where
     // they are.
     ensures front { (p : PacketValue) (w more s t : List ℕ) → IsSpelling p w → s ++ t ≡ w ++ more →
         Waits s ⊎ ((others : List ℕ) × (s ≡ w ++ others)) }

@@ -1,5 +1,5 @@
-//! Two ends over two folders of the system, and the socket between them: they are run in turn, and a job that is gone then has
-//! its file at the end to which it went.
+//! Two ends over two folders of the system, and the socket between them. They are run in turn, and a job that is gone
+//! then has its file at the end to which it went.
 #![tactic(auto)]
 
 pub mod laws;

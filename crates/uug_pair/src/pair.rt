@@ -29,7 +29,7 @@ use uug_stream::{Output, ToolFault};
 use uug_task::{EndParts, place_in_pair};
 use uug_transfer::{FaultInjector, TransferEnd, pair_over};
 
-/// The most turns that two ends take.
+/// The maximum number of turns of two ends.
 pub const TURNS_MAX: u32 = 1_000_000;
 
 /// The files of an end in a folder of the system.
@@ -38,10 +38,10 @@ type SystemSpool<'a, R, A> = FolderSpool<SystemFolder<'a, R, A>, A>;
 /// An end over a folder of the system.
 type SystemEnd<'a, R, A> = TransferEnd<SystemSpool<'a, R, A>, SystemText<'a, R, A>, NoFile, A>;
 
-/// What such an end is made of.
+/// The parts of such an end.
 type SystemParts<'a, R, A> = EndParts<SystemSpool<'a, R, A>, SystemText<'a, R, A>, NoFile, A>;
 
-/// What both ends are made of. The jobs of each are those of the text that was read of its file.
+/// The parts of both ends. The jobs of each are those of the text that was read of its file.
 #[derive(Drop)]
 pub struct PairParts<'a, R: Files, A: Allocator + Copy> {
     /// The parts of the end that calls.
@@ -52,7 +52,7 @@ pub struct PairParts<'a, R: Files, A: Allocator + Copy> {
     pub ghost called_read: { IsQueueOf called.jobs.before.items called.queue },
 }
 
-/// Both ends when their sessions are over, and what the program answers.
+/// Both ends when their sessions are over, and the result of the program.
 #[derive(Drop)]
 pub struct FinishedPair<'a, R: Files, A: Allocator + Copy> {
     /// The end that called, as it is then.
@@ -89,7 +89,7 @@ pub fn pair_run<A: Allocator + Copy, R: Files<File = File> + Net + Alloc + Clone
     without_folder(answer)
 }
 
-/// Gives the answer, where a folder that another run holds is a device fault.
+/// Returns the answer, with a device fault for a folder that another run holds.
 fn without_folder(answer: Result<u8, ToolFault>) -> Result<u8, ToolFault>
     ensures usage { (result ≡ Err ToolFault.Usage) ↔ (answer ≡ Err ToolFault.Usage) }
     ensures status { IfOk answer (λ status. status ≤ 1) → IfOk result (λ status. status ≤ 1) }
@@ -106,11 +106,11 @@ fn without_folder(answer: Result<u8, ToolFault>) -> Result<u8, ToolFault>
     }
 }
 
-/// Runs the caller `a` over the folder `dir_a` and the called end `b` over `dir_b`, over a Unix socket that is made at the
-/// path `socket`. Every Nth packet is lost, and every Nth changed, for an N of its own each, if one is given. What stands
-/// in a folder is said in `docs/PROTOCOL.md`. Both folders are locked before anything in them is read: `InUse` says which
-/// of them another run holds. The answer is the program's status, and `why` says which call of the system failed first, if
-/// one did.
+/// Runs the caller `a` over the folder `dir_a` and the called end `b` over `dir_b`, over a Unix socket that is made at
+/// the path `socket`. Every Nth packet is lost, and every Nth changed, for an N of its own each, if one is given.
+/// `docs/OPERATING.md` describes what is in a folder. Both folders are locked before anything in them is read: `InUse`
+/// says which of them another run holds. Returns the program's status. `why` says which call of the system failed
+/// first, if one did.
 pub fn pair_run_with_reason<
     A: Allocator + Copy,
     R: Files<File = File> + Net + Alloc + Clone + Drop,
@@ -202,9 +202,9 @@ fn run_locked<A: Allocator + Copy, R: Files<File = File> + Net + Alloc + Clone +
     answer
 }
 
-/// Both ends begin their sessions, and are run. They are handed back as they are then: each has run the session that so began,
-/// up to there. A job that is gone from an end's pending jobs then, and did not fail, has its file, whole, at the end to which
-/// it went, unless a packet that was not sent passed its checksum.
+/// Begins the sessions of both ends, and runs them. Returns the ends as they are after that: each has run the session
+/// that began here, up to that point. Each job that has then left an end's pending jobs without failing has its file,
+/// whole, at the end to which it went. This holds unless a packet that was not sent passed its checksum.
 pub fn run_both<
     'a,
     A: Allocator + Copy,
@@ -316,7 +316,7 @@ fn run_ends<'a, A: Allocator + Copy, R: Files<File = File> + Net + Alloc + Clone
     result
 }
 
-/// Which call of the system on the folder of an end failed first: in `got`, else on its jobs.
+/// Returns which call of the system on the folder of an end failed first: in `got`, else on its jobs.
 fn failure_of<R: Files, A: Allocator + Copy>(end: &SystemEnd<'_, R, A>) -> Option<SystemFailure>
     ensures { 0 < end.now.jobs.file.faults.count → IsSome result }
 {
@@ -324,7 +324,7 @@ fn failure_of<R: Files, A: Allocator + Copy>(end: &SystemEnd<'_, R, A>) -> Optio
     got.failure().or(end.jobs.file.failure())
 }
 
-/// What both ends over their folders are made of, as these stand.
+/// Reads the parts of both ends over their folders, as these are now.
 fn read_both<'a, A: Allocator + Copy, R: Files + Alloc + Clone + Drop>(
     alloc: A,
     rt: &'a R,
@@ -367,7 +367,7 @@ fn read_both<'a, A: Allocator + Copy, R: Files + Alloc + Clone + Drop>(
     }
 }
 
-/// The jobs of both folders.
+/// Reads the jobs of both folders.
 fn open_both<'a, A: Allocator + Copy, R: Files>(
     alloc: A,
     rt: &'a R,
@@ -390,7 +390,7 @@ fn open_both<'a, A: Allocator + Copy, R: Files>(
     }
 }
 
-/// The files that both folders have to give.
+/// Reads the files that both folders have to give.
 fn read_sends<A: Allocator + Copy, R: Files + Alloc + Clone + Drop>(
     alloc: A,
     rt: &R,
@@ -409,7 +409,7 @@ fn read_sends<A: Allocator + Copy, R: Files + Alloc + Clone + Drop>(
     }
 }
 
-/// What an end over this folder is made of, with these jobs and these files to give.
+/// Makes the parts of an end over this folder, with these jobs and these files to give.
 fn make_parts<'a, A: Allocator + Copy, R: Files>(
     alloc: A,
     rt: &'a R,
@@ -433,7 +433,7 @@ fn make_parts<'a, A: Allocator + Copy, R: Files>(
     })
 }
 
-/// The spool over this folder, with these files to give.
+/// Returns the spool over this folder, with these files to give.
 fn make_spool<'a, A: Allocator + Copy, R: Files>(
     alloc: A,
     rt: &'a R,

@@ -51,8 +51,8 @@ pub fn play_within<A: Allocator + Copy, I: Input, O: Output>(
 
 /// Reads the input to its end as a script, plays it, and writes the report. Returns the program's status: 5 if the line
 /// fooled an end, otherwise 0 if the last session is done at both ends, and 1 if it is not. Nothing is written before
-/// the script was played. Of two faults the one that the work meets first is returned. If a write failed, or memory ran
-/// out in writing, a front of the report was written.
+/// the script was played. Returns the first error. If a write failed, or memory ran out in writing, a front part of the
+/// report was written.
 pub fn play_stream<A: Allocator + Copy, I: Input, O: Output>(
     alloc: A,
     input: &mut I,

@@ -71,7 +71,7 @@ pub fn settle_script<A: Allocator + Copy>(alloc: A, text: &[u8]) -> Result<Playe
 /// Reads the input to its end as a script, plays it, and writes the report. If the run may settle, it goes on to its
 /// end on a line on which nothing more is lost; the report of that is written too, and its status is returned.
 /// Otherwise a line with the condition that fails is written, and the status is that of `play_stream`. Nothing is
-/// written before all was played. Of two faults the one that the work meets first is returned.
+/// written before all was played. Returns the first error.
 pub fn play_settled<A: Allocator + Copy, I: Input, O: Output>(
     alloc: A,
     input: &mut I,

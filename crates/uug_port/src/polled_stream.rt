@@ -48,7 +48,7 @@ impl<T: TimedStream + AsRawFd + Drop, A: Allocator + Copy> PolledStream<T, A> {
 impl<T: TimedStream, A: Allocator> Read for PolledStream<T, A> {
     fn read(&mut self, buffer: &mut [u8]) -> io::Result<usize> {
         if self.is_drained && self.stream.is_woken_for_nothing() {
-            // Whatever comes of it, the read says.
+            // Whatever the result, the read reports it.
             let time = Duration::from_millis(POLL_MILLIS);
             let _ = self.poll.poll(&mut self.events, Some(time));
         }

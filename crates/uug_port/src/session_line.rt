@@ -95,7 +95,7 @@ impl<L: SystemLine> EndLine for SessionLine<L> {
             self.largest = self.largest.max(largest_field(piece));
         }
         let count = self.line.write(piece)?;
-        // What was not taken is seen again, at the same packet.
+        // Bytes that were not taken are seen again, at the same packet.
         self.at_packet = count == 0 && self.at_packet || count == piece.len();
         Ok(count)
     }

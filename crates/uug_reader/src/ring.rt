@@ -69,7 +69,7 @@ fn search_ring<A: Allocator>(ring: &HeapCircularBuffer<u8, A>, beside: &mut Besi
     search_pieces(front, back, beside)
 }
 
-/// Searches two pieces, one after the other. They are joined only if the first ends inside an item.
+/// Searches two pieces, one after the other. They are joined only if the first has no whole item.
 fn search_pieces(front: &[u8], back: &[u8], beside: &mut Beside) -> Search
     requires { length front.now + length back.now ≤ PACKET_MAX }
     ensures within { result.passed ≤ length (front.now ++ back.now) }

@@ -1,4 +1,4 @@
-//! Why a call of the system failed.
+//! The words for why a call of the system failed.
 ghost use Rattle.std.specs.Prelude.{◌≡◌, ◌++◌, OnOk, string_bytes};
 ghost use Rattle.uug_reason.specs.KindWords.{kind_words as words_of_kind};
 ghost use Rattle.uug_reason.specs.Reasons.{cause_words, much_words, named_or_numbered, no_file_words, number_words};
@@ -26,7 +26,7 @@ pub(crate) fn add_cause<A: Allocator>(
     }
 }
 
-/// Of what there is more than the program takes.
+/// Returns the words for more than the program takes.
 fn much_words(resource: Resource) -> &'static str
     ensures { result.now ≡ much_words resource }
 {
@@ -38,7 +38,8 @@ fn much_words(resource: Resource) -> &'static str
     }
 }
 
-/// Returns what there is in place of a regular file: of what is written a named pipe, since a device or a socket is taken there.
+/// Returns the words for what is there in place of a regular file. At an output this is a named pipe, since a device or
+/// a socket is taken there.
 fn no_file_words(resource: Resource) -> &'static str
     ensures { result.now ≡ no_file_words resource }
 {
@@ -50,7 +51,7 @@ fn no_file_words(resource: Resource) -> &'static str
     }
 }
 
-/// Appends what an error of this kind is called, or its number.
+/// Appends the name of an error of this kind, or its number.
 fn add_refusal<A: Allocator>(
     text: &mut String<A>,
     resource: Resource,

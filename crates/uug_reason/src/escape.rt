@@ -1,18 +1,18 @@
-//! Texts of which something may not be seen.
+//! Texts in which some bytes can't be seen.
 ghost use Rattle.std.specs.Prelude.{◌≡◌, ◌++◌, OnOk, string_bytes};
 ghost use Rattle.uug_scan.specs.Detailed.{escaped, is_plain};
 
 use std::alloc::{AllocError, Allocator};
 use uug_scan::add_byte;
 
-/// Whether a byte is written as it is.
+/// Returns whether a byte is written as it is.
 fn is_plain(byte: u8) -> bool
     ensures { result ≡ is_plain byte }
 {
     (byte.is_ascii_graphic() || byte == b' ') && byte != b'\\'
 }
 
-/// Appends a text. What can't be seen of it, and a backslash, is written in hex.
+/// Appends a text. Bytes that can't be seen, and backslashes, are written in hex.
 pub fn add_escaped<A: Allocator>(text: &mut String<A>, bytes: &[u8]) -> Result<(), AllocError>
     ensures { OnOk result (string_bytes text.new ≡ string_bytes text.old ++ escaped bytes.now) }
 {

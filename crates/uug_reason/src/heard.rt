@@ -1,4 +1,4 @@
-//! What was heard of the other end where a session ended badly.
+//! The words for what was heard from the other end, if a session ended badly.
 ghost use Rattle.std.specs.Prelude.{◌≡◌, ◌++◌, IfOk, OnOk, string_bytes};
 ghost use Rattle.uug_reason.specs.HeardWords.{end_words, heard_remark, hint_words, line_with, noise_words, nothing_words, other_words, protocols_words, refusal_words, refused_words, shown};
 
@@ -6,19 +6,19 @@ use crate::jobs::add_quoted;
 use std::alloc::{AllocError, Allocator};
 use uug_session::{End, Side};
 
-/// What was heard.
+/// The bytes that were heard.
 #[derive(Clone, Copy, Debug, PartialEq, Eq)]
 pub enum Heard<'a> {
     /// No byte.
     Nothing,
-    /// So many bytes, of which these are the first, and no text.
+    /// The number of bytes, and the first of them; none of them is a text.
     Noise(u64, &'a [u8]),
-    /// This was the last text.
+    /// The last text.
     Text(&'a [u8]),
 }
 
-/// What was heard where the session of this end ended so, as a line for standard error. It called the end `peer`, or waited for
-/// its call. The line is empty where what was heard says nothing of how the session ended.
+/// Returns a line for standard error with what was heard, if the session of this end ended in this way. It called the
+/// end `peer`, or waited for its call. The line is empty if what was heard says nothing about how the session ended.
 pub fn heard_remark<A: Allocator + Copy>(
     alloc: A,
     side: Side,
@@ -34,7 +34,7 @@ pub fn heard_remark<A: Allocator + Copy>(
     line_with(alloc, words)
 }
 
-/// The line with these words, or none.
+/// Returns the line with these words, or an empty one if there are none.
 fn line_with<A: Allocator>(alloc: A, words: String<A>) -> Result<String<A>, AllocError>
     ensures { IfOk result (λ line. string_bytes line ≡ line_with (string_bytes words)) }
 {
@@ -124,7 +124,7 @@ fn add_nothing<A: Allocator>(text: &mut String<A>) -> Result<(), AllocError>
     text.push_str("heard nothing")
 }
 
-/// What a known refusal means.
+/// Returns what a known refusal means.
 fn hint_words(said: &[u8]) -> &'static str
     ensures { result.now ≡ hint_words said.now }
 {

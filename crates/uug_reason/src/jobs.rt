@@ -1,4 +1,4 @@
-//! What is wrong with a line of jobs.
+//! The words for what is wrong with a line of jobs.
 ghost use Rattle.std.specs.Prelude.{◌≡◌, ◌++◌, IfOk, OnOk, Some, string_bytes, take};
 ghost use Rattle.std.specs.Option.{option_copied};
 ghost use Rattle.uug_reason.specs.JobsWords.{behind_words, jobs_line, jobs_remark, lack_words, line_at, names_words, no_name, place_words, quoted};
@@ -11,11 +11,11 @@ use std::alloc::{AllocError, Allocator};
 use uug_folder::{JobsFault, read_jobs};
 use uug_talk::{LINE_MAX, Name, split_line, split_word};
 
-/// So many bytes of a word are told at most.
+/// The maximum number of bytes of a word that are shown.
 const WORD_MAX: usize = 60;
 
-/// What is wrong with the line of this number in the text of the jobs of a folder, as a line for standard error. It is empty
-/// where another line is the first bad one, or none is.
+/// Returns what is wrong with the line of this number in the text of the jobs of a folder, as a line for standard
+/// error. It is empty if another line is the first bad one, or none is.
 pub fn jobs_remark<A: Allocator + Copy>(
     alloc: A,
     dir: &str,
@@ -31,7 +31,7 @@ pub fn jobs_remark<A: Allocator + Copy>(
     }
 }
 
-/// What is wrong with the line of this number in a text of jobs, if it has so many.
+/// Returns what is wrong with the line of this number in a text of jobs, if it has that many.
 fn jobs_line<A: Allocator>(
     alloc: A,
     dir: &str,
@@ -47,7 +47,7 @@ fn jobs_line<A: Allocator>(
     }
 }
 
-/// What is wrong with this line, which has this number in the jobs of a folder.
+/// Returns what is wrong with this line, which has this number in the jobs of a folder.
 fn line_remark<A: Allocator>(
     alloc: A,
     dir: &str,
@@ -64,7 +64,7 @@ fn line_remark<A: Allocator>(
     Ok(remark)
 }
 
-/// Appends which line it is of the jobs of which folder.
+/// Appends the folder of the jobs, and the number of the line.
 fn add_place<A: Allocator>(text: &mut String<A>, dir: &str, number: usize) -> Result<(), AllocError>
     ensures { OnOk result
         (string_bytes text.new ≡ string_bytes text.old ++ place_words dir.now number) }
@@ -73,7 +73,7 @@ fn add_place<A: Allocator>(text: &mut String<A>, dir: &str, number: usize) -> Re
     write!(text, "/jobs: line {number}: ")
 }
 
-/// The line of this number, counted from 1.
+/// Returns the line of this number, counted from 1.
 fn line_at(text: &[u8], number: usize) -> Option<&[u8]>
     ensures { option_copied result ≡ line_at (lines text.now) number }
 {
@@ -107,7 +107,7 @@ fn add_lack<A: Allocator>(text: &mut String<A>, line: &[u8]) -> Result<(), Alloc
     add_behind(text, rest)
 }
 
-/// Appends what is wrong behind the first word.
+/// Appends what is wrong after the first word.
 fn add_behind<A: Allocator>(text: &mut String<A>, rest: &[u8]) -> Result<(), AllocError>
     ensures { OnOk result
         (string_bytes text.new ≡ string_bytes text.old ++ behind_words (words rest.now)) }
@@ -151,7 +151,7 @@ fn add_names<A: Allocator>(
     }
 }
 
-/// Whether a word is a name.
+/// Returns whether a word is a name.
 fn is_name(word: &[u8]) -> bool
     ensures { result ≡ is_name word.now }
 {
@@ -175,7 +175,7 @@ pub(crate) fn add_quoted<A: Allocator>(text: &mut String<A>, word: &[u8]) -> Res
     text.push_str("\"")
 }
 
-/// A word, or its first bytes.
+/// Returns a word, or its first bytes.
 fn front_of(word: &[u8]) -> &[u8]
     ensures { result.now ≡ take 60 word.now }
 {

@@ -1,11 +1,11 @@
-//! What the system's errors are called.
+//! The names of the system's errors.
 ghost use Rattle.std.specs.Prelude.{◌≡◌};
 ghost use Rattle.std.specs.Option.{option_copied};
 ghost use Rattle.uug_reason.specs.KindWords.{file_words, kind_words, line_words};
 
 use std::io::ErrorKind;
 
-/// What an error of this kind is called, if it has a name.
+/// Returns the name of an error of this kind, if it has one.
 pub(crate) fn kind_words(kind: ErrorKind) -> Option<&'static str>
     ensures { option_copied result ≡ kind_words kind }
 {
@@ -15,7 +15,7 @@ pub(crate) fn kind_words(kind: ErrorKind) -> Option<&'static str>
     }
 }
 
-/// The same of the kinds that lines have.
+/// Does the same for the kinds that lines have.
 fn line_words(kind: ErrorKind) -> Option<&'static str>
     ensures { option_copied result ≡ line_words kind }
 {
@@ -45,7 +45,7 @@ fn line_words(kind: ErrorKind) -> Option<&'static str>
     }
 }
 
-/// The same of those that only files and folders have.
+/// Does the same for the kinds that only files and folders have.
 fn file_words(kind: ErrorKind) -> Option<&'static str>
     ensures { option_copied result ≡ file_words kind }
 {

@@ -1,4 +1,5 @@
-//! What is said where something went wrong: on what a call of the system failed, and why; what is wrong with a line of jobs; and what was heard.
+//! The words for what went wrong: on what a call of the system failed, and why; what is wrong with a line of jobs; and
+//! what was heard.
 #![tactic(auto)]
 
 mod cause;

@@ -1,4 +1,4 @@
-//! On what a call of the system failed, and why, as a line.
+//! The line that says on what a call of the system failed, and why.
 ghost use Rattle.std.specs.Prelude.{◌≡◌, ◌++◌, IfOk, OnOk, string_bytes};
 ghost use Rattle.uug_reason.specs.Reasons.{below_words, dir_of, place_words, places, reason_line, text_words};
 ghost use Rattle.uug_scan.specs.Detailed.{escaped};
@@ -8,8 +8,8 @@ use crate::escape::add_escaped;
 use std::alloc::{AllocError, Allocator};
 use uug_failure::{EndText, Resource, SystemFailure};
 
-/// The line that says on what a call of the system failed, and why, for standard error. What is read or written is called `stream`,
-/// the line or the socket `line`, and the folders of the ends `first` and `second`.
+/// Returns the line for standard error that says on what a call of the system failed, and why. `stream` names what is
+/// read or written, `line` the line or the socket, and `first` and `second` the folders of the ends.
 pub fn reason_line<A: Allocator>(
     alloc: A,
     stream: &str,
@@ -37,7 +37,7 @@ pub fn reason_line<A: Allocator>(
     Ok(text)
 }
 
-/// What the file of this text is called.
+/// Returns the name of the file of this text.
 fn text_words(which: EndText) -> &'static str
     ensures { result.now ≡ text_words which }
 {

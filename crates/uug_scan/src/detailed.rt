@@ -45,9 +45,9 @@ fn list_piece<A: Allocator>(
 }
 
 /// Reads the input to its end, and writes the detailed listing of its bytes: the lines of the plain listing, each with
-/// the place of its bytes, and lines for handshake texts, noise and control packets with a wrong checksum. What one read
-/// brought is listed before the next. No more is held than one read brings, a packet that isn't complete, and the front
-/// of a text. The faults are those of `scan_stream`, but that the limit of reads is this one.
+/// the place of its bytes, and lines for handshake texts, noise and control packets with a wrong checksum. The bytes of
+/// one read are listed before the next. No more is held than one read brings, a packet that isn't complete, and the
+/// front of a text. The errors are those of `scan_stream`, with this limit of reads.
 pub fn scan_detailed<A: Allocator, I: Input, O: Output>(
     alloc: A,
     input: &mut I,

@@ -96,8 +96,8 @@ pub fn scan_within<A: Allocator, I: Input, O: Output>(
 }
 
 /// Reads the input to its end, and writes the listing of its bytes: a line for each packet, and one with the number of
-/// bytes that wait at the end. What one read brought is listed before the next. Of two faults the one that the work
-/// meets first is returned; how much was written before a fault is left open.
+/// bytes that wait at the end. The bytes of one read are listed before the next. Returns the first error; how much was
+/// written before it is left open.
 pub fn scan_stream<A: Allocator, I: Input, O: Output>(
     alloc: A,
     input: &mut I,

@@ -71,7 +71,7 @@ pub(crate) fn read_window(word: &[u8]) -> Option<u8>
     Some(window as u8)
 }
 
-/// Makes the announcement of a window and of the packet size in a word. `None` if the word is no packet size.
+/// Makes the announcement of a window and of the packet size in a word, if they are valid.
 pub(crate) fn read_announce(window: u8, size: &[u8]) -> Option<Announce>
     ensures { announced_by result ≡ announcement_of window size.now }
 {

@@ -32,10 +32,10 @@ pub fn what_is_found_stays()
 pub fn bytes_come_in_any_pieces<X>()
     ensures pieces { (t : Receiver X) (piece more : List ℕ) (h : Buffered X)
         → takes_piece t (piece ++ more) h ≡ then_takes t more (takes_piece t piece h) }
-    // Each item takes a byte, so no more of them are found than bytes are held.
+    // Each item takes a byte, so no more items are found than bytes are held.
     ensures enough { (t : Receiver X) (n : ℕ) (h : Buffered X) → length h.held ≤ n → takes_up_to n t h
         ≡ takes_all t h }
-    // The item that is found next is taken up first, and then the others.
+    // The next item found is handled first, and then the others.
     ensures first { (t : Receiver X) (bytes : List ℕ) (x : X)
         → takes_all t (holds t bytes x) ≡ takes_up (takes_all t) t
         (finding (t.stage_of x) bytes) x }
@@ -72,7 +72,7 @@ pub fn calls_take_what_comes()
         → ShowsWhatIsFound old.node → Make h most calls added old new
         → GoesOn h old.kept new.kept (HasFailed most old.faults new.faults) (all_offered calls)
         (with_entries [] old.node) (with_entries added new.node) }
-    // Where nothing is found any more in the bytes held, all that is found was taken up.
+    // If nothing more is found in the held bytes, everything found was handled.
     ensures all { (h : Holdings) (kept later_kept : List Kept) (most faults later : ℕ)
         (bytes : List ℕ) (a b : NodeState)
         → GoesOn h kept later_kept (HasFailed most faults later) bytes a b → IsAtRest b

@@ -147,9 +147,9 @@ pub fn a_number_rises_where_a_call_is_let_in()
 /// greeting leads to the link, the link's begin follows the texts, and exactly the bytes after the last text are
 /// handled on it.
 pub fn a_node_greets()
-    // Whatever is called, each call is a step by the table: with a text that it takes up, with one that is too long,
-    // with a timeout, or with nothing. What it says to that is what is added to the outbox, and the texts are the
-    // first of all bytes that came. So it is from the start of a session on.
+    // Each call, whatever it is, is a step of the table: with a text that it handles, with one that is too long, with
+    // a timeout, or with nothing. The end's answer is what is added to the outbox, and the texts are the first of all
+    // bytes that came. This holds from the start of a session on.
     ensures steps { (h : Holdings) (most : ℕ) (id : Identity) (calls : List NodeCall)
         (texts : List (List ℕ)) (came : List ℕ) (added : List EntryValue) (old new : Beside)
         (g : Greeting)
@@ -183,8 +183,8 @@ pub fn a_node_greets()
         → Greets id.side id.me id.peer number came run behind
         → run.greeted ≡ LinkBegins
         → HasBegunLink m run.says run.number behind }
-    // The same as one equation, whatever the node keeps and its spool's device does: all bytes from the start lead to
-    // what the bytes left lead to behind the whole greeting.
+    // The same as one equation, whatever the node keeps and its spool's device does. All bytes from the start lead to
+    // the same as the bytes left do after the whole greeting.
     ensures comes { (h : Holdings) (id : Identity) (own : Announced) (number : Option ℕ)
         (talk : DialogueState)
         (failures : List Bool)

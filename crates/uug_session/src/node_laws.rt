@@ -40,7 +40,7 @@ pub fn jobs_stay_together()
     ensures event { (h : Holdings) (kept : List Kept) (event : EndEvent) (e : EngineState)
         → OnlyMoves e.dialogue.machine.lists (effect_of h kept event e).state.keeper.machine.lists }
     ensures moved { (before after : Lists) → OnlyMoves before after → HaveSameJobs before after }
-    // So it is with all that is found in bytes that come, in whatever pieces.
+    // The same holds for all that is found in bytes that come, in whatever pieces.
     ensures goes_on { (h : Holdings) (kept kept_after : List Kept) (most faults later : ℕ)
         (bytes : List ℕ)
         (before after : NodeState)
@@ -74,7 +74,7 @@ pub fn struck_requests_were_kept()
         (before after : NodeState)
         → TakesAll h kept kept_after (HasFailed most faults later) bytes before after
         → KeepsWhatItAskedFor h (struck_jobs before) (struck_jobs after) kept kept_after }
-    // So it is from one call to the next: where nothing is struck and nothing kept, and where one call follows another.
+    // It holds from one call to the next: if nothing is struck and nothing kept, and if one call follows another.
     ensures same { (h : Holdings) (struck struck_after : List Job) (kept kept_after : List Kept)
         → struck_after ≡ struck → kept_after ≡ kept
         → KeepsWhatItAskedFor h struck struck_after kept kept_after }

@@ -28,8 +28,8 @@ pub fn an_end_closes_where_all_is_over<C>()
         → HasClosedWhereItIsOver k e → HasClosedWhereItIsOver k (end_step k id event e).state }
 {}
 
-/// States that a node sends while there is room. The step that its calls describe (`Does`), for an item it handles or
-/// for too long a wait, is such an event.
+/// States that a node sends while there is room. A step that its calls describe (`Does`) is such an event, whether it
+/// handles an item or a timeout.
 pub fn a_node_sends_while_there_is_room()
     ensures { (h : Holdings) (kept kept_after : List Kept) (event : EndEvent)
         (before after : EngineState)

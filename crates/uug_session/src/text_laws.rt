@@ -16,7 +16,7 @@ pub fn text_search_finds_the_first()
     ensures too_long { (stream : List ℕ) → search_text stream ≡ text_too_long
         → texts_of stream ≡ no_text TooLong }
 
-    // Each is found where it is there.
+    // Each of these is found if it is there.
     ensures some { (front text behind : List ℕ) → IsFirstText front text
         → (others : List ℕ) × (search_text (front ++ behind) ≡ text_stands text others) }
     ensures none { (stream : List ℕ) → texts_of stream ≡ no_text (Rest stream)
@@ -54,7 +54,7 @@ pub fn texts_are_taken_in_order()
         → Taken texts accepted held
         → search_text held ≡ text_stands text others
         → StandBefore (texts ++ text ∷ []) (drop (size_of_text text) others) accepted }
-    // Right behind a text nothing was skipped.
+    // Right after a text nothing was skipped.
     ensures behind { (texts : List (List ℕ)) (accepted held : List ℕ)
         → StandBefore texts held accepted
         → Taken texts accepted held }
@@ -64,7 +64,7 @@ pub fn texts_are_taken_in_order()
     ensures too_long { (texts : List (List ℕ)) (accepted held : List ℕ) → Taken texts accepted held
         → search_text held ≡ text_too_long
         → texts_of accepted ≡ record { texts = texts; end = TooLong } }
-    // The texts that were taken are the first of all bytes, and those of what is held are the others.
+    // The texts that were taken are the first of all bytes, and those of the held bytes are the others.
     ensures first { (texts : List (List ℕ)) (accepted held : List ℕ) → Taken texts accepted held
         → ReadsAs (texts_of accepted) (with_texts texts (texts_of held)) }
 {}

@@ -33,7 +33,7 @@ pub trait Disk {
             (HasFault u64.MAX (fault_count self.old) (fault_count self.new)) }
         ensures grows { fault_count self.old ≤ fault_count self.new };
 
-    /// Syncs the file to disk.
+    /// Syncs the bytes of a file to disk.
     fn sync(&mut self, spot: &Spot) -> Result<(), DiskFailed>
         ensures ok { OnOk result (done self.new ≡ also_done (synced spot.now) (done self.old)) }
         ensures err { OnErr result (FrontDone (synced spot.now ∷ [])

@@ -45,9 +45,9 @@ pub fn written_statuses_are_read()
         → status_of (status_line s system) ≡ Some s }
 {}
 
-/// States that a received file is whole, whatever was in the folders before and wherever a power cut stops `store`. The
-/// place of the file has what it had before or the whole file, and no new file is without its marker. Once all is done,
-/// the file is there, complete.
+/// States that a received file is never there in part, whatever was in the folders before and wherever a power cut
+/// stops `store`. The place of the file has what it had before or the whole file, and no new file is without its
+/// marker. Once all is done, the file is there, complete.
 pub fn a_file_that_came_is_whole()
     ensures { (temp : List ℕ) (target : Spot) (text bytes : List ℕ) (s : Standing) → is_place target.room ≡ true
         → StoredSafely temp target text bytes s }

@@ -1,4 +1,4 @@
-//! The files that tell of the calls with a system: its status, the log, and the statistics.
+//! The files about the calls with a system: its status, the log, and the statistics.
 
 use crate::spool_files::read_file;
 use crate::spool_paths::SpoolPaths;
@@ -11,10 +11,10 @@ use std::{fs, io};
 use uug_spool::{Status, read_status, status_line};
 use uug_talk::{NUMBER_MAX, read_number};
 
-/// The most bytes of a status file that are read.
+/// The maximum size of a status file that is read, in bytes.
 const STATUS_MAX: usize = 4096;
 
-/// How the last call with the system went, if its file says it.
+/// Returns how the last call with the system went, if its file says it.
 pub fn read_status_file<A: Allocator + Copy, R: Files>(
     alloc: A,
     rt: &R,
@@ -27,7 +27,8 @@ pub fn read_status_file<A: Allocator + Copy, R: Files>(
     read_status(text.as_slice())
 }
 
-/// Writes how a call with the system went, whole. Nobody waits for the device: it is said again at the next call.
+/// Writes how a call with the system went to its status file, as a whole. Nobody waits for the disk: it is written
+/// again at the next call.
 pub fn write_status_file<A: Allocator + Copy, R: Files>(
     alloc: A,
     rt: &R,
@@ -46,7 +47,8 @@ pub fn write_status_file<A: Allocator + Copy, R: Files>(
     fs::rename(rt, part.as_str(), path.as_str())
 }
 
-/// Appends a line to the file at a path, by one write. A pipe with a name of its own is none: nobody may read it.
+/// Appends a line to the file at a path, by one write unless the system takes only a part of it. A pipe with a name of
+/// its own is refused: nobody may read it.
 pub fn append_line<R: Files<File = File>>(rt: &R, path: &str, line: &[u8]) -> io::Result<()> {
     if is_named_pipe(rt, path) {
         return Err(io::Error::from(ErrorKind::Unsupported));
@@ -55,8 +57,8 @@ pub fn append_line<R: Files<File = File>>(rt: &R, path: &str, line: &[u8]) -> io
     file.write_all(line)
 }
 
-/// Returns whether there is a pipe at a path, which would be waited for when it is opened. One that this process has already, as its
-/// standard output, is none of these.
+/// Returns whether there is a pipe at a path that would be waited for when it is opened. No path below `/dev` or
+/// `/proc` counts: this process may have it already, such as its standard output.
 pub(crate) fn is_named_pipe<R: Files>(rt: &R, path: &str) -> bool {
     if path.starts_with("/dev/") || path.starts_with("/proc/") {
         return false;
@@ -67,7 +69,7 @@ pub(crate) fn is_named_pipe<R: Files>(rt: &R, path: &str) -> bool {
     }
 }
 
-/// The number of this process, or 0 where the system does not tell it.
+/// Returns the number of this process, or 0 if the system does not report it.
 pub fn process_number<A: Allocator + Copy, R: Files>(alloc: A, rt: &R) -> u32 {
     let Ok(process) = rt.read_link(alloc, "/proc/self") else {
         return 0;

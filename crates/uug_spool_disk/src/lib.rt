@@ -1,4 +1,4 @@
-//! A spool of Taylor UUCP on a disk: its folders, what is done to them and read there, and the files that tell of calls.
+//! A spool of Taylor UUCP on a disk: its folders, what is done to them and read there, and the files about calls.
 #![tactic(auto)]
 
 mod call_files;

@@ -1,8 +1,8 @@
-//! What the clock of the system says, as a status has it.
+//! The time of the system's clock, as a status has it.
 
 use std::time::{Clock, SystemTime, UNIX_EPOCH};
 
-/// The seconds since 1970, as far as they fit; none where the clock says nothing.
+/// Returns the seconds since 1970, as far as they fit, or 0 if the clock reports nothing.
 pub fn seconds_since_1970<R: Clock>(rt: &R) -> u32 {
     let Ok(time) = SystemTime::now(rt) else {
         return 0;

@@ -1,4 +1,4 @@
-//! What stands in the public folder.
+//! The contents of the public folder.
 ghost use Rattle.std.specs.Prelude.{◌≡◌, IfErr};
 ghost use Rattle.uug_failure.specs.Faults.{IsFolderFault};
 ghost use Rattle.uug_spool_disk.specs.Access.{is_anothers, is_closed};
@@ -16,19 +16,19 @@ use uug_talk::Name;
 /// The names in the public folder that a session can say.
 #[derive(Drop)]
 pub struct PublicListing<A: Allocator> {
-    /// Those of its files.
+    /// The names of its files.
     pub files: Vec<Name, A>,
-    /// Those of its folders.
+    /// The names of its folders.
     pub folders: Vec<Name, A>,
-    /// Those of files that this program can't replace.
+    /// The names of files that this program can't replace.
     pub anothers: Vec<Name, A>,
-    /// Tells whether this program can't put anything there.
+    /// Set if this program can't put anything there.
     pub is_closed: bool,
-    /// Tells whether the system failed to list it.
+    /// Set if the system failed to list it.
     pub is_unknown: bool,
 }
 
-/// Who owns a file, and what its mode says.
+/// The owner of a file, and its mode.
 #[derive(Clone, Copy)]
 struct Access {
     owner: u32,
@@ -44,8 +44,8 @@ impl Access {
     }
 }
 
-/// Returns whether a user can surely put nothing in a folder: it is another's, and neither a group nor everybody may write there; or it is
-/// their own, and they may not. Root may.
+/// Returns whether a user can surely put nothing in a folder. It is another's, and neither a group nor everybody may
+/// write there; or it is their own, and they may not. Root may.
 fn is_closed(folder: Access, me: u32) -> bool
     ensures { result ≡ is_closed folder.owner folder.mode me }
 {
@@ -53,8 +53,8 @@ fn is_closed(folder: Access, me: u32) -> bool
     me != 0 && folder.mode & bits == 0
 }
 
-/// Returns whether a file is one that a user can't replace: that of another, in a folder of another from which each may take only their
-/// own. Root may.
+/// Returns whether a file is one that a user can't replace: that of another, in a folder of another from which each may
+/// remove only their own. Root may.
 fn is_anothers(folder: Access, owner: u32, me: u32) -> bool
     ensures { result ≡ is_anothers folder.owner folder.mode owner me }
 {
@@ -62,7 +62,7 @@ fn is_anothers(folder: Access, owner: u32, me: u32) -> bool
 }
 
 impl<A: Allocator + Copy> PublicListing<A> {
-    /// Returns that of a folder in which nothing stands.
+    /// Returns the listing of an empty folder.
     pub fn empty(alloc: A) -> Self {
         PublicListing {
             files: Vec::new(alloc),
@@ -73,14 +73,14 @@ impl<A: Allocator + Copy> PublicListing<A> {
         }
     }
 
-    /// Returns that of a folder that the system failed to list.
+    /// Returns the listing of a folder that the system failed to list.
     pub fn unknown(alloc: A) -> Self {
         let mut listing = PublicListing::empty(alloc);
         listing.is_unknown = true;
         listing
     }
 
-    /// Adds the name of an entry, if a session can say it. One that is gone by now is none.
+    /// Adds the name of an entry, if a session can say it. A file that has vanished is skipped.
     fn add<R: Files + Alloc + Clone + Drop>(
         &mut self,
         entry: &DirEntry<R, R::A>,
@@ -105,7 +105,7 @@ impl<A: Allocator + Copy> PublicListing<A> {
     }
 }
 
-/// Lists what stands in the public folder. Nothing does where it lacks.
+/// Lists the public folder. A missing folder is empty.
 pub fn list_public<A: Allocator + Copy, R: Files + Alloc + Clone + Drop>(
     alloc: A,
     rt: &R,
@@ -120,7 +120,7 @@ pub fn list_public<A: Allocator + Copy, R: Files + Alloc + Clone + Drop>(
     }
 }
 
-/// Lists what stands in the folder at this path.
+/// Lists the folder at this path.
 fn read_listing<A: Allocator + Copy, R: Files + Alloc + Clone + Drop>(
     alloc: A,
     rt: &R,
@@ -140,7 +140,7 @@ fn read_listing<A: Allocator + Copy, R: Files + Alloc + Clone + Drop>(
     Ok(listing)
 }
 
-/// As whom this program runs; root where the system does not tell it, so that it is tried.
+/// Returns the user as whom this program runs, or root if the system does not report it: then it is tried.
 fn user_of<R: Files>(rt: &R) -> u32 {
     match fs::metadata(rt, "/proc/self") {
         Ok(process) => process.uid(),

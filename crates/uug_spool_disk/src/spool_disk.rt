@@ -1,4 +1,4 @@
-//! What is done to the folders of a spool on a disk.
+//! The operations on the folders of a spool on a disk.
 ghost use Rattle.std.specs.IoError.{error_kind};
 ghost use Rattle.std.specs.Prelude.{◌≡◌, ◌≢◌, ◌<◌, ◌≤◌, true, IfErr, IsErr, IsOk, IsSome, None, Ok, OnErr, OnOk};
 ghost use Rattle.uug_spool.specs.SpoolNames.{spot_of};
@@ -20,13 +20,13 @@ use uug_failure::{Cause, Faults, Resource, SystemFailure};
 use uug_spool::{Disk, DiskFailed, Room, Spot, spot_of};
 use uug_talk::Name;
 
-/// The name, in the folder of what is preserved, of the file that tells of jobs that have failed.
+/// The name of the file that lists jobs that have failed, in the folder of preserved files.
 const TOLD: &str = "failed";
 
-/// Limits how many preserved files may have one name, but for the number behind it.
+/// The maximum number of preserved files of one name, which differ in the number after it.
 const PRESERVED_MAX: u32 = 10_000;
 
-/// The mode of a file that everybody may read, and write where the mask of the process lets them.
+/// The mode of a file that everybody may read, and write if the mask of the process lets them.
 const PUBLIC_MODE: u32 = 0o666;
 
 /// The mode of each other file.
@@ -37,34 +37,34 @@ const PRIVATE_MODE: u32 = 0o600;
 pub struct Arrived {
     /// Its place.
     pub spot: Spot,
-    /// So many bytes it has.
+    /// Its size in bytes.
     pub size: u64,
 }
 
 /// A file that was preserved.
 #[derive(Drop)]
 pub struct Preserved<A: Allocator> {
-    /// Gives its former name.
+    /// Its former name.
     pub name: Name,
     /// Its path.
     pub path: String<A>,
 }
 
-/// The folders of a spool on a disk. A folder that lacks is made where a file comes into it.
+/// The folders of a spool on a disk. A missing folder is created when a file comes into it.
 #[derive(Drop)]
 pub struct SpoolDisk<'a, 'p, R, A: Allocator> {
     rt: &'a R,
     paths: &'p SpoolPaths<A>,
     alloc: A,
     faults: Faults,
-    /// So many bytes has the file that came last, beside its place.
+    /// The size in bytes of the file that came last, which is beside its place.
     size: u64,
     arrived: Vec<Arrived, A>,
     preserved: Vec<Preserved<A>, A>,
 }
 
 impl<'a, 'p, R: Files<File = File>, A: Allocator + Copy> SpoolDisk<'a, 'p, R, A> {
-    /// The folders of this spool.
+    /// Creates the disk over the folders of this spool.
     pub fn new(alloc: A, rt: &'a R, paths: &'p SpoolPaths<A>) -> Self
         ensures calm { ⟦<SpoolDisk<'a, 'p, R, A> as Disk>⟧.fault_count result ≡ 0 }
     {
@@ -81,31 +81,31 @@ impl<'a, 'p, R: Files<File = File>, A: Allocator + Copy> SpoolDisk<'a, 'p, R, A>
 }
 
 impl<R, A: Allocator> SpoolDisk<'_, '_, R, A> {
-    /// Why a call of the system failed first, if one did.
+    /// Returns why a call of the system failed first, if one did.
     pub fn failure(&self) -> Option<SystemFailure>
         ensures told { 0 < self.now.faults.count → IsSome result }
     {
         self.faults.first()
     }
 
-    /// The files that have come into their places, as far as there was memory to keep that.
+    /// Returns the files that have come into their places, as far as there was memory to keep that.
     pub fn arrived(&self) -> &[Arrived] {
         self.arrived.as_slice()
     }
 
-    /// The files that were preserved, as far as there was memory to keep that.
+    /// Returns the files that were preserved, as far as there was memory to keep that.
     pub fn preserved(&self) -> &[Preserved<A>] {
         self.preserved.as_slice()
     }
 
-    /// Keeps that a file was preserved.
+    /// Notes that a file was preserved.
     fn note_preserved(&mut self, name: &Name, path: String<A>)
         ensures { self.new.faults ≡ self.old.faults }
     {
         let _ = self.preserved.push(Preserved { name: *name, path });
     }
 
-    /// Keeps that a file has moved, if it was one that came.
+    /// Notes that a file has moved, if it was one that came.
     fn note_moved(&mut self, from: &Spot, to: &Spot)
         ensures { self.new.faults ≡ self.old.faults }
     {
@@ -118,7 +118,7 @@ impl<R, A: Allocator> SpoolDisk<'_, '_, R, A> {
         }
     }
 
-    /// What is answered after a call of the system. One that failed is counted.
+    /// Returns the result of a call of the system. A failure is counted.
     fn answer(&mut self, answer: io::Result<()>) -> Result<(), DiskFailed>
         ensures calm { OnOk result (self.new.faults.count ≡ self.old.faults.count) }
         ensures fault { OnErr result
@@ -146,7 +146,7 @@ impl<R: Files<File = File>, A: Allocator + Copy> Disk for SpoolDisk<'_, '_, R, A
 
     ghost fault_count = { λ disk. disk.faults.count };
 
-    /// A file of this name that is left over goes before.
+    /// Creates a file with these bytes. A file of this name that is left over is removed before.
     fn make(&mut self, spot: &Spot, bytes: &[u8]) -> Result<(), DiskFailed> {
         let made = make_file(self.alloc, self.rt, self.paths, spot, bytes);
         if spot.room == Room::Temporary {
@@ -195,7 +195,7 @@ impl<R: Files<File = File>, A: Allocator + Copy> Disk for SpoolDisk<'_, '_, R, A
     }
 }
 
-/// Returns the answer, where it is no fault that there is no such file.
+/// Returns the result, where a missing file is no fault.
 fn unless_gone(answer: io::Result<()>) -> io::Result<()>
     ensures done { OnOk answer (IsOk result) }
     ensures gone { IfErr answer (λ error. error_kind error ≡ ErrorKind.NotFound → IsOk result) }
@@ -207,7 +207,7 @@ fn unless_gone(answer: io::Result<()>) -> io::Result<()>
     }
 }
 
-/// Makes a file, and writes it.
+/// Creates a file, and writes it.
 fn make_file<A: Allocator + Copy, R: Files<File = File>>(
     alloc: A,
     rt: &R,
@@ -227,8 +227,8 @@ fn make_file<A: Allocator + Copy, R: Files<File = File>>(
     file.write_all(bytes)
 }
 
-/// The mode of a file before the mask of the process: what goes into the public folder everybody may read, and a mail nobody
-/// else.
+/// Returns the mode of a file before the mask of the process. Everybody may read what goes into the public folder, and
+/// nobody else a mail.
 fn mode_of(spot: &Spot) -> u32
     ensures public { (target : Spot) → spot.now.room ≡ rooms.Temporary → spot_of spot.now.name ≡ Ok target
         → target.room ≡ rooms.Public → result ≡ PUBLIC_MODE }
@@ -241,7 +241,7 @@ fn mode_of(spot: &Spot) -> u32
     }
 }
 
-/// Makes a file that is not there yet.
+/// Creates a file that is not there yet.
 fn new_file<R: Files<File = File>>(rt: &R, path: &str, mode: u32) -> io::Result<File> {
     OpenOptions::new()
         .write(true)
@@ -250,7 +250,7 @@ fn new_file<R: Files<File = File>>(rt: &R, path: &str, mode: u32) -> io::Result<
         .open(rt, path)
 }
 
-/// Takes away what kept a file from being made: that there is one of its name, or that its folder lacks.
+/// Removes what kept a file from being created: there is one of its name, or its folder is missing.
 fn make_way<A: Allocator + Copy, R: Files>(
     alloc: A,
     rt: &R,
@@ -266,7 +266,7 @@ fn make_way<A: Allocator + Copy, R: Files>(
     }
 }
 
-/// Makes the folder of a room, and those in which it is.
+/// Creates the folder of a room, and those in which it is.
 fn make_room<A: Allocator + Copy, R: Files>(
     alloc: A,
     rt: &R,
@@ -277,7 +277,7 @@ fn make_room<A: Allocator + Copy, R: Files>(
     fs::create_dir_all(rt, path.as_str())
 }
 
-/// Sees the bytes of a file on the device.
+/// Syncs a file to disk.
 fn see_file<A: Allocator + Copy, R: Files>(
     alloc: A,
     rt: &R,
@@ -288,8 +288,8 @@ fn see_file<A: Allocator + Copy, R: Files>(
     File::open(rt, path.as_str())?.sync_all()
 }
 
-/// Gives a file another place. The folder there is made if it lacks. A C. file only takes the place of one that is still there:
-/// `uustat` may have taken that away meanwhile, and with it the job.
+/// Moves a file to another place. A missing folder there is created. A C. file only replaces one that is still there:
+/// `uustat` may have removed that meanwhile, and with it the job.
 fn move_file<A: Allocator + Copy, R: Files>(
     alloc: A,
     rt: &R,
@@ -309,14 +309,14 @@ fn move_file<A: Allocator + Copy, R: Files>(
     see_below(rt, to, target.as_str())
 }
 
-/// Returns whether a file comes too late for its place in this room: a C. file does where none is there any more.
+/// Returns whether a file comes too late for its place in this room: a C. file does if none is there any more.
 fn is_absent(room: Room, is_there: bool) -> bool
     ensures { result ≡ is_absent room is_there }
 {
     room == Room::Commands && !is_there
 }
 
-/// Takes a file away that comes too late for its place.
+/// Removes a file that comes too late for its place.
 fn drop_late<R: Files>(rt: &R, source: &str, room: Room, is_there: bool) -> io::Result<()>
     requires { is_absent room is_there ≡ true }
 {
@@ -324,7 +324,7 @@ fn drop_late<R: Files>(rt: &R, source: &str, room: Room, is_there: bool) -> io::
     fs::remove_file(rt, source)
 }
 
-/// Gives the file at a path another one, in this room, whose folder is made if it lacks.
+/// Renames the file at a path to another path, in this room. A missing folder is created.
 fn move_path<A: Allocator + Copy, R: Files>(
     alloc: A,
     rt: &R,
@@ -343,7 +343,7 @@ fn move_path<A: Allocator + Copy, R: Files>(
     }
 }
 
-/// Sees a name on the device that is in a folder of its room: the room itself is seen apart.
+/// Syncs the folder of a name that is in a folder of its room. The room itself is synced apart.
 fn see_below<R: Files>(rt: &R, spot: &Spot, path: &str) -> io::Result<()> {
     if !spot.name.as_bytes().contains(&b'/') {
         return Ok(());
@@ -354,7 +354,7 @@ fn see_below<R: Files>(rt: &R, spot: &Spot, path: &str) -> io::Result<()> {
     }
 }
 
-/// Gives a file a place that nothing has: this one, or one with a number behind it. Its path is given back.
+/// Moves a file to a place that nothing has: this one, or one with a number after it. Returns its path.
 fn preserve_file<A: Allocator + Copy, R: Files>(
     alloc: A,
     rt: &R,
@@ -369,7 +369,7 @@ fn preserve_file<A: Allocator + Copy, R: Files>(
     Ok(target)
 }
 
-/// This path, or the first with a number behind it, at which nothing is.
+/// Returns this path, or the first with a number after it, at which nothing is.
 fn free_path<A: Allocator + Copy, R: Files>(
     alloc: A,
     rt: &R,
@@ -388,7 +388,7 @@ fn free_path<A: Allocator + Copy, R: Files>(
     Err(io::Error::from(ErrorKind::AlreadyExists))
 }
 
-/// Takes a name away.
+/// Removes a name.
 fn remove_file<A: Allocator + Copy, R: Files>(
     alloc: A,
     rt: &R,
@@ -399,7 +399,7 @@ fn remove_file<A: Allocator + Copy, R: Files>(
     fs::remove_file(rt, path.as_str())
 }
 
-/// Sees the names of a folder on the device.
+/// Syncs the names of a folder to disk.
 fn see_room<A: Allocator + Copy, R: Files>(
     alloc: A,
     rt: &R,
@@ -410,7 +410,7 @@ fn see_room<A: Allocator + Copy, R: Files>(
     File::open(rt, path.as_str())?.sync_all()
 }
 
-/// Appends this to what is told of jobs that have failed, and sees it on the device.
+/// Appends these notices to the list of jobs that have failed, and syncs it to disk.
 fn append_told<A: Allocator + Copy, R: Files<File = File>>(
     alloc: A,
     rt: &R,

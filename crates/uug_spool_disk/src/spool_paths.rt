@@ -1,4 +1,4 @@
-//! Where the folders of a spool are.
+//! The paths of the folders of a spool.
 ghost use Rattle.std.specs.Prelude.{◌≡◌, IfOk, string_bytes};
 ghost use Rattle.uug_spool_disk.specs.Paths.{file_path, room_path};
 
@@ -16,7 +16,7 @@ pub struct SpoolPaths<A: Allocator> {
 }
 
 impl<A: Allocator + Copy> SpoolPaths<A> {
-    /// The spool at this path, this system's folders, and the public folder at that path.
+    /// Creates the paths of the spool at this path, of this system's folders, and of the public folder at that path.
     pub fn new(alloc: A, spool: &str, system: Name, public: &str) -> Result<Self, AllocError>
         ensures spool { IfOk result (λ paths. string_bytes paths.spool ≡ spool.now) }
         ensures system { IfOk result (λ paths. paths.system ≡ system) }
@@ -31,28 +31,28 @@ impl<A: Allocator + Copy> SpoolPaths<A> {
 }
 
 impl<A: Allocator> SpoolPaths<A> {
-    /// The path of the spool.
+    /// Returns the path of the spool.
     pub fn spool(&self) -> &str
         ensures { result.now ≡ string_bytes self.now.spool }
     {
         self.spool.as_str()
     }
 
-    /// The name of the system, which is that of its folder.
+    /// Returns the name of the system, which is that of its folder.
     pub fn system(&self) -> &Name
         ensures { result.now ≡ self.now.system }
     {
         &self.system
     }
 
-    /// The path of the public folder.
+    /// Returns the path of the public folder.
     pub fn public(&self) -> &str
         ensures { result.now ≡ string_bytes self.now.public }
     {
         self.public.as_str()
     }
 
-    /// The spool, as what a failure is of.
+    /// Returns the spool as the folder of a failure.
     pub fn end_dir(&self) -> EndDir<'_> {
         EndDir {
             path: self.spool.as_str(),

@@ -49,7 +49,7 @@ fn spot(rt: &impl Abort, room: Room, text: &str) -> Spot {
     Spot { room, name }
 }
 
-/// The steps that put a mail in its place, which arrived as D.0001.
+/// The steps that put a mail, which arrived as D.0001, in its place.
 const STORED: [Step; 9] = [
     Step::Unlink(Room::Temporary, "D.0001"),
     Step::Make(Room::Temporary, "D.0001", "a mail\n"),

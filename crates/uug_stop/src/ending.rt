@@ -1,4 +1,4 @@
-//! How the program ends after a task.
+//! The end of the program after a task.
 ghost use Rattle.std.specs.Prelude.{◌≡◌, IfErr, IfOk, IsErrAnd, MatchResult, [], string_bytes};
 ghost use Rattle.uug_reason.specs.Reasons.{places, reason_line};
 ghost use Rattle.uug_stop.specs.Stop.{EndsSo, SaysReason, SaysStream, StopsAs, status_of_stop};
@@ -13,7 +13,7 @@ use uug_reason::reason_line;
 use uug_stream::ToolFault;
 use uug_words::Task;
 
-/// Why the program ends where a task gave up.
+/// Returns why the program ends after a task gave up.
 fn stop_of(
     alloc: Global,
     task: Task<'_>,
@@ -36,7 +36,7 @@ fn stop_of(
     }
 }
 
-/// How the program ends after a task that answered this.
+/// Returns how the program ends after a task with this answer.
 pub fn end_of(
     alloc: Global,
     task: Task<'_>,
@@ -52,14 +52,14 @@ pub fn end_of(
     }
 }
 
-/// That a call of the system failed on the standard stream of this name, and why, where there was memory for it.
+/// Returns that a call of the system failed on the standard stream of this name, and why, if there was memory for that.
 fn says_stream(alloc: Global, name: &str, failure: SystemFailure) -> Stop
     ensures { SaysReason (reason_line (places name.now [] [] []) failure) result }
 {
     says_reason(reason_line(alloc, name, "", "", "", failure))
 }
 
-/// The same end, with the call of the system that failed on standard input or output, where it is known.
+/// Returns the same end, with the call of the system that failed on standard input or output, if it is known.
 pub fn with_reason(
     alloc: Global,
     ended: Result<u8, Stop>,
@@ -82,7 +82,7 @@ pub fn with_reason(
     }
 }
 
-/// Says on standard error why the program ends before its task is done, where that can be said, and gives the
+/// Prints on standard error why the program ends before its task is done, if that can be printed, and returns the
 /// program's status.
 pub fn end(rt: &impl Eprint, ended: Result<u8, Stop>) -> u8
     ensures { MatchResult ended

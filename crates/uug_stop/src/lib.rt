@@ -1,4 +1,4 @@
-//! Why the program ends before its task is done: what it says of that, and its status.
+//! The reasons why the program ends before its task is done: their messages, and its status.
 #![tactic(auto)]
 
 mod ending;

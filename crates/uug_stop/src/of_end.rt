@@ -1,4 +1,4 @@
-//! Why one end or both gave up, and why nothing was queued.
+//! The reasons why one end or both gave up, and why nothing was queued.
 ghost use Rattle.std.specs.Prelude.{◌≡◌, string_bytes};
 ghost use Rattle.uug_disk.specs.Queued.{word_or_empty};
 ghost use Rattle.uug_stop.specs.Stop.{StopsOnCause, StopsOnEnd, StopsOnFolders, StopsOnLoudPair, StopsOnPair, StopsOnPairBy, StopsOnQueue, output_of};
@@ -22,8 +22,8 @@ pub const LOG: usize = 1;
 /// The number of the statistics among them.
 pub const STATS: usize = 2;
 
-/// Why a task gave up that works in these folders, of which the second may be the first again: the folder is named where
-/// another run holds it, and on what a call of the system failed, and why, where it is known.
+/// Returns why a task gave up that works in these folders, of which the second may be the first again. It names the
+/// folder if another run holds it. It says on what a call of the system failed, and why, if that is known.
 fn stop_of_folders(
     alloc: Global,
     line: &str,
@@ -44,7 +44,7 @@ fn stop_of_folders(
     }
 }
 
-/// Says why two ends gave up: what is wrong with their usage always, and the rest with `-v`.
+/// Returns why two ends gave up. It always says what is wrong with their usage, and the rest with `-v`.
 pub(crate) fn stop_of_pair(
     alloc: Global,
     pair: &PairTask<'_>,
@@ -60,7 +60,7 @@ pub(crate) fn stop_of_pair(
     }
 }
 
-/// Says why two ends gave up whose usage is right: only the fault without `-v`.
+/// Returns why two ends gave up whose usage is right: only the fault without `-v`.
 fn stop_of_pair_by(
     alloc: Global,
     pair: &PairTask<'_>,
@@ -77,7 +77,7 @@ fn stop_of_pair_by(
     }
 }
 
-/// Says what is wrong with a line of jobs, or which call of the system failed.
+/// Returns what is wrong with a line of jobs, or which call of the system failed.
 fn stop_of_loud_pair(
     alloc: Global,
     pair: &PairTask<'_>,
@@ -93,8 +93,8 @@ fn stop_of_loud_pair(
     }
 }
 
-/// Why the task of one end gave up: what is wrong with it is said, and the line is named where another run holds it, and so is
-/// the folder.
+/// Returns why the task of one end gave up. It says what is wrong with the task, and names the line or the folder if
+/// another run holds it.
 pub(crate) fn stop_of_end(
     alloc: Global,
     call: &CallTask<'_>,
@@ -119,7 +119,7 @@ pub(crate) fn stop_of_end(
     }
 }
 
-/// Why one end gave up for which a call of the system failed. Its folders are its own, and that of the locks.
+/// Returns why one end gave up after a failed call of the system. Its folders are its own, and that of the locks.
 fn stop_of_cause(
     alloc: Global,
     output: &str,
@@ -136,7 +136,7 @@ fn stop_of_cause(
     }
 }
 
-/// The file that is this output of one end: its report, its log, or the statistics.
+/// Returns the file that is this output of one end: its report, its log, or the statistics.
 fn output_named<'a>(call: &CallTask<'a>, number: usize) -> &'a str
     ensures { result.now ≡ output_of call.now number }
 {
@@ -148,8 +148,8 @@ fn output_named<'a>(call: &CallTask<'a>, number: usize) -> &'a str
     path.unwrap_or("")
 }
 
-/// Why nothing was queued or listed: the file that can't be copied is named, what is wrong with the order is said, and on what
-/// a call of the system failed, and why, where it is known.
+/// Returns why nothing was queued or listed. It names the file that can't be copied, and says what is wrong with the
+/// order. It says on what a call of the system failed, and why, if that is known.
 pub(crate) fn stop_of_queue(
     alloc: Global,
     dir: &str,

@@ -1,4 +1,4 @@
-//! Why a task with an input gave up.
+//! The reasons why a task with an input gave up.
 ghost use Rattle.std.specs.Prelude.{string_bytes};
 ghost use Rattle.uug_stop.specs.Stop.{StopsOnDrawing, StopsOnFile, StopsOnScript, StopsOnScriptFile};
 
@@ -8,7 +8,7 @@ use std::alloc::Global;
 use uug_failure::SystemFailure;
 use uug_stream::ToolFault;
 
-/// Why a script was not drawn.
+/// Returns why a script was not drawn.
 pub(crate) fn stop_of_drawing(alloc: Global, fault: ToolFault) -> Stop
     ensures { StopsOnDrawing fault result }
 {
@@ -18,7 +18,7 @@ pub(crate) fn stop_of_drawing(alloc: Global, fault: ToolFault) -> Stop
     }
 }
 
-/// Why a task gives up that read the file of this name: the file is named where it is the cause.
+/// Returns why a task gave up that read the file of this name. The file is named if it is the cause.
 pub(crate) fn stop_of_file(
     alloc: Global,
     path: &str,
@@ -33,7 +33,7 @@ pub(crate) fn stop_of_file(
     }
 }
 
-/// Why a script was not played, with the remark where it is bad.
+/// Returns why a script was not played, with the remark if it is bad.
 pub(crate) fn stop_of_script(fault: ToolFault, remark: String) -> Stop
     ensures { StopsOnScript fault (string_bytes remark) result }
 {
@@ -43,7 +43,7 @@ pub(crate) fn stop_of_script(fault: ToolFault, remark: String) -> Stop
     }
 }
 
-/// The same of the script in the file of this name.
+/// Does the same for the script in the file of this name.
 pub(crate) fn stop_of_script_file(
     alloc: Global,
     path: &str,

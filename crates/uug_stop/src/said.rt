@@ -1,4 +1,4 @@
-//! What is said where the program ends before its task is done, where there is memory to say so.
+//! The messages of a program that ends before its task is done, if there is memory for them.
 ghost use Rattle.std.specs.Prelude.{◌≡◌, IfOk, MatchResult, string_bytes};
 ghost use Rattle.uug_stop.specs.Stop.{NamesFile, NamesFileFor, NamesFolder, SaysFault, SaysTooMuch, why_not_read};
 
@@ -8,10 +8,10 @@ use uug_failure::SystemFailure;
 use uug_reason::reason_line;
 use uug_stream::ToolFault;
 
-/// What is remarked of a script that is too much for a picture.
+/// The remark on a script that is too much for a picture.
 const TOO_MUCH: &str = "a picture has at most 1000000 rungs";
 
-/// That a script is too much for a picture, where there is memory to say so.
+/// Returns that a script is too much for a picture, if there is memory to say that.
 pub(crate) fn says_too_much(alloc: Global) -> Stop
     ensures { SaysTooMuch result }
 {
@@ -21,14 +21,14 @@ pub(crate) fn says_too_much(alloc: Global) -> Stop
     }
 }
 
-/// Says the fault, and not why.
+/// Returns the fault, without the reason.
 pub(crate) fn says_fault(alloc: Global, fault: ToolFault) -> Stop
     ensures { SaysFault fault result }
 {
     Stop::Told(fault, String::new(alloc))
 }
 
-/// That a call of the system failed, as this line says, where there was memory for it.
+/// Returns that a call of the system failed, as this line says, if there was memory for it.
 pub(crate) fn says_reason(reason: Result<String, AllocError>) -> Stop
     ensures { MatchResult reason (λ line. result ≡ Stop.Told ToolFault.Device line)
         (λ _. result ≡ Stop.Fault ToolFault.Device) }
@@ -39,7 +39,7 @@ pub(crate) fn says_reason(reason: Result<String, AllocError>) -> Stop
     }
 }
 
-/// Why the file of this name can't be read, as a line, where it is known.
+/// Returns why the file of this name can't be read, as a line, if that is known.
 fn why_not_read(alloc: Global, path: &str, why: Option<SystemFailure>) -> Result<String, AllocError>
     ensures { IfOk result (λ line. string_bytes line ≡ why_not_read path.now why) }
 {
@@ -49,7 +49,7 @@ fn why_not_read(alloc: Global, path: &str, why: Option<SystemFailure>) -> Result
     }
 }
 
-/// That the file of this name can't be read, and why, where there is memory to say so.
+/// Returns that the file of this name can't be read, and why, if there is memory to say that.
 pub(crate) fn names_file(alloc: Global, path: &str, why: Option<SystemFailure>) -> Stop
     ensures { NamesFile path.now why result }
 {
@@ -59,7 +59,7 @@ pub(crate) fn names_file(alloc: Global, path: &str, why: Option<SystemFailure>) 
     }
 }
 
-/// The same for this reason.
+/// Does the same for this reason.
 fn names_file_for(alloc: Global, path: &str, reason: String) -> Stop
     ensures { NamesFileFor path.now (string_bytes reason) result }
 {
@@ -69,7 +69,7 @@ fn names_file_for(alloc: Global, path: &str, reason: String) -> Stop
     }
 }
 
-/// That another run holds the folder or the line of this name, where there is memory to say so.
+/// Returns that another run holds the folder or the line of this name, if there is memory to say that.
 pub(crate) fn names_folder(alloc: Global, dir: &str) -> Stop
     ensures { NamesFolder dir.now result }
 {
@@ -79,7 +79,7 @@ pub(crate) fn names_folder(alloc: Global, dir: &str) -> Stop
     }
 }
 
-/// What is wrong with the usage, where there was memory for it.
+/// Returns what is wrong with the usage, if there was memory for it.
 pub(crate) fn says_usage(remark: Result<String, AllocError>) -> Stop
     ensures { MatchResult remark (λ text. result ≡ Stop.Remarked ToolFault.Usage text)
         (λ _. result ≡ Stop.Fault ToolFault.Usage) }

@@ -1,4 +1,4 @@
-//! Why the program ends before its task is done, and what it says of that.
+//! The reasons why the program ends before its task is done, and their messages.
 ghost use Rattle.std.specs.Prelude.{◌≡◌};
 ghost use Rattle.uug_stop.specs.Refused.{IsRefusal};
 ghost use Rattle.uug_stop.specs.Stop.{status_of_stop};
@@ -9,7 +9,7 @@ use std::alloc::AllocError;
 use thiserror::Error;
 use uug_stream::ToolFault;
 
-/// Why the program ends before its task is done. Its text is what the program says on standard error.
+/// The reason why the program ends before its task is done. Its text is the message on standard error.
 #[derive(Debug, Drop, Error)]
 pub enum Stop {
     #[error("uucpair: {0}\n")]
@@ -17,22 +17,22 @@ pub enum Stop {
     /// A fault, and a remark on it.
     #[error("uucpair: {0}\nuucpair: {1}\n")]
     Remarked(ToolFault, String),
-    /// The file of this name can't be opened or read; a line says why, where it is known.
+    /// The file of this name can't be opened or read; a line says why, if that is known.
     #[error("uucpair: device fault\nuucpair: can't read {0}\n{1}")]
     File(String, String),
     /// Another run works in the folder of this name, or holds the line of this name.
     #[error("uucpair: device fault\nuucpair: {0} is in use\n")]
     InUse(String),
-    /// Says a fault, and where and why, if that is known and asked for.
+    /// A fault, and where and why, if that is known and asked for.
     #[error("uucpair: {0}\n{1}")]
     Told(ToolFault, String),
-    /// The command line asks for no task: the usage, or the help where it was asked for.
+    /// The command line asks for no task. The text is the usage, or the help if that was asked for.
     #[error("{0}")]
     CommandLine(clap::error::Error),
 }
 
 impl Stop {
-    /// The status that the program ends with.
+    /// Returns the status that the program ends with.
     pub fn status(&self) -> u8
         ensures { result ≡ status_of_stop self.now }
     {

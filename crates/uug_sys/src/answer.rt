@@ -204,7 +204,7 @@ fn greater(first: u8, second: u8) -> u8
     first.max(second)
 }
 
-/// Serves the next caller that is let in. If none is let in in time, closes the socket and runs a session with nobody.
+/// Serves the next caller that is let in. If none comes in time, closes the socket and runs a session with nobody.
 /// Returns the doorkeeper too.
 fn next_served<'a, 'p, A, R, T, W, B>(
     alloc: A,

@@ -512,7 +512,7 @@ where
         → CountsFault (O.fault_count output.old) (O.fault_count output.new) }
     ensures no_other { IfErr result IsCallFault }
     ensures no_usage { result ≢ Err ToolFault.Usage }
-    // Where the line has not failed it is said which call of the folder's it was.
+    // Unless the line has failed, `why` says which call on the folder did.
     ensures why { result ≡ Err ToolFault.Device
         → IsSome why.new ⊎ (0 < L.fault_count line.new.line) }
 {

@@ -176,7 +176,7 @@ where
     Ok(1)
 }
 
-/// Returns `None` unless a call with this result got no line. Else returns whether another run has the line.
+/// Returns whether another run has the line, if a call with this result got no line. Else returns `None`.
 fn line_fault(answer: Result<u8, ToolFault>, why: Option<SystemFailure>) -> Option<bool>
     ensures { result ≡ line_fault answer why }
 {
@@ -259,7 +259,7 @@ where
     let system = station.place.peer;
     let lock = lock_system(alloc, rt, task.locks, system.as_str());
     if task.peer != ANY && is_held(&lock) {
-        // Where any may call it was heard already.
+        // If any may call it was heard already.
         let _ = meet_caller(alloc, &station.place, line, station.limits().greeting);
     }
     lock
@@ -317,8 +317,8 @@ where
     }
 }
 
-/// Handles a system that has called and whose lock the end has not got. If another run has the lock, the caller is told
-/// that, after the words with which each session begins. A greeted line takes those as said already.
+/// Handles a system that has called and whose lock the end has not got. If another run has the lock, the caller hears
+/// `RLCK`, after the words with which each session begins. A greeted line takes those as said already.
 fn talk_unlocked<A, R, L, O>(
     alloc: A,
     rt: &R,
@@ -521,7 +521,7 @@ fn has_folder<A: Allocator, R: Files>(
     spool: &str,
     name: &Name,
 ) -> Result<bool, AllocError>
-    // None of a name that leads elsewhere.
+    // It has no folder of a name that leads elsewhere.
     ensures { IfOk result (λ is_known. is_known ≡ true → is_system_name name.now ≡ true) }
 {
     if !is_system_name(name) {

@@ -124,7 +124,7 @@ impl<'a, R: Eprint + Clock, A: Allocator + Copy> SystemObserver<'a, R, A> {
             return remark_of(self.alloc, last.bytes(), ended_for_it);
         }
         match self.hearing.heard() {
-            // A session past its greeting ends for no text of that.
+            // A session past its greeting does not end because of a text of the greeting.
             Heard::Text(text) if !(self.has_met && ended_for_it) => {
                 remark_of(self.alloc, text, ended_for_it)
             }
@@ -174,7 +174,7 @@ impl<R: Eprint + Clock, A: Allocator + Copy> SessionObserver for SystemObserver<
             ReadOutcome::TimedOut => self.silences = self.silences.saturating_add(1),
             ReadOutcome::Eof => {}
         }
-        // What comes behind the greeting are packets.
+        // Only packets come after the greeting.
         if matches!(self.phase, None | Some(Phase::Hail)) {
             self.hearing.hear(piece);
         }

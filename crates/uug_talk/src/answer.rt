@@ -65,7 +65,7 @@ pub fn read_answer(text: &[u8]) -> Result<Answer, BadText>
     ensures found { IfOk result (λ answer. ReadsAnswer text.now answer) }
     // What is written so is read.
     ensures only { (answer : Answer) → ReadsAnswer text.now answer → result ≡ Ok answer }
-    // A refusal says what is wrong first.
+    // An error names the first thing that is wrong.
     ensures refused { IfErr result (λ fault. IsRefusedAnswer fault text.now) }
     // The same as a function of the text.
     ensures exact { result ≡ answer_of text.now }

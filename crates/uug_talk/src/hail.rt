@@ -97,7 +97,7 @@ impl Hail {
         ensures ok { IfOk result (λ found. Hears self.old piece.now found.0 self.new) }
         ensures too_long { OnErr result (FindsTooLong self.old piece.now) }
 
-        // Nothing behind an end byte is used, and all of a piece without one.
+        // No byte after an end byte is used. A piece without one is used whole.
         ensures whole { IfOk result (λ found. found.1 ≡ is_whole self.new) }
         ensures used { IfOk result (λ found. (found.0 ≤ length piece.now)
             × (found.1 ≡ false → found.0 ≡ length piece.now)) }

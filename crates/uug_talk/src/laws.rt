@@ -19,8 +19,8 @@ ghost use Rattle.uug_talk.specs.StreamTexts.{StreamTexts, HasTexts, Rest, TooLon
 ghost use Rattle.uug_talk.specs.Texts.{IsFirstText, IsTooLong, Heard, Passing, Whole, Holds, is_whole, left_to_hear, used_before, hear};
 
 /// States each limit as a number: the most bytes of a name, a command, a handshake text, a message, a file and a line.
-/// Also stated are the greatest limit of a file, the limit of a mode, the most octal digits in which one is read, and the mode of a file that is
-/// given without one. The byte at the start of a handshake text is stated too.
+/// Also stated are the greatest limit that a file may have, the limit of a mode, the most octal digits in which a mode
+/// is read, and the mode of a file that is given without one. The byte at the start of a handshake text is stated too.
 pub fn limits()
     ensures name { NAME_MAX ≡ 200 }
     ensures command { COMMAND_MAX ≡ 4096 }
@@ -116,8 +116,8 @@ pub fn file_is_gathered()
         → GathersBack (OfFile limit) (file_messages size bytes) bytes }
 {}
 
-/// What is gathered behind held bytes goes on message by message. Where these are a front of a file, the messages of
-/// the rest bring the file.
+/// States that gathering after held bytes goes on message by message. If the held bytes are a front of a file, the
+/// messages of the rest bring the file.
 pub fn file_goes_on_behind_its_front()
     ensures next { (front : List ℕ) (kind : Kind) (messages : List (List ℕ)) (message : List ℕ)
         → (gathered kind messages).whole ≡ false

@@ -63,7 +63,7 @@ pub fn read_order(text: &[u8]) -> Result<Order, BadText>
     ensures found { IfOk result (λ order. ReadsOrder text.now order) }
     // What is written so is read.
     ensures only { (order : Order) → ReadsOrder text.now order → result ≡ Ok order }
-    // A refusal says what is wrong first.
+    // An error names the first thing that is wrong.
     ensures refused { IfErr result (λ fault. IsRefusedOrder fault text.now) }
     // The same as a function of the text.
     ensures exact { result ≡ order_of text.now }

@@ -27,7 +27,7 @@ use uug_transfer::{
 /// The parts of an end: its place, its jobs, its files, and the texts that hold its state between sessions.
 #[derive(Drop)]
 pub struct EndParts<S: Spool, J, N, A: Allocator> {
-    /// Its place: the names of both ends, and what it announces.
+    /// Its place: the names of both ends, what it announces, and its number.
     pub place: Place,
     /// Its jobs, all of which are to be offered.
     pub queue: Queue<A>,

@@ -96,7 +96,7 @@ const CONSENTS: &[(u32, &[u8])] = &[
     (4_294_967_295, b"SY 0xffffffff"),
 ];
 
-/// Answers that ask for a file from its first byte on: none of them tells a position.
+/// Answers that ask for a file from its first byte on. None of them gives a position.
 const UNPLACED: &[&[u8]] = &[
     b"SY 256",
     b"SY 0x",

@@ -168,8 +168,8 @@ fn a_file_has_at_most_1048576_bytes(rt: HostRuntime) {
     assert_so(&rt, file.bytes().iter().all(|byte| *byte == b'f'));
 }
 
-/// Begins with a front of a file of `len` bytes, of which there may be `limit`, gathers the rest and says how many bytes
-/// there are, or why not.
+/// Starts a gatherer of a file of `len` bytes with `front` bytes held, and gathers the rest. The file may have `limit`
+/// bytes. Returns the number of bytes gathered, or the error.
 fn goes_on(
     rt: &impl Abort,
     alloc: Global,

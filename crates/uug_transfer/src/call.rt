@@ -58,13 +58,13 @@ where
         (S.holdings (spool_in end.new.buffered))
         (S.kept (spool_in end.old.buffered)) (S.kept (spool_in end.new.buffered))
         (node_in end.old.buffered) (node_in end.new.buffered) }
-    // What its line has brought, where the line tells that, led it there, and nothing else did.
+    // What its line has brought, if the line exposes that, led it there, and nothing else did.
     ensures heard { UnlessMemory result (HearsLine (S.holdings (spool_in end.old.buffered))
         (S.kept (spool_in end.old.buffered)) (S.kept (spool_in end.new.buffered))
         (L.received line.old) (L.received line.new)
         (node_in end.old.buffered) (node_in end.new.buffered)) }
-    // The line has taken, where it tells that, the first bytes of what there was to write: what was to be written before, and
-    // then what goes out of what the end has emitted by what its line brought.
+    // If the line exposes what it has taken, this is the first bytes of what there was to write: what was to be written
+    // before, and then what goes out of what the end has emitted by what its line brought.
     ensures talked { (node_in end.old.buffered).engine.outbox.entries ≡ [] → UnlessMemory result
         (TalksAtLine (S.holdings (spool_in end.old.buffered))
         (S.kept (spool_in end.old.buffered)) (S.kept (spool_in end.new.buffered))
@@ -75,8 +75,8 @@ where
     ensures over { IsEnded (node_in end.new.buffered).engine.stage }
     ensures within { ReadsWithin most SILENCES_MAX (L.received line.old) (L.received line.new) }
     ensures writes_within { WritesWithin STALLS_MAX (L.writes line.old) (L.writes line.new) }
-    // Where its pending jobs, and no others, stood in its file, they do so again: on every way out but for want of memory, or
-    // where the file has failed. No pending job is lost from it, whatever happens.
+    // If its pending jobs, and no others, were in its file, they are so again, unless memory ran out or the file has
+    // failed. No pending job is lost from it, whatever happens.
     ensures stays { IfWritten result
         (StaysInStore (open_in (J.text end.old.jobs.file)) (open_in (J.text end.new.jobs.file))
         (node_in end.old.buffered) (node_in end.new.buffered)) }
@@ -87,15 +87,15 @@ where
     ensures none_lost { LosesNoJob (open_in (J.text end.old.jobs.file))
         (open_in (J.text end.new.jobs.file))
         (node_in end.old.buffered) (node_in end.new.buffered) }
-    // Of each job that has failed it is told why, beside its line.
+    // Each job that has failed gets a notice with its line.
     ensures told { IfWritten result (TellsFailed (S.holdings (spool_in end.old.buffered))
         (J.told end.old.jobs.file) (J.told end.new.jobs.file)
         (node_in end.old.buffered) (node_in end.new.buffered)) }
-    // The file of the number of an end that keeps one has it.
+    // The file of the number has it, if the end keeps one.
     ensures number { IfWritten result (IsNumberNow (number_of_end (node_in end.old.buffered))
         (number_of_end (node_in end.new.buffered)) (N.text end.old.number) (N.text end.new.number)) }
     ensures number_whole { IsSomeNumber (N.text end.old.number) (N.text end.new.number) }
-    // It has risen once at most since the session began, and not where the call was refused.
+    // It has risen once at most since the session began, and not if the call was refused.
     ensures number_stands { UnlessMemory result
         (KeepsNumber (node_in end.old.buffered).engine (node_in end.new.buffered).engine) }
     ensures report { IsPrinted result (report_of side (node_in end.new.buffered))
@@ -105,7 +105,7 @@ where
         (files_of J.text J.fault_count N.text N.fault_count end.new)) }
     ensures status { IfOk result (λ status.
         status ≡ status_of_phase (phase_of_end (node_in end.new.buffered))) }
-    // Where the line has failed and the session is not done, that is answered, whatever fails later but memory.
+    // If the line has failed and the session is not done, that is the fault returned, whatever fails later but memory.
     ensures line_grows { L.fault_count line.old ≤ L.fault_count line.new }
     ensures line_calm { result ≡ Ok 1 → L.fault_count line.new ≡ L.fault_count line.old }
     ensures jobs_calm { IfWritten result (J.fault_count end.new.jobs.file

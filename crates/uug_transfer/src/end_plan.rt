@@ -1,4 +1,4 @@
-//! What is written for an end when its session is over.
+//! The plan for the files of an end when its session is over.
 ghost use Rattle.std.specs.Prelude.{◌≡◌, ◌≤◌, ◌⊎◌, IfOk, OnErr, OnOk};
 ghost use Rattle.uug_session.specs.Engine.{HasFailed};
 ghost use Rattle.uug_folder.specs.JobsFile.{settled};

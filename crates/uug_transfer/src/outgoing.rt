@@ -1,4 +1,4 @@
-//! What goes out of the packets and texts that an end has emitted.
+//! The bytes that go out of what an end has emitted.
 ghost use Rattle.std.specs.Prelude.{◌≡◌, ◌++◌, OnOk};
 ghost use Rattle.uug_link.specs.Entries.{shown_entry};
 ghost use Rattle.uug_transfer.specs.Outgoing.{count_behind, count_with, flipped, outgoing_from, outgoing_of, outgoing_of_entry};

@@ -60,7 +60,7 @@ where
         (node_in called.old.buffered) (node_in called.new.buffered) }
     ensures caller_over { IsEnded (node_in caller.new.buffered).engine.stage }
     ensures called_over { IsEnded (node_in called.new.buffered).engine.stage }
-    // A file of jobs is as before, or has what is to stay of it.
+    // A file of jobs is as before, or has what stays of it.
     ensures caller_jobs { IsSettled caller.old.jobs.before.items
         (jobs_of_end (node_in caller.new.buffered))
         (J.text caller.old.jobs.file) (J.text caller.new.jobs.file) }
@@ -73,7 +73,7 @@ where
     ensures called_ok { OnOk result (J.text called.new.jobs.file
         ≡ settled called.old.jobs.before.items
         (jobs_of_end (node_in called.new.buffered)) (J.text called.old.jobs.file)) }
-    // On every way out all files are written, unless their devices fail, or none is, for want of memory.
+    // Whatever the result, all files are written, unless their devices fail, or none is, because memory ran out.
     ensures files { LeaveBoth result caller.old.jobs.before.items called.old.jobs.before.items
         (node_in caller.new.buffered) (node_in called.new.buffered)
         (files_of J.text J.fault_count N.text N.fault_count caller.old)
@@ -91,7 +91,7 @@ where
     ensures status { IfOk result (λ status. status
         ≡ status_of_phases (phase_of_end (node_in caller.new.buffered))
         (phase_of_end (node_in called.new.buffered))) }
-    // Where the line or a file has failed, that is answered, whatever fails later but memory.
+    // If the line or a file has failed, that is the fault returned, whatever fails later but memory.
     ensures line_calm { IfWritten result (L.fault_count line.new ≡ L.fault_count line.old) }
     ensures caller_calm { UnlessDevice result (J.fault_count caller.new.jobs.file
         ≡ J.fault_count caller.old.jobs.file) }
@@ -139,7 +139,7 @@ where
     A: Allocator + Copy,
     ensures caller { caller.new.buffered ≡ caller.old.buffered }
     ensures called { called.new.buffered ≡ called.old.buffered }
-    // A file of jobs is as before, or has what is to stay of it.
+    // A file of jobs is as before, or has what stays of it.
     ensures caller_jobs { IsSettled caller.old.jobs.before.items
         (jobs_of_end (node_in caller.old.buffered))
         (J.text caller.old.jobs.file) (J.text caller.new.jobs.file) }
@@ -152,7 +152,7 @@ where
     ensures called_ok { OnOk result (J.text called.new.jobs.file
         ≡ settled called.old.jobs.before.items
         (jobs_of_end (node_in called.old.buffered)) (J.text called.old.jobs.file)) }
-    // On every way out all files are written, unless their devices fail, or none is, for want of memory.
+    // Whatever the result, all files are written, unless their devices fail, or none is, because memory ran out.
     ensures files { LeaveBoth result caller.old.jobs.before.items called.old.jobs.before.items
         (node_in caller.old.buffered) (node_in called.old.buffered)
         (files_of J.text J.fault_count N.text N.fault_count caller.old)

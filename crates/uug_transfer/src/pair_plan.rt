@@ -1,4 +1,4 @@
-//! What is written for two ends when their turns are over.
+//! The plan for the files of two ends, and for their report, when their turns are over.
 ghost use Rattle.std.specs.Prelude.{◌≡◌, ◌≤◌, ◌⊎◌, IfErr, IfOk, OnErr, OnOk, string_bytes};
 ghost use Rattle.uug_session.specs.Engine.{HasFailed};
 ghost use Rattle.uug_stream.specs.Fault.{StopsWriting};

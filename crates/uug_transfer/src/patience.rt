@@ -1,4 +1,4 @@
-//! How long an end stays at a line that brings bytes but no progress.
+//! The patience of an end at a line that brings bytes but no progress.
 ghost use Rattle.std.specs.Prelude.{◌≡◌, ◌*◌, ◌↔◌, IsTrue, max};
 ghost use Rattle.uug_session.specs.Node.{node_of};
 ghost use Rattle.uug_transfer.specs.Patience.{HasPatience, Notes, standing_of};

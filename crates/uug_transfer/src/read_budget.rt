@@ -31,7 +31,7 @@ pub(crate) fn stalls_left(left: u8, count: usize) -> u8
     }
 }
 
-/// What an end may still read, and how often it may still wait, before the line counts as gone.
+/// The bytes that an end may still read, and the silences that it may still wait for, before the line counts as gone.
 #[derive(Clone, Copy)]
 pub(crate) struct ReadBudget {
     /// The number of bytes left to read.

@@ -72,8 +72,8 @@ where
         (injector_in buffered.old) (to_write buffered.old)
         (L.taken line.old) (L.taken line.new)
         (node_in buffered.old) (node_in buffered.new)) }
-    // What is over is taken out of its store, and nothing else; on no way out is a pending job lost from it; and of each job that
-    // has failed it is told why.
+    // Finished jobs are removed from their store, and nothing else is. Whatever the result, no pending job is lost from
+    // it. Each job that has failed gets a notice.
     ensures stays { UnlessUnsettled result
         (StaysInStore (J.open_jobs jobs.old) (J.open_jobs jobs.new)
         (node_in buffered.old) (node_in buffered.new)) }
@@ -143,8 +143,8 @@ where
         (injector_in buffered.old) (to_write buffered.old)
         (L.taken line.old) (L.taken line.new)
         (node_in buffered.old) (node_in buffered.new)) }
-    // What is over is taken out of its store, and nothing else; on no way out is a pending job lost from it; and of each job that
-    // has failed it is told why.
+    // Finished jobs are removed from their store, and nothing else is. Whatever the result, no pending job is lost from
+    // it. Each job that has failed gets a notice.
     ensures stays { UnlessUnsettled result
         (StaysInStore (J.open_jobs jobs.old) (J.open_jobs jobs.new)
         (node_in buffered.old) (node_in buffered.new)) }

@@ -1,6 +1,6 @@
-//! An end that calls, at lines that do what a table says. The clauses say that its jobs stay together, that its session is
-//! over, and when a fault is answered; these tests say how the session ends and what is done then, and that calls succeed
-//! while there is memory. Above each table stands what it is of.
+//! An end that calls, at lines that do what a table says. The clauses say that its jobs stay together, that its session
+//! is over, and when a fault is returned. These tests check how the session ends and what is done then, and that calls
+//! succeed while there is memory. A comment above each table says what its rows are.
 
 mod assertions;
 mod faults;
@@ -36,28 +36,28 @@ type MemoryNode = Node<MemorySpool<Global>, Global>;
 
 type MemoryEndAtLine = BufferedNode<MemorySpool<Global>, Global>;
 
-/// What is at the line's other end.
+/// The other end of the line.
 #[derive(Clone, Copy, PartialEq, Eq)]
 enum Other {
     /// The end that is called.
     Speaks,
-    /// Nothing.
+    /// Nobody.
     IsMute,
-    /// What writes without end, and is no end of a session.
+    /// A writer without end, which is no end of a session.
     Babbles,
 }
 
-/// What the line does.
+/// The behaviour of a line.
 #[derive(Clone, Copy)]
 struct Manner {
     other: Other,
-    /// So many bytes at most come at once.
+    /// The maximum number of bytes that come at once.
     at_once: usize,
-    /// A write takes so many at most, or one.
+    /// The maximum number of bytes that a write takes; 0 counts as 1.
     takes: usize,
-    /// The line ends behind so many bytes.
+    /// The number of bytes after which the line ends.
     ends_behind: usize,
-    /// The call of this number fails, counted from 0, and each behind it.
+    /// The number of the first call that fails, counted from 0. Each call after it fails too.
     fails_at: usize,
 }
 
@@ -65,7 +65,7 @@ fn name(rt: &impl Abort, text: &[u8]) -> Name {
     Name::new(text).expect(rt, "a name")
 }
 
-/// Where an end of window 7 and size 32 stands that keeps this number, or none.
+/// Returns the place of an end of window 7 and size 32 that keeps this number, or none.
 fn place(rt: &impl Abort, me: &[u8], peer: &[u8], number: Option<u32>) -> Place {
     Place {
         me: name(rt, me),
@@ -75,7 +75,7 @@ fn place(rt: &impl Abort, me: &[u8], peer: &[u8], number: Option<u32>) -> Place 
     }
 }
 
-/// The jobs of an end that sends `x` as `y`.
+/// Returns the jobs of an end that sends `x` as `y`.
 fn queue(rt: &impl Abort, alloc: Global) -> Queue<Global> {
     let job = Job::Send {
         source: name(rt, b"x"),
@@ -113,13 +113,13 @@ fn called(rt: &impl Abort, alloc: Global, number: Option<u32>) -> MemoryEndAtLin
     buffered(rt, alloc, made.expect(rt, "an end"))
 }
 
-/// A line of this manner to a called end that keeps this number, or none.
+/// Returns a line of this manner to a called end that keeps this number, or none.
 fn line(rt: &impl Abort, alloc: Global, number: Option<u32>, manner: Manner) -> ScriptedLine {
     ScriptedLine::new(called(rt, alloc, number), manner)
 }
 
-/// What is left of a session: how it ended, how many jobs are pending and done, and how many files are kept at the other
-/// end.
+/// The state after a session: how it ended, how many jobs are pending and done, and how many files are kept at the
+/// other end.
 #[derive(Clone, Copy, Debug, PartialEq, Eq)]
 struct Left {
     answer: Result<(), SessionFault>,
@@ -156,7 +156,7 @@ fn play_at(
     left
 }
 
-/// The files that the end has kept are the one that it was sent.
+/// Asserts that the files that the end has kept are the one that it was sent.
 fn assert_kept(rt: &impl Abort, other: &MemoryEndAtLine, bytes: &[u8]) {
     for file in other.node().spool().stored() {
         assert_same(rt, (file.name, file.mode), (name(rt, b"y"), 0o644));
@@ -164,7 +164,7 @@ fn assert_kept(rt: &impl Abort, other: &MemoryEndAtLine, bytes: &[u8]) {
     }
 }
 
-/// Plays a session of a caller that sends `x`, which has these bytes, and reads so many bytes at most.
+/// Plays a session of a caller that sends `x`, which has these bytes, and reads at most `most` bytes.
 fn play(rt: &impl Abort, alloc: Global, bytes: &[u8], manner: Manner, most: u64) -> Left {
     let mut buffered = caller(rt, alloc, bytes, None);
     let left = play_at(rt, alloc, &mut buffered, bytes, (manner, most));

@@ -1,5 +1,6 @@
-//! Tests of transfers: two ends over a line and folders in memory of which one call fails, two ends over a socket and
-//! folders of the system, and one end at lines that do what a table says, or tell what they have brought and taken.
+//! Tests of transfers. Two ends run over a line and folders in memory of which one call fails, and over a socket and
+//! folders of the system. One end runs at lines that behave as a table says, or expose what they have brought and
+//! taken.
 #![tactic(auto)]
 
 #[cfg(test)]

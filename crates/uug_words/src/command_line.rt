@@ -1,4 +1,4 @@
-//! What the words of a command line ask for.
+//! The task in the words of a command line.
 ghost use Rattle.std.specs.Prelude.{◌≡◌, IfErr, IfOk, codes, map, true};
 ghost use Rattle.clap.specs.Words.{Text, kind_of, takes};
 ghost use Rattle.clap.specs.declared.error.kind.ErrorKind.TheVariants.{OutOfMemory};
@@ -15,18 +15,18 @@ use uug_disk::QueueTask;
 use uug_ladder::Drawn;
 use uug_task::CallTask;
 
-/// The packet size of an end that is told none. A smaller one lets more of what a line changes pass the checksum.
+/// The default packet size of an end. A smaller one lets more of what a line changes pass the checksum.
 const SIZE: u32 = 1_024;
 
-/// The same over a line that is slower than `SLOW` bits a second, where a packet that is sent again takes long.
+/// The default over a line that is slower than `SLOW` bits a second, where a packet that is sent again takes long.
 const SIZE_SLOW: u32 = 256;
 
 const SLOW: u32 = 1_200;
 
-/// What stands in the place of the other end's name where any may call that the spool knows.
+/// The word in place of the other end's name that lets any system of the spool call.
 const ANY: &str = "*";
 
-/// What the command line asks for.
+/// A task that the command line asks for.
 #[derive(Clone, Copy, Debug, PartialEq, Eq)]
 pub enum Task<'a> {
     /// The name of the program and its version, to standard output.
@@ -37,73 +37,73 @@ pub enum Task<'a> {
     ScanVerbose(Option<&'a str>),
     /// The report of the script in a file, or on standard input, to standard output.
     Play(Option<&'a str>),
-    /// Plays the same script, and says why jobs are not done, or why no report was written.
+    /// The report of the same script, and why jobs are not done, or why no report was written.
     PlayVerbose(Option<&'a str>),
     /// The report of the script, and what the run settles to or why it doesn't.
     PlaySettled(Option<&'a str>),
-    /// The report of the script and a picture of its sessions behind it, or the picture alone.
+    /// The report of the script with a picture of its sessions after it, or the picture alone.
     PlayDrawn(Drawn, Option<&'a str>),
     /// Two ends over two folders, and a socket between them.
     Pair(PairTask<'a>),
     /// One end over a folder, and the line to the other one.
     Call(CallTask<'a>),
-    /// A job is queued, or those that wait are listed.
+    /// A job to queue, or the list of those that wait.
     Queue(QueueTask<'a>),
 }
 
-/// What two ends are run over.
+/// The task of two ends.
 #[derive(Clone, Copy, Debug, PartialEq, Eq)]
 pub struct PairTask<'a> {
-    /// Where the socket is made.
+    /// The path at which the socket is made.
     pub socket: &'a str,
     /// The folder of the caller.
     pub dir_a: &'a str,
     /// The folder of the called end.
     pub dir_b: &'a str,
-    /// The N of which every Nth packet is lost.
+    /// N, if every Nth packet is lost.
     pub drop_every: Option<u32>,
-    /// The N of which every Nth packet is changed.
+    /// N, if every Nth packet is changed.
     pub flip_every: Option<u32>,
-    /// Asks for why they gave up.
+    /// Set if they are to report why they gave up.
     pub is_loud: bool,
 }
 
-/// The text of an argument, which is empty where it has none.
+/// Returns the text of an argument, which is empty if it has none.
 fn text<'a>(matches: &ArgMatches<'a>, name: &str) -> &'a str
     ensures { result.now ≡ text_in (entries_of matches.now) name.now }
 {
     matches.get_str(name).unwrap_or("")
 }
 
-/// The file that is read, where one is named.
+/// Returns the file that is read, if one is named.
 fn file<'a>(matches: &ArgMatches<'a>) -> Option<&'a str>
     ensures { IsFileIn (entries_of matches.now) result }
 {
     word(matches, "FILE")
 }
 
-/// The word of an argument, where it has one.
+/// Returns the word of an argument, if it has one.
 fn word<'a>(matches: &ArgMatches<'a>, name: &str) -> Option<&'a str>
     ensures { IsWordIn (entries_of matches.now) name.now result }
 {
     matches.get_str(name)
 }
 
-/// Whether an option is given that has no value.
+/// Returns whether an option without a value is given.
 fn is_given(matches: &ArgMatches<'_>, name: &str) -> bool
     ensures { result ≡ is_given (entries_of matches.now) name.now }
 {
     matches.get_one::<bool>(name).unwrap_or(false)
 }
 
-/// The number of an option, where it has one.
+/// Returns the number of an option, if it has one.
 fn number(matches: &ArgMatches<'_>, name: &str) -> Option<u32>
     ensures { result ≡ number_in (entries_of matches.now) name.now }
 {
     matches.get_one::<u32>(name)
 }
 
-/// The packet size of an end that is told none, by the bits a second of its line, where these are told.
+/// Returns the default packet size of an end, by the speed of its line in bits a second, if that is given.
 fn usual_size(speed: Option<u32>) -> u32
     ensures { result ≡ usual_size speed }
 {
@@ -113,7 +113,7 @@ fn usual_size(speed: Option<u32>) -> u32
     }
 }
 
-/// The packet size that an end announces.
+/// Returns the packet size that an end announces.
 fn size(matches: &ArgMatches<'_>) -> u32
     ensures { result ≡ size_in (entries_of matches.now) }
 {
@@ -123,7 +123,8 @@ fn size(matches: &ArgMatches<'_>) -> u32
     }
 }
 
-/// The name of the other end. An end that is called over a spool may be told none, and lets in any that the spool knows.
+/// Returns the name of the other end. An end that is called over a spool may be given none, and lets in any that the
+/// spool knows.
 fn peer<'a>(side: Side, matches: &ArgMatches<'a>) -> &'a str
     ensures { result.now ≡ peer_in side (entries_of matches.now) }
 {
@@ -134,8 +135,8 @@ fn peer<'a>(side: Side, matches: &ArgMatches<'a>) -> &'a str
     }
 }
 
-/// What one end is run over, as the words behind `call` or `answer` say. All of them are required, or have a default, but the name
-/// of the other end: without `--spool` a task that lacks it may not be run.
+/// Returns the task of one end, from the words after `call` or `answer`. All of them are required, or have a default,
+/// except the name of the other end. Without that name and without `--spool` a task may not be run.
 fn end_task<'a>(side: Side, matches: &ArgMatches<'a>) -> CallTask<'a>
     ensures side { result.side ≡ side }
     ensures says { IsEndIn (entries_of matches.now) result }
@@ -169,7 +170,7 @@ fn end_task<'a>(side: Side, matches: &ArgMatches<'a>) -> CallTask<'a>
     }
 }
 
-/// What two ends are run over, as the words behind `pair` say. The three paths are required, so none is missing.
+/// Returns the task of two ends, from the words after `pair`. The three paths are required, and none is missing.
 fn pair_task<'a>(matches: &ArgMatches<'a>) -> PairTask<'a>
     ensures { IsPairIn (entries_of matches.now) result }
 {
@@ -183,7 +184,7 @@ fn pair_task<'a>(matches: &ArgMatches<'a>) -> PairTask<'a>
     }
 }
 
-/// What is queued, as the words behind `queue` say.
+/// Returns the task of `queue`, from the words after it.
 fn queue_task<'a>(matches: &ArgMatches<'a>) -> QueueTask<'a>
     ensures { IsQueueIn (entries_of matches.now) result }
 {
@@ -197,7 +198,7 @@ fn queue_task<'a>(matches: &ArgMatches<'a>) -> QueueTask<'a>
     }
 }
 
-/// What `scan` is asked for.
+/// Returns the task of `scan`.
 fn scan_task<'a>(matches: &ArgMatches<'a>) -> Task<'a>
     ensures { (tool : Text) → NamesScan tool → AsksIn tool (entries_of matches.now) result }
 {
@@ -209,7 +210,7 @@ fn scan_task<'a>(matches: &ArgMatches<'a>) -> Task<'a>
     }
 }
 
-/// What `play` is asked for: of the options that say how, at most one is given.
+/// Returns the task of `play`. At most one of the options that say how is given.
 fn play_task<'a>(matches: &ArgMatches<'a>) -> Task<'a>
     ensures { AsksIn (codes "play") (entries_of matches.now) result }
 {
@@ -227,7 +228,7 @@ fn play_task<'a>(matches: &ArgMatches<'a>) -> Task<'a>
     }
 }
 
-/// What the program is asked for where its words name this tool.
+/// Returns the task of this tool.
 fn task_of_tool<'a>(tool: &str, matches: &ArgMatches<'a>) -> Task<'a>
     ensures { IsToolName tool.now → AsksIn tool.now (entries_of matches.now) result }
 {
@@ -241,8 +242,8 @@ fn task_of_tool<'a>(tool: &str, matches: &ArgMatches<'a>) -> Task<'a>
     }
 }
 
-/// The task that the words of a command line ask for, the name of the program first. The error's text is the
-/// usage, or the help where it was asked for.
+/// Returns the task that the words of a command line ask for, the name of the program first. The error's text is the
+/// usage, or the help if that was asked for.
 pub fn task_of<'a, S: AsStr>(alloc: Global, words: &'a [S]) -> Result<Task<'a>, Error>
     ensures asks { IfOk result (Asks (map S.text words.entry.now)) }
     ensures refuses { IfErr result (λ error.

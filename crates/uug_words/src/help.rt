@@ -1,4 +1,4 @@
-//! What the help of each tool says: what stands below its usage, and what its options with a number are.
+//! The help of each tool: the text below its usage, and those of its options with a value.
 
 pub const SCAN: &str = "A line for each packet, and a last one:
   INITA N, INITC N  the greatest window that the other end is to use

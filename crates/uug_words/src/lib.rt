@@ -1,4 +1,4 @@
-//! The words of a command line of `uucpair`, the task that they ask for, and what is wrong with one that may not be run.
+//! The words of a command line of `uucpair`, the task that they ask for, and the faults of one that may not be run.
 #![tactic(auto)]
 
 mod command_line;

@@ -1,4 +1,4 @@
-//! The first part of a task that is wrong, for which it may not be run.
+//! The first wrong part of a task, for which it may not be run.
 ghost use Rattle.std.specs.Prelude.{◌≡◌, ◌≤◌, ◌↔◌, IfSome, IsTrue, MatchOption, true};
 ghost use Rattle.uug_link.specs.Terms.{IsSize};
 ghost use Rattle.uug_task.specs.Tasks.{IsTask};
@@ -10,19 +10,19 @@ use uug_talk::{FILE_MAX, Name};
 use uug_task::{CallTask, SECONDS_MAX, SESSIONS_MAX, WAIT_MAX, may_have};
 use uug_transfer::read_line_name;
 
-/// So many bytes of files an end offers in a session at least, if it has as many: each file that may go fits.
+/// The minimum for the bytes of files that an end offers in a session, if it has as many. Each file that may go fits.
 const MOST_MIN: u32 = FILE_MAX as u32;
 
 /// A part of the task of one end.
 #[derive(Clone, Copy, Debug, PartialEq, Eq)]
 pub enum Part {
-    /// For so many seconds the line waits.
+    /// The seconds that the line waits.
     Seconds,
-    /// The bits a second of its line.
+    /// The speed of its line, in bits a second.
     Speed,
-    /// For so many seconds it waits to be called.
+    /// The seconds that it waits to be called.
     Wait,
-    /// So many sessions it has at most.
+    /// The maximum number of its sessions.
     Sessions,
     /// The window.
     Window,
@@ -30,17 +30,17 @@ pub enum Part {
     Size,
     /// The bytes of the files that it offers.
     Most,
-    /// What its line is called.
+    /// The name of its line.
     Line,
     /// Its name.
     Me,
     /// The other end's name.
     Peer,
-    /// Its sessions, of which there are more than one only at a socket.
+    /// The number of its sessions, which is more than one only at a socket.
     Turns,
 }
 
-/// The first part of a task that is wrong, if one is.
+/// Returns the first wrong part of a task, if there is one.
 pub fn wrong_part(task: &CallTask<'_>) -> Option<Part>
     ensures { MatchOption result (IsTask task.now) (IsFirstWrong task.now) }
 {
@@ -80,7 +80,7 @@ pub fn wrong_part(task: &CallTask<'_>) -> Option<Part>
     None
 }
 
-/// Whether this part of a task is right.
+/// Returns whether this part of a task is right.
 fn is_right(task: &CallTask<'_>, part: Part) -> bool
     ensures { IsTrue result ↔ IsRight task.now part }
 {
@@ -99,7 +99,7 @@ fn is_right(task: &CallTask<'_>, part: Part) -> bool
     }
 }
 
-/// Whether a number is in its range, where there is one.
+/// Returns whether a number is in its range, or there is none.
 fn is_within(number: Option<u32>, least: u32, most: u32) -> bool
     ensures { IsTrue result ↔ IfSome number (λ n. (least ≤ n) × (n ≤ most)) }
 {
@@ -109,7 +109,7 @@ fn is_within(number: Option<u32>, least: u32, most: u32) -> bool
     }
 }
 
-/// Whether an end may have so many sessions at its line, where that is one.
+/// Returns whether an end may have this many sessions at its line, or that is none.
 fn has_turns(task: &CallTask<'_>) -> bool
     ensures { IsTrue result ↔ IsRight task.now Part.Turns }
 {
@@ -119,7 +119,7 @@ fn has_turns(task: &CallTask<'_>) -> bool
     }
 }
 
-/// Whether packets may have this size.
+/// Returns whether packets may have this size.
 fn is_size(size: u32) -> bool
     ensures { IsTrue result ↔ IsSize size }
 {

@@ -10,21 +10,21 @@ use std::alloc::{AllocError, Global};
 /// The version of the program, which `--version` prints.
 pub const VERSION: &str = "0.1.0";
 
-/// The window and the seconds of an end that is told none.
+/// The default window of an end, and the default seconds.
 const WINDOW: &str = "7";
 
 const SECONDS: &str = "10";
 
-/// So many bytes of files an end offers in a session that is told nothing else.
+/// The default maximum for the bytes of files that an end offers in a session.
 const MOST: &str = "67108864";
 
-/// The sessions of an end that is called, and is told none.
+/// The default number of sessions of a called end.
 const SESSIONS: &str = "1";
 
-/// The folder of the lock files of devices, where none is told: that of Debian's programs.
+/// The default folder of the lock files of devices: that of Debian's programs.
 const LOCKS: &str = "/var/lock";
 
-/// The tools and their arguments.
+/// Returns the program with its tools and their arguments.
 pub fn command<'a>(alloc: Global) -> Result<Command<'a>, AllocError>
     ensures { IfOk result (λ made. app_of made ≡ uucpair) }
 {
@@ -37,7 +37,7 @@ pub fn command<'a>(alloc: Global) -> Result<Command<'a>, AllocError>
         .subcommand(queue_command(alloc)?)
 }
 
-/// The program without its tools.
+/// Returns the program without its tools.
 fn program<'a>(alloc: Global) -> Command<'a>
     ensures { app_of result ≡ alone program }
 {
@@ -47,14 +47,14 @@ fn program<'a>(alloc: Global) -> Command<'a>
         .subcommand_required(true)
 }
 
-/// A tool without its arguments.
+/// Returns a tool without its arguments.
 fn tool<'a>(alloc: Global, name: &'a str, about: &'a str, help: &'a str) -> Command<'a>
     ensures { IsTool (tool name.entry.now []) result }
 {
     Command::new(alloc, name).about(about).after_help(help)
 }
 
-/// The tool that lists packets.
+/// Returns the tool that lists packets.
 fn scan_command<'a>(alloc: Global) -> Result<Command<'a>, AllocError>
     ensures { IfOk result (IsTool scan_tool) }
 {
@@ -74,7 +74,7 @@ fn scan_command<'a>(alloc: Global) -> Result<Command<'a>, AllocError>
     ))
 }
 
-/// The tool that plays a script.
+/// Returns the tool that plays a script.
 fn play_command<'a>(alloc: Global) -> Result<Command<'a>, AllocError>
     ensures { IfOk result (IsTool play_tool) }
 {
@@ -111,7 +111,7 @@ fn play_command<'a>(alloc: Global) -> Result<Command<'a>, AllocError>
     .conflicts_with("ladder")?)
 }
 
-/// An option that asks for a picture.
+/// Returns an option that asks for a picture.
 fn picture<'a>(alloc: Global, name: &'a str, help: &'a str) -> Result<Arg<'a>, AllocError>
     ensures { IfOk result (IsArg (excluding (flag_rule name.entry.now))) }
 {
@@ -120,7 +120,7 @@ fn picture<'a>(alloc: Global, name: &'a str, help: &'a str) -> Result<Arg<'a>, A
         .conflicts_with("settle")
 }
 
-/// The tool that moves files.
+/// Returns the tool that moves files.
 fn pair_command<'a>(alloc: Global) -> Result<Command<'a>, AllocError>
     ensures { IfOk result (IsTool pair_tool) }
 {
@@ -142,7 +142,7 @@ fn pair_command<'a>(alloc: Global) -> Result<Command<'a>, AllocError>
     .arg(verbose(alloc, help::WHY))
 }
 
-/// The tool that is one end at a line, where it calls.
+/// Returns the tool that is a calling end at a line.
 fn call_command<'a>(alloc: Global) -> Result<Command<'a>, AllocError>
     ensures { IfOk result (IsTool call_tool) }
 {
@@ -155,7 +155,7 @@ fn call_command<'a>(alloc: Global) -> Result<Command<'a>, AllocError>
     with_files(alloc, with_talk(alloc, command)?)
 }
 
-/// The tool that is one end at a line, where it is called.
+/// Returns the tool that is a called end at a line.
 fn answer_command<'a>(alloc: Global) -> Result<Command<'a>, AllocError>
     ensures { IfOk result (IsTool answer_tool) }
 {
@@ -170,7 +170,7 @@ fn answer_command<'a>(alloc: Global) -> Result<Command<'a>, AllocError>
         .arg(number(alloc, "sessions", "N", help::SESSIONS, SESSIONS))
 }
 
-/// The tool that is one end at a line, with where it is and what it is called.
+/// Returns the tool that is one end at a line, with its place and its name.
 fn end_command<'a>(alloc: Global, name: &'a str, about: &'a str) -> Result<Command<'a>, AllocError>
     ensures { IfOk result (IsTool (tool name.entry.now end_rules)) }
 {
@@ -180,7 +180,7 @@ fn end_command<'a>(alloc: Global, name: &'a str, about: &'a str) -> Result<Comma
         .arg(end_name(alloc, "me", "The name of this end"))
 }
 
-/// This tool, with how an end talks.
+/// Returns this tool with the options for how an end talks.
 fn with_talk<'a>(alloc: Global, command: Command<'a>) -> Result<Command<'a>, AllocError>
     ensures { (before : Shape) → IsTool before command.entry
         → IfOk result (IsTool (with_arguments before talk_rules)) }
@@ -217,7 +217,7 @@ fn with_talk<'a>(alloc: Global, command: Command<'a>) -> Result<Command<'a>, All
         ))
 }
 
-/// This tool, with what an end keeps, and where.
+/// Returns this tool with the options for what an end keeps, and where.
 fn with_files<'a>(alloc: Global, command: Command<'a>) -> Result<Command<'a>, AllocError>
     ensures { (before : Shape) → IsTool before command.entry
         → IfOk result (IsTool (with_arguments before file_rules)) }
@@ -241,7 +241,7 @@ fn with_files<'a>(alloc: Global, command: Command<'a>) -> Result<Command<'a>, Al
         ))
 }
 
-/// The tool that queues jobs.
+/// Returns the tool that queues jobs.
 fn queue_command<'a>(alloc: Global) -> Result<Command<'a>, AllocError>
     ensures { IfOk result (IsTool queue_tool) }
 {
@@ -270,21 +270,21 @@ fn queue_command<'a>(alloc: Global) -> Result<Command<'a>, AllocError>
     .arg(named(alloc, "user", "USER", help::USER))
 }
 
-/// The file that is read, where there is one.
+/// Returns the argument for the file that is read, if there is one.
 fn file<'a>(alloc: Global, help: &'a str) -> Arg<'a>
     ensures { IsArg file_rule result }
 {
     optional(alloc, "FILE", help)
 }
 
-/// An argument that may be left out.
+/// Returns an argument that may be left out.
 fn optional<'a>(alloc: Global, name: &'a str, help: &'a str) -> Arg<'a>
     ensures { IsArg (optional_rule name.entry.now) result }
 {
     Arg::new(alloc, name).action(ArgAction::Set).help(help)
 }
 
-/// An argument that has to be there.
+/// Returns an argument that is required.
 fn path<'a>(alloc: Global, name: &'a str, help: &'a str) -> Arg<'a>
     ensures { IsArg (path_rule name.entry.now) result }
 {
@@ -294,7 +294,7 @@ fn path<'a>(alloc: Global, name: &'a str, help: &'a str) -> Arg<'a>
         .help(help)
 }
 
-/// An option that is there or not.
+/// Returns an option without a value.
 fn flag<'a>(alloc: Global, name: &'a str, help: &'a str) -> Arg<'a>
     ensures { IsArg (flag_rule name.entry.now) result }
 {
@@ -304,28 +304,28 @@ fn flag<'a>(alloc: Global, name: &'a str, help: &'a str) -> Arg<'a>
         .help(help)
 }
 
-/// The option that asks to say more.
+/// Returns the option that asks for more messages.
 fn verbose<'a>(alloc: Global, help: &'a str) -> Arg<'a>
     ensures { IsArg verbose_rule result }
 {
     flag(alloc, "verbose", help).short('v')
 }
 
-/// An option with a number.
+/// Returns an option with an N.
 fn every<'a>(alloc: Global, name: &'a str, help: &'a str) -> Arg<'a>
     ensures { IsArg (every_rule name.entry.now) result }
 {
     whole(alloc, name, "N", help)
 }
 
-/// An option with a number of this kind, which may be left out.
+/// Returns an option with a number and this name for its value, which may be left out.
 fn whole<'a>(alloc: Global, name: &'a str, value: &'a str, help: &'a str) -> Arg<'a>
     ensures { IsArg (every_rule name.entry.now) result }
 {
     named(alloc, name, value, help).value_parser(value_parser!(u32))
 }
 
-/// An option with a word.
+/// Returns an option with a word.
 fn named<'a>(alloc: Global, name: &'a str, value: &'a str, help: &'a str) -> Arg<'a>
     ensures { IsArg (word_rule name.entry.now) result }
 {
@@ -336,21 +336,21 @@ fn named<'a>(alloc: Global, name: &'a str, value: &'a str, help: &'a str) -> Arg
         .help(help)
 }
 
-/// An option with a folder, which has this one where it is not given.
+/// Returns an option with a folder, and this default.
 fn folder<'a>(alloc: Global, name: &'a str, help: &'a str, default: &'a str) -> Arg<'a>
     ensures { IsArg (folder_rule name.entry.now default.entry.now) result }
 {
     named(alloc, name, "FOLDER", help).default_value(default)
 }
 
-/// An option with a name, which has to be there.
+/// Returns an option with a name, which is required.
 fn end_name<'a>(alloc: Global, id: &'a str, help: &'a str) -> Arg<'a>
     ensures { IsArg (name_rule id.entry.now) result }
 {
     named(alloc, id, "NAME", help).required(true)
 }
 
-/// An option with a number, which has this one where it is not given.
+/// Returns an option with a number, and this default.
 fn number<'a>(
     alloc: Global,
     name: &'a str,

@@ -1,4 +1,4 @@
-//! What is wrong with the usage, in words.
+//! The words for what is wrong with the usage.
 ghost use Rattle.std.specs.Prelude.{◌≡◌, ◌++◌, IfOk, OnOk, is_some, string_bytes};
 ghost use Rattle.uug_words.specs.UsageWords.{IsUsageOf, is_port, lack_words, line_words, name_words, pair_words, part_words, peer_words, range_words};
 ghost use Rattle.uug_transfer.specs.FaultInjection.{is_in_range};
@@ -10,7 +10,7 @@ use uug_reason::add_escaped;
 use uug_task::CallTask;
 use uug_transfer::{EVERY_MAX, EVERY_MIN};
 
-/// What is wrong with the task of one end that may not be run.
+/// Returns what is wrong with the task of one end that may not be run.
 pub fn usage_remark<A: Allocator>(alloc: A, task: &CallTask<'_>) -> Result<String<A>, AllocError>
     ensures { IfOk result (λ remark. IsUsageOf task.now (string_bytes remark)) }
 {
@@ -24,7 +24,7 @@ pub fn usage_remark<A: Allocator>(alloc: A, task: &CallTask<'_>) -> Result<Strin
     }
 }
 
-/// What is wrong with the N of every Nth packet that is lost, or is changed.
+/// Returns what is wrong with the N of every Nth packet that is lost, or is changed.
 pub fn pair_remark<A: Allocator>(
     alloc: A,
     drop_every: Option<u32>,
@@ -55,7 +55,7 @@ fn add_every<A: Allocator>(
     }
 }
 
-/// Whether every Nth packet may be meant, for this N, if there is one.
+/// Returns whether this N is in range, or there is none.
 fn is_in_range(every: Option<u32>) -> bool
     ensures { result ≡ is_in_range every }
 {
@@ -137,7 +137,7 @@ fn add_peer<A: Allocator>(text: &mut String<A>, name: &str) -> Result<(), AllocE
     }
 }
 
-/// Appends what this lacks to be a line.
+/// Appends what is missing for this to be a line.
 fn add_line<A: Allocator>(text: &mut String<A>, line: &str) -> Result<(), AllocError>
     ensures { OnOk result
         (string_bytes text.new ≡ string_bytes text.old ++ line_words line.now) }
@@ -149,7 +149,7 @@ fn add_line<A: Allocator>(text: &mut String<A>, line: &str) -> Result<(), AllocE
     text.push_str(lack_words(line))
 }
 
-/// What a line lacks that is no device.
+/// Returns what is missing in a line that is no device.
 fn lack_words(line: &str) -> &'static str
     ensures { result.now ≡ lack_words line.now }
 {
@@ -162,7 +162,7 @@ fn lack_words(line: &str) -> &'static str
     }
 }
 
-/// Whether what stands behind the last colon is a port.
+/// Returns whether the text after the last colon is a port.
 fn is_port(line: &str) -> bool
     ensures { result ≡ is_port line.now }
 {
@@ -172,7 +172,7 @@ fn is_port(line: &str) -> bool
     }
 }
 
-/// Whether a text is a port.
+/// Returns whether a text is a port.
 fn is_port_text(text: &str) -> bool
     ensures { result ≡ is_some (port_of text.now) }
 {

@@ -125,8 +125,8 @@ fn greet(rt: &impl Abort, alloc: Global, greeting: &Greeting<'_>) {
     script.play(rt, alloc);
 }
 
-// a session that goes on or ends where it must not; an end that says more or less than it must, or waits too long or not
-// long enough
+// a session that goes on or ends where it must not; an end that says more or less than it must, or waits too long or
+// not long enough
 #[test]
 fn greets(rt: HostRuntime) {
     for greeting in GREETINGS {

@@ -1,4 +1,4 @@
-//! A call whose line fails at each of its reads and writes in turn: what its files have then, and what is printed.
+//! A call whose line fails at each of its reads and writes in turn: the contents of its files then, and the report.
 
 use super::numbers::{DONE, HUNG_UP, JOB, KEEPS_7, Left, MemoryEnd, end};
 use super::scenes::{AMPLE, LIMITS, NEVER};
@@ -11,7 +11,7 @@ use uug_session::Side;
 use uug_stream::{MemoryOutput, ToolFault};
 use uug_transfer::{EndLine, call_over};
 
-/// How far a call comes of two ends that keep 7, one stage after the other.
+/// The stages that a call of two ends that keep 7 reaches, one after the other.
 const STAGES: [Left<'static>; 5] = [
     // nothing was said of numbers
     Left {
@@ -21,7 +21,7 @@ const STAGES: [Left<'static>; 5] = [
         report: HUNG_UP,
         other: Some(7),
     },
-    // the called end has let the caller in, which does not know it
+    // the called end has let the caller in, and the caller does not know it
     Left {
         answer: Err(ToolFault::Device),
         jobs: JOB,
@@ -29,7 +29,7 @@ const STAGES: [Left<'static>; 5] = [
         report: HUNG_UP,
         other: Some(8),
     },
-    // it knows it
+    // the caller knows it
     Left {
         answer: Err(ToolFault::Device),
         jobs: JOB,
@@ -45,7 +45,7 @@ const STAGES: [Left<'static>; 5] = [
         report: b"caller hungup pending 0 struck 1 failed 0\n",
         other: Some(8),
     },
-    // it has taken HY, with which its session is done, whatever the line does behind that
+    // it has taken HY, with which its session is done, whatever the line does after that
     Left {
         answer: Ok(0),
         jobs: b"",
@@ -55,7 +55,7 @@ const STAGES: [Left<'static>; 5] = [
     },
 ];
 
-/// The stage at which this is left, if it is one.
+/// Returns the stage at which this is left, if it is one.
 fn stage_of(left: &Left<'_>) -> Option<usize> {
     for (number, stage) in STAGES.iter().enumerate() {
         if stage == left {
@@ -65,7 +65,7 @@ fn stage_of(left: &Left<'_>) -> Option<usize> {
     None
 }
 
-/// Makes the call. Its stage, or none if the line has not failed.
+/// Makes the call. Returns its stage, or `None` if the line has not failed.
 fn call_at(
     rt: &impl Abort,
     alloc: Global,
@@ -89,7 +89,7 @@ fn call_at(
     Some(stage)
 }
 
-/// The same at a line of which the call of this number fails, counted from 0.
+/// Does the same at a line on which the call of this number fails, counted from 0.
 fn call_failing(
     rt: &impl Abort,
     alloc: Global,
@@ -116,8 +116,8 @@ fn fail(rt: &impl Abort, alloc: Global, fails_at: usize) -> Option<usize> {
     stage
 }
 
-/// Lets each read and each write fail in turn. How many there are, and the last stage. The call comes to it one stage after the
-/// other, from the first on.
+/// Lets each read and each write fail in turn. Returns how many there are, and the last stage. Asserts that the call
+/// reaches it one stage after the other, from the first on.
 fn fail_each(rt: &impl Abort, alloc: Global) -> (usize, usize) {
     let mut last = 0;
     for fails_at in 0..1000 {
@@ -135,7 +135,8 @@ fn fail_each(rt: &impl Abort, alloc: Global) -> (usize, usize) {
     panic!(rt; "no end of the calls");
 }
 
-// a fault after which the files stay as they were, or nothing is printed, or something else than what was done before it
+// a fault after which the files stay as they were, or nothing is printed, or something else than what was done before
+// it
 #[test]
 fn leaves_what_was_done_before_the_line_failed(rt: HostRuntime) {
     let (calls, last) = fail_each(&rt, rt.alloc());

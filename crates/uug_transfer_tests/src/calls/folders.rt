@@ -1,5 +1,5 @@
-//! What an end of `call` or `answer` takes up of a folder of the system, of which no clause can say what it holds: the files in
-//! `send` that it gives, and the names that are barred in `got`.
+//! The parts of a folder of the system that an end of `call` or `answer` takes up, of which no clause can say what they
+//! hold: the files in `send` that it gives, and the names that are barred in `got`.
 
 use crate::calls::assertions::{assert_same, assert_same_at};
 use crate::pairs::runs::{Given, first, folder_path, place_all, remove, within};
@@ -13,8 +13,8 @@ use uug_disk::{SystemFolder, lock_dir, read_given};
 use uug_folder::{Folder, read_jobs};
 use uug_talk::Name;
 
-/// What is in the folder, the jobs of its end, how many bytes its files may have, how many files are given, whether one of them
-/// is that of this name, and how many jobs are offered.
+/// A folder, the jobs of its end, and how many bytes its files may have; then how many files are given, whether one of
+/// them is that of this name, and how many jobs are offered.
 struct Row<'a> {
     given: &'a [Given<'a>],
     jobs: &'a str,
@@ -28,7 +28,7 @@ struct Row<'a> {
 const MOST: u64 = 67_108_864;
 
 const ROWS: &[Row<'static>] = &[
-    // what is hidden, has no name or is no file
+    // hidden files, names that are none, and what is no file
     Row {
         given: &[
             Given::File("a/send/x", b"x"),
@@ -67,8 +67,8 @@ const ROWS: &[Row<'static>] = &[
         is_given: false,
         offered: 1,
     },
-    // more bytes than may go in one session: the job of the second file waits, and so does the one behind it, and the other end
-    // may ask for their files
+    // more bytes than may go in one session: the job of the second file waits, and so does the one after it. The other
+    // end may ask for their files
     Row {
         given: &[
             Given::Filled("a/send/x", b'x', 600_000),
@@ -97,7 +97,7 @@ const ROWS: &[Row<'static>] = &[
     },
 ];
 
-/// 300 files, each of which a job names: all of them are offered.
+/// Asserts that all of 300 files are offered, each of which a job names.
 fn offer_many(
     rt: &(impl Files<File = File> + Net + Eprint + Abort + AllocGlobal + Clone + Drop),
     dir: &str,
@@ -115,7 +115,7 @@ fn offer_many(
     remove(rt, dir);
 }
 
-/// What an end over this folder gives and offers.
+/// Returns the files that an end over this folder gives, and the number of jobs that it offers.
 fn given_at(
     rt: &(impl Files<File = File> + Eprint + Abort + AllocGlobal + Clone + Drop),
     dir: &str,
@@ -162,7 +162,8 @@ fn play_rows(
     }
 }
 
-// a hidden file that is given; a file of a job that is not, since there are others; a job that is offered without its file
+// a hidden file that is given; a file of a job that is not, because there are others; a job that is offered without its
+// file
 #[test]
 fn gives_what_it_can_give(rt: HostRuntime) {
     let dir = folder_path(&rt, process::id(rt.process()), "given");
@@ -170,7 +171,7 @@ fn gives_what_it_can_give(rt: HostRuntime) {
     offer_many(&rt, dir.as_str());
 }
 
-/// What is in `got`: names that folders have are barred there, and those of files and links are not.
+/// The names in `got`: those of folders are barred there, and those of files and links are not.
 const BARRED: &[(&[u8], bool)] = &[
     (b"folder", true),
     (b"file", false),

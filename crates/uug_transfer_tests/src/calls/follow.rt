@@ -1,5 +1,5 @@
-//! What is told to somebody who sees the messages of two ends. The clauses say what is counted; these rows say what is told
-//! of jobs.
+//! The news for an observer who sees the messages of two ends. The clauses say what is counted; these rows say what is
+//! reported of jobs.
 
 use crate::calls::assertions::{assert_same, assert_same_at};
 use arrayvec::ArrayVec;
@@ -8,7 +8,7 @@ use std::process::Abort;
 use uug_follow::{Journal, News, Observer, Outcome, Way, news_line};
 use uug_packet::{PACKET_MAX, Packet, Seq, encode};
 
-/// How many jobs began, and how they ended, with all bytes of their files.
+/// The number of jobs that began, and how they ended, with all bytes of their files.
 #[derive(Clone, Copy, Debug, PartialEq, Eq)]
 struct Notes {
     begun: u8,
@@ -38,7 +38,7 @@ impl Journal for Notes {
     }
 }
 
-/// A message that goes one way.
+/// A message in one direction.
 type Said = (Way, &'static [u8]);
 
 const SEND: Said = (Way::Out, b"S x y u - x 0644\0");
@@ -71,7 +71,7 @@ const PUT_OFF: Notes = Notes {
     bytes: 0,
 };
 
-/// A job is done whose file has five bytes.
+/// The notes of a job that is done, whose file has five bytes.
 const DONE: Notes = Notes {
     begun: 1,
     done: 1,
@@ -88,13 +88,13 @@ const BEGUN: Notes = Notes {
     bytes: 0,
 };
 
-/// What goes over the line, and what is then told.
+/// The messages on the line, and the notes after them.
 type Row = (&'static [Said], Notes);
 
-/// The other end has the file, which this one takes for no reason to be done.
+/// The other end has the file, which this one does not take as a reason to be done.
 const HELD_AND_PUT_OFF: Row = (&[SEND, (Way::In, b"SN8\0")], PUT_OFF);
 
-/// The same of a lenient end.
+/// The same row for a lenient end.
 const HELD: Row = (
     &[SEND, (Way::In, b"SN8\0")],
     Notes {
@@ -159,7 +159,7 @@ const ROWS: &[Row] = &[
     ),
 ];
 
-/// The numbers of the next packets, one each way.
+/// The numbers of the next packets, one for each direction.
 #[derive(Drop)]
 struct Next {
     outward: u8,
@@ -167,7 +167,7 @@ struct Next {
 }
 
 impl Next {
-    /// The number of a packet that goes this way.
+    /// Returns the number of a packet in this direction.
     fn step(&mut self, way: Way) -> u8 {
         match way {
             Way::Out => step(&mut self.outward),
@@ -176,10 +176,10 @@ impl Next {
     }
 }
 
-/// The first data packet of a link has this number.
+/// The number of the first data packet of a link.
 const FIRST: u8 = 1;
 
-/// The number, after which the next one comes.
+/// Returns the number, and goes on to the next one.
 fn step(next: &mut u8) -> u8 {
     let seq = *next % 8;
     *next = (seq + 1) % 8;
@@ -258,14 +258,14 @@ const SEND_Q: Said = (Way::Out, b"S q z u - q 0644\0");
 
 const OTHERS_SEND: Said = (Way::In, b"S p w u - p 0644\0");
 
-/// The digest that is told of a file, in pieces of one packet each.
+/// The digest that is announced for a file, in pieces of one packet each.
 const HASH: &[u8] = b"sha256:0123456789abcdef012345678";
 
 const HASH_GOES_ON: &[u8] = b"9abcdef0123456789abcdef012345678";
 
 const HASH_ENDS: &[u8] = b"9abcdef\0";
 
-/// What goes over the line in a session with several jobs, and the lines that are told of it.
+/// The messages on the line in a session with several jobs, and the lines about them.
 const ORDERS: &[(&[Said], &str)] = &[
     // a job begins after another has ended, and its bytes are counted from none
     (
@@ -287,7 +287,7 @@ const ORDERS: &[(&[Said], &str)] = &[
         uucpair: 0 s: send q z\n\
         uucpair: 0 s: send q z: done 5 bytes in 0 s\n",
     ),
-    // one is refused before its file goes, and the next is put off behind it
+    // one is refused before its file goes, and the next is put off after its file has gone
     (
         &[
             SEND,
@@ -307,7 +307,7 @@ const ORDERS: &[(&[Said], &str)] = &[
         uucpair: 0 s: request x y\n\
         uucpair: 0 s: request x y: put off 0 bytes in 0 s\n",
     ),
-    // the other end's jobs come behind this end's
+    // the other end's jobs come after this end's
     (
         &[
             REQUEST,
@@ -337,7 +337,7 @@ const ORDERS: &[(&[Said], &str)] = &[
         uucpair: 0 s: peer's request x y\n\
         uucpair: 0 s: peer's request x y: done 0 bytes in 0 s\n",
     ),
-    // CN4 says that another file came, of which a digest was told: at the end that takes it ..
+    // CN4 says that another file came than a digest announced: at the end that takes it ..
     (
         &[
             (Way::In, b"S p w u - p 0644 \"\" 0x2 "),
@@ -352,7 +352,7 @@ const ORDERS: &[(&[Said], &str)] = &[
         "uucpair: 0 s: peer's send p w\n\
         uucpair: 0 s: peer's send p w: wrong digest 2 bytes in 0 s\n",
     ),
-    // .. and at that of whose job it is. Nothing of it is left at the next one
+    // .. and at the end whose job it is. Nothing of it is left at the next job
     (
         &[
             (Way::Out, b"S x y u - x 0644 \"\" 0x2 "),
@@ -373,7 +373,7 @@ const ORDERS: &[(&[Said], &str)] = &[
         uucpair: 0 s: send q z\n\
         uucpair: 0 s: send q z: put off 0 bytes in 0 s\n",
     ),
-    // RY tells of a file that is asked for
+    // RY announces a file that is asked for
     (
         &[
             REQUEST,
@@ -388,7 +388,7 @@ const ORDERS: &[(&[Said], &str)] = &[
         "uucpair: 0 s: request x y\n\
         uucpair: 0 s: request x y: wrong digest 2 bytes in 0 s\n",
     ),
-    // more bytes are told of than an end takes, and then as many as it takes
+    // more bytes are announced than an end takes, and then as many as it takes
     (
         &[
             (Way::In, b"S p w u - p 0644 \"\" 0x100001 "),
@@ -407,7 +407,7 @@ const ORDERS: &[(&[Said], &str)] = &[
         uucpair: 0 s: peer's send p w\n\
         uucpair: 0 s: peer's send p w: refused 0 bytes in 0 s\n",
     ),
-    // of one that is followed by another before it is answered no end is told
+    // a job that is followed by another before it is answered has no end reported
     (
         &[
             SEND,

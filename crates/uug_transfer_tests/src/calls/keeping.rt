@@ -1,5 +1,6 @@
-//! A call that asks for a file, and is stopped at each operation of its line, of its files of jobs and of its folder in turn,
-//! and then made again over a good line: no job is gone whose file is not in the folder, and none is done again.
+//! A call that asks for a file, and is stopped at each operation of its line, of its files of jobs and of its folder in
+//! turn. Then it is made again over a good line. No job is gone whose file is not in the folder, and none is done
+//! again.
 ghost use Rattle.std.specs.Prelude.{None, false};
 
 use super::memory_jobs::MemoryJobs;
@@ -15,7 +16,7 @@ use uug_session::{Node, Queue};
 use uug_talk::Name;
 use uug_transfer::{BufferedNode, EndLine, FaultInjector, run_session};
 
-/// The first operation of each that fails, counted from 0, with all behind it.
+/// The first operation of each that fails, counted from 0. All after it fail too.
 #[derive(Clone, Copy)]
 struct Stop {
     line: usize,
@@ -25,10 +26,10 @@ struct Stop {
 
 const JOBS: &[u8] = b"# mine\nrequest x y u\n";
 
-/// What is left of the jobs when all are over.
+/// The file of jobs when all are over.
 const LEFT: &[u8] = b"# mine\n";
 
-/// A folder that tells whether the file is in it.
+/// A folder that knows whether the file is in it.
 #[derive(Drop)]
 struct OneFolder {
     holds: bool,
@@ -67,8 +68,8 @@ type AskingEnd = BufferedNode<FolderSpool<OneFolder, Global>, Global>;
 
 type MemoryStore = JobsFile<MemoryJobs, Global>;
 
-/// What came of a session: whether the file is in the folder then, how many files were put there, and whether an operation has
-/// failed.
+/// The result of a session: whether the file is in the folder then, how many files were put there, and whether an
+/// operation has failed.
 #[derive(Clone, Copy)]
 struct Came {
     holds: bool,
@@ -95,7 +96,7 @@ fn asking(
     buffered.expect(rt, "memory for a buffer")
 }
 
-/// A line to an end that has the file.
+/// Returns a line to an end that has the file.
 fn line_to_giver(rt: &impl Abort, alloc: Global, manner: Manner) -> ScriptedLine {
     let giver = Node::called(
         alloc,
@@ -106,7 +107,7 @@ fn line_to_giver(rt: &impl Abort, alloc: Global, manner: Manner) -> ScriptedLine
     ScriptedLine::new(buffered(rt, alloc, giver.expect(rt, "an end")), manner)
 }
 
-/// The session itself, at a line that is the end's own.
+/// Runs the session itself, at a line that is the end's own.
 fn talk(
     rt: &impl Abort,
     alloc: Global,
@@ -140,7 +141,7 @@ fn talk_at(
     came
 }
 
-/// A session with the jobs that wait then.
+/// Runs a session with the jobs that wait then.
 fn session(
     rt: &impl Abort,
     alloc: Global,
@@ -155,7 +156,7 @@ fn session(
     came
 }
 
-/// A session that is stopped, and one that goes on. Whether the first one was stopped at all.
+/// Runs a session that is stopped, and one that goes on. Returns whether the first one was stopped at all.
 fn go_on(rt: &impl Abort, alloc: Global, jobs: &mut MemoryStore, stop: Stop) -> bool {
     let first = session(rt, alloc, jobs, false, stop);
     let gone = jobs.file.text() == LEFT;
@@ -183,7 +184,7 @@ fn call_twice(rt: &impl Abort, alloc: Global, stop: Stop) -> bool {
     stopped
 }
 
-/// How many operations of the line there are.
+/// Stops at each operation of the line in turn. Returns how many there are.
 fn stop_at_line(rt: &impl Abort, alloc: Global) -> usize {
     for line in 0..1000 {
         let stop = Stop {
@@ -198,7 +199,8 @@ fn stop_at_line(rt: &impl Abort, alloc: Global) -> usize {
     panic!(rt; "no end of the operations");
 }
 
-// a job that leaves before its file is in the folder; a file that is asked for again when it was put there, and its job taken out
+// a job that leaves before its file is in the folder; a file that is asked for again after it was put there, and its
+// job removed
 #[test]
 fn keeps_what_it_asked_for_wherever_it_is_stopped(rt: HostRuntime) {
     let alloc = rt.alloc();

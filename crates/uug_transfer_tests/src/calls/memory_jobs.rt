@@ -6,10 +6,10 @@ use std::alloc::Allocator;
 use uug_folder::{FolderFailed, JobTexts};
 use uug_stream::ToolFault;
 
-/// The most bytes of a text.
+/// The maximum number of bytes of a text.
 const TEXT_MAX: usize = 160;
 
-/// Holds the text of the jobs that wait, and what is told of those that have failed. Each call that changes one of them is
+/// The text of the jobs that wait, and the notices of those that have failed. Each call that changes one of them is
 /// counted, and fails from the one of this number on.
 #[derive(Drop)]
 pub(super) struct MemoryJobs {
@@ -21,7 +21,7 @@ pub(super) struct MemoryJobs {
 }
 
 impl MemoryJobs {
-    /// Holds this text, as far as there is room. The call of this number fails, counted from 0, and each behind it.
+    /// Holds this text, as far as there is room. The call of this number fails, counted from 0, and each after it.
     pub(super) fn new(text: &[u8], fails_at: usize) -> Self {
         let mut held = ArrayVec::new();
         let _ = held.try_extend_from_slice(text);
@@ -34,7 +34,7 @@ impl MemoryJobs {
         }
     }
 
-    /// From now on no call fails, and none has.
+    /// Lets no call fail from now on, and forgets the faults.
     pub(super) fn mend(&mut self) {
         self.fails_at = usize::MAX;
         self.faults = 0;
@@ -52,7 +52,7 @@ impl MemoryJobs {
         self.faults > 0
     }
 
-    /// Counts a call, and says whether it fails.
+    /// Counts a call, and returns whether it fails.
     fn fails(&mut self) -> bool
         ensures { self.new.faults ≡ self.old.faults }
     {

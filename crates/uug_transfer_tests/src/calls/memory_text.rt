@@ -6,10 +6,10 @@ use std::alloc::Allocator;
 use uug_folder::{FolderFailed, TextFile};
 use uug_stream::ToolFault;
 
-/// The most bytes of a text.
+/// The maximum number of bytes of a text.
 const TEXT_MAX: usize = 64;
 
-/// Holds a text, and refuses every other one if it is to fail.
+/// A text that refuses every other one if it is to fail.
 #[derive(Drop)]
 pub(super) struct MemoryText {
     text: ArrayVec<u8, TEXT_MAX>,

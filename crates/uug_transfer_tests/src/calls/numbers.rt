@@ -1,5 +1,5 @@
-//! Ends that keep a number of their conversations. What this catches beyond the clauses: a rule that the definitions state
-//! wrongly, and a call that gives up where it need not.
+//! Ends that keep a number of their conversations. These tests catch more than the clauses: a rule that the definitions
+//! state wrongly, and a call that gives up without need.
 
 use super::memory_jobs::MemoryJobs;
 use super::memory_text::MemoryText;
@@ -16,7 +16,7 @@ use uug_transfer::{TransferEnd, call_over};
 
 pub(super) type MemoryEnd = TransferEnd<MemorySpool<Global>, MemoryJobs, MemoryText, Global>;
 
-/// What is left of a call: the answer, what both files and the output have, and the number of the end that was called.
+/// The state after a call: the answer, the contents of both files and the output, and the number of the called end.
 #[derive(Clone, Copy, Debug, PartialEq, Eq)]
 pub(super) struct Left<'a> {
     pub(super) answer: Result<u8, ToolFault>,
@@ -26,8 +26,8 @@ pub(super) struct Left<'a> {
     pub(super) other: Option<u32>,
 }
 
-/// The numbers that the caller and the called end keep, which file of the caller can't be written (that of its jobs, that
-/// of its number), what the file of its jobs has when the session is over, and what is left.
+/// The numbers that the caller and the called end keep; which file of the caller can't be written, that of its jobs or
+/// that of its number; the contents of the file of its jobs when the session is over; and the state after the call.
 pub(super) type Call<'a> = (Option<u32>, Option<u32>, (bool, bool), &'a [u8], Left<'a>);
 
 const NONE_FAILS: (bool, bool) = (false, false);
@@ -40,10 +40,10 @@ const STRUCK: &[u8] = b"caller hungup pending 0 struck 1 failed 0\n";
 
 const REFUSED: &[u8] = b"caller badsequence pending 1 struck 0 failed 0\n";
 
-/// The job of the caller, as its file has it.
+/// The job of the caller, as in its file.
 pub(super) const JOB: &[u8] = b"send x y u\n";
 
-/// Both keep 7.
+/// A call of two ends that keep 7.
 pub(super) const KEEPS_7: Call<'static> = (
     Some(7),
     Some(7),
@@ -73,7 +73,7 @@ const CALLS: &[Call<'static>] = &[
             other: None,
         },
     ),
-    // no number is kept, so that its file stays
+    // no number is kept, and its file stays
     (
         None,
         None,
@@ -144,7 +144,7 @@ const CALLS: &[Call<'static>] = &[
     ),
 ];
 
-/// The same of calls whose file of jobs is changed meanwhile.
+/// Calls whose file of jobs is changed meanwhile.
 const CHANGED: &[Call<'static>] = &[
     // a job was appended
     (
@@ -188,7 +188,7 @@ const CHANGED: &[Call<'static>] = &[
             other: Some(9),
         },
     ),
-    // so that even one that can't be written is no fault
+    // the same with a file that can't be written, which is no fault
     (
         None,
         Some(9),
@@ -219,7 +219,7 @@ const TEXTS: [(&[u8], Option<u32>); 11] = [
     (b"-7\n", None),
 ];
 
-/// The caller, which keeps this number. Its file of jobs has this text when the session is over.
+/// Returns the caller, which keeps this number. Its file of jobs has this text when the session is over.
 pub(super) fn end(rt: &impl Abort, alloc: Global, call: &Call<'_>) -> MemoryEnd {
     let (number, _, (jobs_fail, number_fails), now, _) = call;
     TransferEnd {
@@ -233,7 +233,7 @@ pub(super) fn end(rt: &impl Abort, alloc: Global, call: &Call<'_>) -> MemoryEnd 
     }
 }
 
-/// The file of jobs of the caller, which had its job when the session began.
+/// Returns the file of jobs of the caller, which had its job when the session began.
 pub(super) fn jobs_file(
     rt: &impl Abort,
     alloc: Global,
@@ -245,13 +245,13 @@ pub(super) fn jobs_file(
     }
 }
 
-/// What both files of an end have.
+/// Asserts what both files of an end have.
 fn assert_files(rt: &impl Abort, end: &MemoryEnd, left: &Left<'_>) {
     assert_same(rt, end.jobs.file.text(), left.jobs);
     assert_same(rt, end.number.text(), left.number);
 }
 
-/// The call itself, at a line that is the end's own.
+/// Makes the call itself, at a line that is the end's own.
 fn assert_call(
     rt: &impl Abort,
     alloc: Global,

@@ -10,10 +10,10 @@ use uug_transfer::{PatienceLimits, SessionFault};
 /// More bytes, or calls, than any of these sessions has.
 pub(super) const NEVER: usize = 1_000_000;
 
-/// So many bytes are enough for each session that ends by itself.
+/// The number of bytes that is enough for each session that ends by itself.
 pub(super) const AMPLE: u64 = 1_000_000;
 
-/// Those of a line whose reads wait for ten seconds.
+/// The limits of a line whose reads wait for ten seconds.
 pub(super) const LIMITS: PatienceLimits = PatienceLimits {
     greeting: 60,
     session: 200,
@@ -56,8 +56,9 @@ const BABBLING: Manner = Manner {
     fails_at: NEVER,
 };
 
-/// The greeting of the called end is 9, 5 and 4 bytes, its start-up three packets of 6, its answer to the command 6, and
-/// the command with which it takes the file 38: so the line ends in the middle of its first answer to the file's packets.
+/// A line that ends in the middle of the called end's first answer to the file's packets. The greeting of the called
+/// end is 9, 5 and 4 bytes, its start-up three packets of 6, its answer to the command 6, and the command with which it
+/// takes the file 38.
 const ENDS_IN_THE_FILE: Manner = Manner {
     other: Other::Speaks,
     at_once: NEVER,
@@ -75,7 +76,7 @@ pub(super) const DONE: Left = Left {
     kept: 1,
 };
 
-/// It is still pending, since nothing came for too long, or the line was gone.
+/// The job is still pending, because nothing came for too long, or the line was gone.
 pub(super) const GAVE_UP: Left = Left {
     answer: Ok(()),
     phase: Phase::Ended(End::GaveUp),
@@ -92,7 +93,7 @@ pub(super) const HUNG_UP: Left = Left {
     kept: 0,
 };
 
-/// What the file has, what the line does, how many bytes are read at most, and what is left.
+/// The bytes of the file, the manner of the line, the maximum number of bytes read, and the state after the session.
 const SCENES: &[(&[u8], Manner, u64, Left)] = &[
     (HI, CLEAN, AMPLE, DONE),
     (LONG, CLEAN, AMPLE, DONE),
@@ -107,7 +108,7 @@ const SCENES: &[(&[u8], Manner, u64, Left)] = &[
     (LONG, BYTE_BY_BYTE, 0, HUNG_UP),
 ];
 
-/// All of the table.
+/// Checks all of the table.
 #[test]
 fn sessions_end_as_they_should(rt: HostRuntime) {
     for (place, (bytes, manner, most, expected)) in SCENES.iter().enumerate() {
@@ -116,7 +117,8 @@ fn sessions_end_as_they_should(rt: HostRuntime) {
     }
 }
 
-/// A call of the line fails: the job is still pending, or done, and then the other end has its file.
+/// Asserts that the job is still pending, or done, if a call of the line fails. If it is done the other end has its
+/// file.
 fn assert_failing(rt: &impl Abort, alloc: Global, fails_at: usize) {
     let manner = Manner {
         other: Other::Speaks,
@@ -132,7 +134,7 @@ fn assert_failing(rt: &impl Abort, alloc: Global, fails_at: usize) {
     assert_so(rt, is_over(left.phase));
 }
 
-/// Whether the session was done, or the line was gone.
+/// Returns whether the session was done, or the line was gone.
 fn is_over(phase: Phase) -> bool {
     match phase {
         Phase::Ended(End::Done | End::HungUp) => true,
@@ -140,7 +142,7 @@ fn is_over(phase: Phase) -> bool {
     }
 }
 
-/// A whole session of the caller takes more calls than that: it writes at least its greeting, three packets of the
+/// A number of calls that a whole session of the caller exceeds. It writes at least its greeting, three packets of the
 /// start-up, the command, the file in two windows, and its good-bye, and reads what the other end says to each.
 const CALLS: usize = 16;
 

@@ -1,4 +1,4 @@
-//! A line that does what a table says.
+//! A line that behaves as a table says.
 ghost use Rattle.std.specs.Prelude.{◌≡◌, ◌≤◌, length, None};
 
 use super::{Manner, MemoryEndAtLine, Other};
@@ -9,9 +9,9 @@ use uug_transfer::{EndLine, LineFailed, ReadOutcome};
 pub(super) struct ScriptedLine {
     other: MemoryEndAtLine,
     manner: Manner,
-    /// How many bytes have come.
+    /// The number of bytes that have come.
     came: usize,
-    /// How many calls were made.
+    /// The number of calls that were made.
     calls: usize,
     faults: u64,
 }
@@ -31,7 +31,7 @@ impl ScriptedLine {
         &self.other
     }
 
-    /// Counts a call, and says whether it fails.
+    /// Counts a call, and returns whether it fails.
     fn fails(&mut self) -> bool
         ensures { self.new.faults ≡ self.old.faults }
     {
@@ -39,14 +39,14 @@ impl ScriptedLine {
         self.calls > self.manner.fails_at
     }
 
-    /// So many bytes may come now.
+    /// Returns how many bytes may come now.
     fn room(&self, buffer: &[u8]) -> usize {
         let left = self.manner.ends_behind.saturating_sub(self.came);
         buffer.len().min(self.manner.at_once).min(left)
     }
 }
 
-/// Puts the first bytes at the front of the buffer, as many as fit in so much room, and says how many.
+/// Puts the first bytes at the front of the buffer, at most `room` of them, and returns how many.
 fn copy_front(bytes: &[u8], buffer: &mut [u8], room: usize) -> usize
     ensures given { result ≤ length bytes.now }
     ensures room { result ≤ length buffer.old }

@@ -20,19 +20,20 @@ const QUICK: Pace = Pace {
     drips_behind: NEVER,
 };
 
-/// A session may be without progress for a minute.
+/// Limits of a minute without progress.
 const A_MINUTE: PatienceLimits = PatienceLimits {
     greeting: 60,
     session: 60,
 };
 
-/// What the line does, how slow it is, how long bytes may come without progress, what is left, and in which second.
+/// The manner of the line, its pace, how long bytes may come without progress, the state after the session, and the
+/// second in which it ends.
 type Scene = (Manner, Pace, PatienceLimits, Left, u64);
 
-/// The greeting of the called end is 18 bytes, its start-up three packets of 6.
+/// The scenes. The greeting of the called end is 18 bytes, its start-up three packets of 6.
 const SCENES: &[Scene] = &[
     (CLEAN, QUICK, LIMITS, DONE, 0),
-    // each byte that is taken begins the count anew: seven silences in front of each of them are no fault
+    // each byte that is taken begins the count anew: seven silences before each of them are no fault
     (
         BYTE_BY_BYTE,
         Pace {
@@ -81,7 +82,7 @@ const SCENES: &[Scene] = &[
         HUNG_UP,
         64,
     ),
-    // twenty-three bytes behind the start-up
+    // twenty-three bytes after the start-up
     (
         CLEAN,
         Pace {
@@ -94,7 +95,7 @@ const SCENES: &[Scene] = &[
     ),
 ];
 
-/// The session itself, at a line that is the end's own.
+/// Runs the session itself, at a line that is the end's own.
 fn talk(
     rt: &impl Abort,
     alloc: Global,
@@ -145,7 +146,7 @@ fn slow_sessions_end_as_they_should(rt: HostRuntime) {
     }
 }
 
-/// Each read takes twenty seconds: so the session takes longer than a minute, and makes progress with each of them.
+/// Checks a session of more than a minute that makes progress with each read, which takes twenty seconds.
 #[test]
 fn progress_begins_the_limit_anew(rt: HostRuntime) {
     let pace = Pace {
@@ -158,7 +159,7 @@ fn progress_begins_the_limit_anew(rt: HostRuntime) {
     assert_same(&rt, second > 120, true);
 }
 
-/// The words of a called end are written, and nothing that comes is a text.
+/// Checks how long a called end waits after its words are written, if nothing that comes is a text.
 #[test]
 fn a_greeting_has_its_seconds(rt: HostRuntime) {
     let pace = Pace {

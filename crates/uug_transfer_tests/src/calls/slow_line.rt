@@ -5,15 +5,15 @@ use super::MemoryEndAtLine;
 use super::scripted_line::ScriptedLine;
 use uug_transfer::{EndLine, LineFailed, ReadOutcome};
 
-/// How slow a line is.
+/// The pace of a line.
 #[derive(Clone, Copy)]
 pub(super) struct Pace {
-    /// So many writes take nothing before one does, in so many seconds each.
+    /// The number of writes that take nothing before one does, and the seconds that each of them takes.
     pub(super) stalls: usize,
     pub(super) stall: u64,
-    /// So many seconds pass at a read that brings bytes of the other end.
+    /// The seconds of a read that brings bytes of the other end.
     pub(super) seconds: u64,
-    /// Behind so many bytes of the other end each read brings one byte of somebody else, in nine seconds.
+    /// The number of bytes of the other end after which each read brings one byte of somebody else, in nine seconds.
     pub(super) drips_behind: usize,
 }
 
@@ -22,9 +22,9 @@ pub(super) struct Pace {
 pub(super) struct SlowLine {
     line: ScriptedLine,
     pace: Pace,
-    /// How many writes in a row have taken nothing.
+    /// The number of writes in a row that have taken nothing.
     stalled: usize,
-    /// How many bytes of the other end have come.
+    /// The number of bytes of the other end that have come.
     came: usize,
     second: u64,
 }
@@ -50,7 +50,7 @@ impl SlowLine {
         self.second = self.second.saturating_add(seconds);
     }
 
-    /// What a read has brought, and the time that it took.
+    /// Notes what a read has brought, and the time that it took.
     fn note_read(&mut self, outcome: ReadOutcome)
         ensures { self.new.line ≡ self.old.line }
     {

@@ -1,5 +1,5 @@
-//! A call that is stopped at each operation of its line and of its files in turn, and then made again over a good line: no job
-//! is gone without its file or a word of it, and none that was taken out is sent again.
+//! A call that is stopped at each operation of its line and of its files in turn. Then it is made again over a good
+//! line. No job is gone without its file or a notice of it, and none that was removed is sent again.
 
 use super::memory_jobs::MemoryJobs;
 use super::memory_text::MemoryText;
@@ -13,29 +13,29 @@ use uug_folder::{JobsFile, read_jobs};
 use uug_session::{Node, Queue};
 use uug_transfer::{EndLine, run_session};
 
-/// The first operation of each that fails, counted from 0, with all behind it.
+/// The first operation of each that fails, counted from 0. All after it fail too.
 #[derive(Clone, Copy)]
 struct Stop {
     line: usize,
     jobs: usize,
 }
 
-/// The first of these jobs has no file.
+/// Jobs of which the first has no file.
 const JOBS: &[u8] = b"# mine\nsend z y u\nsend x y u\n";
 
-/// What is told of it.
+/// The notice of the job without a file.
 const TOLD: &[u8] = b"# no such file to send, or it is too large\nsend z y u\n";
 
-/// The same, where the end was stopped between this and the taking out of the job.
+/// The notices if the end was stopped between the notice and the removal of the job.
 const TOLD_AGAIN: &[u8] = b"# no such file to send, or it is too large\nsend z y u\n\
 # no such file to send, or it is too large\nsend z y u\n";
 
-/// What is left of the jobs when all are over.
+/// The file of jobs when all are over.
 const LEFT: &[u8] = b"# mine\n";
 
 type MemoryStore = JobsFile<MemoryJobs, Global>;
 
-/// What came of a session: how many files the other end has kept, and whether an operation has failed.
+/// The result of a session: how many files the other end has kept, and whether an operation has failed.
 #[derive(Clone, Copy)]
 struct Came {
     kept: usize,
@@ -52,7 +52,7 @@ fn caller_of(rt: &impl Abort, alloc: Global, jobs: Queue<Global>) -> MemoryEndAt
     buffered(rt, alloc, made.expect(rt, "an end"))
 }
 
-/// The session itself, at a line that is the end's own.
+/// Runs the session itself, at a line that is the end's own.
 fn talk(
     rt: &impl Abort,
     alloc: Global,
@@ -91,7 +91,7 @@ fn talk_at(
     came
 }
 
-/// A session with the jobs that wait then, at a line that fails from this operation on.
+/// Runs a session with the jobs that wait then, at a line that fails from this operation on.
 fn session(rt: &impl Abort, alloc: Global, jobs: &mut MemoryStore, fails_at: usize) -> Came {
     let queue = read_jobs(alloc, jobs.file.text()).expect(rt, "jobs");
     let mut end = caller_of(rt, alloc, queue);
@@ -100,7 +100,7 @@ fn session(rt: &impl Abort, alloc: Global, jobs: &mut MemoryStore, fails_at: usi
     came
 }
 
-/// A session that is stopped, and one that goes on. Whether the first one was stopped at all.
+/// Runs a session that is stopped, and one that goes on. Returns whether the first one was stopped at all.
 fn go_on(rt: &impl Abort, alloc: Global, jobs: &mut MemoryStore, stop: Stop) -> bool {
     let first = session(rt, alloc, jobs, stop.line);
     let gone = !jobs.file.text().ends_with(b"send x y u\n");
@@ -124,7 +124,7 @@ fn call_twice(rt: &impl Abort, alloc: Global, stop: Stop) -> bool {
     stopped
 }
 
-/// How many operations of the line there are.
+/// Stops at each operation of the line in turn. Returns how many there are.
 fn stop_at_line(rt: &impl Abort, alloc: Global) -> usize {
     for line in 0..1000 {
         let jobs = NEVER;
@@ -135,7 +135,7 @@ fn stop_at_line(rt: &impl Abort, alloc: Global) -> usize {
     panic!(rt; "no end of the operations");
 }
 
-/// How many operations there are that change the files of jobs.
+/// Stops at each operation that changes the files of jobs in turn. Returns how many there are.
 fn stop_at_jobs(rt: &impl Abort, alloc: Global) -> usize {
     for jobs in 0..1000 {
         let line = NEVER;
@@ -146,11 +146,11 @@ fn stop_at_jobs(rt: &impl Abort, alloc: Global) -> usize {
     panic!(rt; "no end of the operations");
 }
 
-// a job that leaves before it is told why; one that is sent again when it was taken out; one that is gone without its file
+// a job that leaves before its notice; one that is sent again after it was removed; one that is gone without its file
 #[test]
 fn loses_nothing_wherever_it_is_stopped(rt: HostRuntime) {
     let calls = stop_at_line(&rt, rt.alloc());
     assert_so(&rt, calls > 16);
-    // one job is told of and taken out, the other taken out
+    // one job gets a notice and is removed, the other is removed
     assert_same(&rt, stop_at_jobs(&rt, rt.alloc()), 3);
 }

@@ -1,7 +1,7 @@
-//! A whole session at lines that tell what they have brought and taken, of one end and then of the other. The clauses say that
-//! a line has taken the first bytes of what its end had to write by what the line has brought; these tests say which bytes
-//! these are, and that it is all of them. They were worked by hand from `docs/PROTOCOL.md`: what each end writes to what the
-//! other wrote before.
+//! A whole session at lines that expose what they have brought and taken, of one end and then of the other. The clauses
+//! say that a line has taken the first bytes of what its end had to write by what the line has brought. These tests
+//! check which bytes these are, and that it is all of them. They were worked by hand from `docs/PROTOCOL.md`: what each
+//! end writes to what the other wrote before.
 ghost use Rattle.std.specs.Prelude.{◌≡◌, [], Some};
 ghost use Rattle.uug_transfer.specs.BufferedNodes.{injector_in, node_in, spool_in, to_write};
 ghost use Rattle.uug_transfer.specs.SessionFaults.{UnlessRefused};
@@ -19,7 +19,8 @@ use std::process::Abort;
 use uug_session::{End, MemorySpool, Phase, Spool};
 use uug_transfer::{EndLine, SessionFault, run_session};
 
-/// What the called end writes, with a window of 7 packets of 32 bytes: first, and then to each piece of the caller's.
+/// The pieces that the called end writes, with a window of 7 packets of 32 bytes: first, and then to each piece of the
+/// caller's.
 pub(super) const CALLED: [&[u8]; 9] = [
     // its name
     b"\x10Shere=b\0",
@@ -41,7 +42,7 @@ pub(super) const CALLED: [&[u8]; 9] = [
     b"\x10\x09\x85\xaa%\x03\x10\x09\xa2\xaa\x08\x09\x10OOOOOOO\0",
 ];
 
-/// What the caller writes to each piece of the called end's: it sends `x`, which has the bytes `hi`, as `y`.
+/// The pieces that the caller writes to each of the called end's. It sends `x`, which has the bytes `hi`, as `y`.
 pub(super) const CALLER: [&[u8]; 9] = [
     // its name
     b"\x10Sa\0",
@@ -63,7 +64,7 @@ pub(super) const CALLER: [&[u8]; 9] = [
     b"\x10OOOOOO\0",
 ];
 
-/// The pieces one behind the other.
+/// Returns the pieces one after the other.
 fn joined(rt: &impl Abort, alloc: Global, pieces: &[&[u8]]) -> Vec<u8> {
     let mut bytes = Vec::new(alloc);
     for piece in pieces {
@@ -72,7 +73,7 @@ fn joined(rt: &impl Abort, alloc: Global, pieces: &[&[u8]]) -> Vec<u8> {
     bytes
 }
 
-/// The end stays at its line until its session is over.
+/// Runs the session of an end at its line.
 fn talk<'a>(
     rt: &impl Abort,
     alloc: Global,
@@ -96,7 +97,8 @@ fn talk<'a>(
     answer
 }
 
-/// The session of an end whose line brings these pieces: it is done, all of them were brought, and the line has taken those.
+/// Asserts that the session of an end is done whose line brings these pieces, that all of them were brought, and that
+/// the line has taken those pieces.
 pub(super) fn assert_session(
     rt: &impl Abort,
     alloc: Global,
@@ -113,7 +115,7 @@ pub(super) fn assert_session(
     drop(line);
 }
 
-/// The line has taken these pieces, and nothing else.
+/// Asserts that the line has taken these pieces, and nothing else.
 fn assert_taken(rt: &impl Abort, alloc: Global, line: &TellingLine<'_>, takes: &[&[u8]]) {
     let expected = joined(rt, alloc, takes);
     assert_same(rt, line.taken(), expected.as_slice());
@@ -128,7 +130,7 @@ fn a_caller_writes_what_its_line_leads_to(rt: HostRuntime) {
     drop(buffered);
 }
 
-/// The last piece of the caller's comes when its session is over.
+/// Checks the session of a called end. The last piece of the caller's comes when it is over.
 #[test]
 fn a_called_end_writes_what_its_line_leads_to(rt: HostRuntime) {
     let alloc = rt.alloc();

@@ -1,23 +1,23 @@
-//! A line that tells what it has brought and taken.
+//! A line that exposes what it has brought and taken.
 ghost use Rattle.std.specs.Prelude.{◌≡◌, ◌<◌, ◌≤◌, Some, length, map, take, None};
 ghost use Rattle.uug_transfer.specs.Received.{piece};
 
 use std::alloc::Global;
 use uug_transfer::{EndLine, LineFailed, ReadOutcome};
 
-/// A line that brings these pieces, one to a read, and keeps all that it takes. It fails behind the last piece, at one that is
-/// empty or has no room, and where there is no memory.
+/// A line that brings these pieces, one to a read, and keeps all that it takes. It fails after the last piece, at one
+/// that is empty or has no room, and without memory.
 #[derive(Drop)]
 pub(super) struct TellingLine<'a> {
     pieces: &'a [&'a [u8]],
-    /// So many of them were brought.
+    /// The number of pieces that were brought.
     brought: usize,
     taken: Vec<u8>,
     faults: u64,
 }
 
 impl<'a> TellingLine<'a> {
-    /// A line that has brought and taken nothing.
+    /// Creates a line that has brought and taken nothing.
     pub(super) fn new(alloc: Global, pieces: &'a [&'a [u8]]) -> Self {
         TellingLine {
             pieces,

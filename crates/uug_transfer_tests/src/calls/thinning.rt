@@ -1,5 +1,5 @@
-//! What an end leaves out of what it writes. The clauses say which packets these are; these rows say how many bytes are
-//! written then, and that a session ends well.
+//! The packets that an end leaves out of what it writes. The clauses say which packets these are; these rows say how
+//! many bytes are written then, and that a session ends well.
 
 use super::scenes::{AMPLE, CLEAN, LIMITS, NEVER};
 use super::scripted_line::ScriptedLine;
@@ -14,8 +14,8 @@ use uug_link::Announce;
 use uug_session::{End, MemorySpool, Node, Phase, Place, Queue};
 use uug_transfer::{BufferedNode, FaultInjector, SessionFault, Thinning, run_session};
 
-/// What a called end writes until its caller has sent a whole window: its texts and its start-up, and then RR 1 and the data
-/// packet 1 with SY.
+/// The pieces that a called end writes until its caller has sent a whole window: its texts and its start-up, and then
+/// RR 1 and the data packet 1 with SY.
 const ACCEPTS: &[&[u8]] = &[
     b"\x10Shere=b\0",
     b"\x10ROK\0\x10Pg\0",
@@ -23,7 +23,7 @@ const ACCEPTS: &[&[u8]] = &[
     b"\x10\x09k\xaa?\xf7",
 ];
 
-/// INITB 32 and INITB 4096: so large are the caller's packets.
+/// INITB 32 and INITB 4096, which set the size of the caller's packets.
 const SMALL: &[u8] = b"\x10\x09z\xaa0\xe9";
 
 const LARGE: &[u8] = b"\x10\x09s\xaa7\xe7";
@@ -37,8 +37,8 @@ const BEGINS: &[&[u8]] = &[
 /// RJ 1.
 const REJECT: &[u8] = b"\x10\x09\x99\xaa\x11\x2b";
 
-/// How large the caller's packets are, how many rejects come at once, what is left out, and how many bytes are to be written
-/// then. The window of seven data packets is sent again for each of them: of 38 bytes, or 4,102.
+/// The size of the caller's packets, the number of rejects that come at once, what is left out, and how many bytes are
+/// to be written then. The window of seven data packets, of 38 bytes or 4,102, is sent again for each of them.
 const STORMS: &[(&[u8], usize, Thinning, usize)] = &[
     (SMALL, 1, Thinning::Nothing, 266),
     (SMALL, 3, Thinning::Nothing, 798),
@@ -68,7 +68,7 @@ fn through(
     BufferedNode::new(alloc, node, injector).expect(rt, "memory for a buffer")
 }
 
-/// A caller that sends `x`, which has these bytes.
+/// Returns a caller that sends `x`, which has these bytes.
 fn caller(
     rt: &impl Abort,
     alloc: Global,
@@ -87,7 +87,7 @@ fn called(rt: &impl Abort, alloc: Global, injector: FaultInjector) -> MemoryEndA
     through(rt, alloc, made.expect(rt, "an end"), injector)
 }
 
-/// These bytes have come, and what was to be written is.
+/// Passes these bytes to an end, after all that it had to write is written.
 fn hear(rt: &impl Abort, buffered: &mut MemoryEndAtLine, piece: &[u8]) {
     let count = buffered.outgoing().len();
     buffered.written(count);
@@ -102,7 +102,7 @@ fn hear_all(rt: &impl Abort, buffered: &mut MemoryEndAtLine, pieces: &[&[u8]]) {
     }
 }
 
-/// These bytes, so many times.
+/// Returns these bytes, `count` times.
 fn repeated(rt: &impl Abort, alloc: Global, bytes: &[u8], count: usize) -> Vec<u8> {
     let mut all = Vec::new(alloc);
     for _ in 0..count {
@@ -111,7 +111,7 @@ fn repeated(rt: &impl Abort, alloc: Global, bytes: &[u8], count: usize) -> Vec<u
     all
 }
 
-/// How many bytes a caller has to write when so many rejects have come at once.
+/// Returns how many bytes a caller has to write after this many rejects have come at once.
 fn bytes_behind(
     rt: &impl Abort,
     alloc: Global,
@@ -134,7 +134,7 @@ fn bytes_behind(
     count
 }
 
-/// All of the table.
+/// Checks all of the table.
 #[test]
 fn what_is_sent_again_waits_once(rt: HostRuntime) {
     for (place, (size, rejects, thinning, expected)) in STORMS.iter().enumerate() {
@@ -157,7 +157,7 @@ const IN_ORDER: &[&[u8]] = &[
     b"\x10\x01:\xae\x91\x04",
 ];
 
-/// The packets with these headers, of fields of 32 bytes.
+/// Returns the packets with these headers, of fields of 32 bytes.
 fn in_order(rt: &impl Abort, alloc: Global) -> Vec<u8> {
     let mut bytes = Vec::new(alloc);
     for header in IN_ORDER {
@@ -184,7 +184,7 @@ fn what_is_sent_again_goes_in_the_order_of_its_numbers(rt: HostRuntime) {
     drop(buffered);
 }
 
-/// What the caller writes whose file comes in three data packets at once: RR 1, and the packets 2 to 4.
+/// The bytes of a caller whose file comes in three data packets at once: RR 1, and the packets 2 to 4.
 const THREE: &[u8] =
     b"\x10\x09\x89\xaa!\x0b\x10\x01\xc0*\xd1:\x1fh\0\0\0\0\0\0\0\0\0\0\0\0\0\0\0\0\0\0\0\0\0\0\0\0\0\0\0\0\0\0\x10\x01@\x14\xd9\x8c\x1fi\0\0\0\0\0\0\0\0\0\0\0\0\0\0\0\0\0\0\0\0\0\0\0\0\0\0\0\0\0\0\x10\x01\x8a\x0e\xe1d \0\0\0\0\0\0\0\0\0\0\0\0\0\0\0\0\0\0\0\0\0\0\0\0\0\0\0\0\0\0\0";
 
@@ -196,7 +196,7 @@ const PARTS: &[u8] =
 const LEAVES: &[u8] =
     b"\x10\x09\x87\xaa#\x07\x10\x01\xb7'\xb3\x22HY\0\0\0\0\0\0\0\0\0\0\0\0\0\0\0\0\0\0\0\0\0\0\0\0\0\0\0\0\0\0\x10\x09\xa2\xaa\x08\x09";
 
-/// What a called end that acknowledges each packet answers: RR 2, RR 3, RR 4, and the data packet 2 with CY.
+/// The answer of a called end that acknowledges each packet: RR 2, RR 3, RR 4, and the data packet 2 with CY.
 const EACH: &[u8] =
     b"\x10\x09\x88\xaa\x22\x09\x10\x09\x87\xaa#\x07\x10\x09\x86\xaa$\x01\x10\x01\xb7i\x94KCY\0\0\0\0\0\0\0\0\0\0\0\0\0\0\0\0\0\0\0\0\0\0\0\0\0\0\0\0\0\0";
 
@@ -223,7 +223,7 @@ fn each_packet_is_acknowledged_unless_acknowledgements_are_left_out(rt: HostRunt
     drop(buffered);
 }
 
-/// The data packet 1 with SY, the data packet 2 with CY, and the data packet 3 with HY, each without an RR in front.
+/// The data packet 1 with SY, the data packet 2 with CY, and the data packet 3 with HY, each without an RR before it.
 const LETS: &[u8] =
     b"\x10\x01P8\x89\xe0SY\0\0\0\0\0\0\0\0\0\0\0\0\0\0\0\0\0\0\0\0\0\0\0\0\0\0\0\0\0\0";
 
@@ -254,11 +254,11 @@ fn what_is_said_acknowledges_what_came(rt: HostRuntime) {
     drop(buffered);
 }
 
-/// RR 1, and the data packets 2 to 4, of which none ends the file.
+/// RR 1, and the data packets 2 to 4, none of which ends the file.
 const MIDDLE: &[u8] =
     b"\x10\x09\x89\xaa!\x0b\x10\x01\xc0*\xd1:\x1fh\0\0\0\0\0\0\0\0\0\0\0\0\0\0\0\0\0\0\0\0\0\0\0\0\0\0\0\0\0\0\x10\x01@\x14\xd9\x8c\x1fi\0\0\0\0\0\0\0\0\0\0\0\0\0\0\0\0\0\0\0\0\0\0\0\0\0\0\0\0\0\0\x10\x01\xc9\xe3\xe1\xca\x1f!\0\0\0\0\0\0\0\0\0\0\0\0\0\0\0\0\0\0\0\0\0\0\0\0\0\0\0\0\0\0";
 
-/// RR 3 and RR 4, with no RR 2 in front.
+/// RR 3 and RR 4, without an RR 2 before them.
 const TWO: &[u8] = b"\x10\x09\x87\xaa#\x07\x10\x09\x86\xaa$\x01";
 
 #[test]
@@ -272,7 +272,7 @@ fn two_acknowledgements_are_enough_for_what_came_at_once(rt: HostRuntime) {
     drop(buffered);
 }
 
-/// Every packet of which numbers both ends lose and change, and what they leave out.
+/// Every Nth packet that both ends lose, every Nth that they change, and what they leave out.
 type Noise = (Option<u32>, Option<u32>, Thinning);
 
 const NOISES: &[Noise] = &[
@@ -289,7 +289,8 @@ fn noisy(rt: &impl Abort, (lost, changed, thinning): Noise) -> FaultInjector {
     injector
 }
 
-/// How a session with one job ends between two such ends, how many jobs are struck then, and how many files the other end has.
+/// Returns how a session with one job ends between two ends with this noise, how many jobs are struck then, and how
+/// many files the other end has.
 fn end_over(
     rt: &impl Abort,
     alloc: Global,
@@ -317,7 +318,7 @@ fn end_over(
     (answer, phase, struck, kept)
 }
 
-/// All of the table: the job is done all the same.
+/// Checks all of the table: the job is done all the same.
 #[test]
 fn sessions_over_noisy_lines_are_done(rt: HostRuntime) {
     for (place, noise) in NOISES.iter().enumerate() {

@@ -21,7 +21,7 @@ type Spool<'a> = FolderSpool<MemoryFolder, Heap<'a>>;
 
 pub type End<'a> = TransferEnd<Spool<'a>, MemoryJobs, NoFile, Heap<'a>>;
 
-/// Which calls may fail.
+/// The calls that may fail.
 #[derive(Clone, Copy, PartialEq, Eq)]
 pub enum Call {
     Read,
@@ -35,8 +35,8 @@ pub enum Call {
     Print,
 }
 
-/// The call of this kind and of this number fails, with 0 none. A call of the line moves so many bytes at most, and one
-/// at least.
+/// The kind and the number of the call that fails, with 0 for none. A call of the line moves at most `piece` bytes, and
+/// at least one.
 #[derive(Clone, Copy)]
 pub struct Plan {
     pub call: Call,
@@ -44,10 +44,10 @@ pub struct Plan {
     pub piece: usize,
 }
 
-/// So many bytes go at once where nothing else is said.
+/// The number of bytes that go at once by default.
 pub const PIECE: usize = 64;
 
-/// No call fails.
+/// A plan in which no call fails.
 pub const NO_FAULT: Plan = Plan {
     call: Call::Read,
     number: 0,
@@ -55,7 +55,7 @@ pub const NO_FAULT: Plan = Plan {
 };
 
 impl Plan {
-    /// The number of the call of a kind that fails.
+    /// Returns the number of the call of a kind that fails.
     pub fn number_of(self, call: Call) -> u32 {
         if self.call == call { self.number } else { 0 }
     }
@@ -87,7 +87,7 @@ pub struct Ends<'a> {
 }
 
 impl<'a> Ends<'a> {
-    /// Both ends, of which the files of jobs have these texts when the session is over.
+    /// Creates both ends, whose files of jobs have these texts when the session is over.
     pub fn new(
         rt: &impl Abort,
         heap: Heap<'a>,
@@ -101,7 +101,8 @@ impl<'a> Ends<'a> {
     }
 }
 
-/// An end, and the numbers of the file and of the text of jobs that it fails to keep, and of the reading of jobs that fails.
+/// An end, and the numbers of the file and of the text of jobs that it fails to keep, and of the reading of jobs that
+/// fails.
 #[derive(Clone, Copy)]
 struct Failing {
     given: Given<'static>,
@@ -121,7 +122,7 @@ fn end<'a>(rt: &impl Abort, heap: Heap<'a>, failing: Failing, now: &str) -> End<
     }
 }
 
-/// The file of jobs of an end, which had its jobs when the session began.
+/// Returns the file of jobs of an end, which had its jobs when the session began.
 fn jobs_file<'a>(
     rt: &impl Abort,
     heap: Heap<'a>,
@@ -174,7 +175,7 @@ fn name(rt: &impl Abort, text: &[u8]) -> Name {
     Name::new(text).expect(rt, "a name")
 }
 
-/// The one file that an end has to give.
+/// Returns the one file that an end has to give.
 fn files<'a>(rt: &impl Abort, heap: Heap<'a>, given: &Given<'_>) -> Files<'a> {
     let mut files = Vec::new(heap);
     files.reserve(1).expect(rt, "memory for a file");

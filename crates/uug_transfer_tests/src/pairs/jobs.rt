@@ -1,5 +1,5 @@
-//! Jobs as a text, and what is printed of an end. What this catches beyond the clauses: a rule that is wrong in the
-//! definition, and a call that answers that memory ran out where none was refused, or that cannot be made again.
+//! Jobs as a text, and the report of an end. These tests catch more than the clauses: a rule that is wrong in the
+//! definition, a call that reports that memory ran out when none was refused, and one that can't be made again.
 
 use crate::pairs::assertions::{assert_same, assert_same_at, assert_so, assert_so_at};
 use std::alloc::Global;
@@ -36,8 +36,8 @@ const TEXTS: [(&str, Result<&str, usize>); 15] = [
     ("send x y u\n\nfetch x y u\nalso bad", Err(3)),
 ];
 
-/// What a text begins with, what is repeated in it and how many times, and what it ends with; and how many jobs are read,
-/// or the bad line.
+/// The beginning of a text, the part that is repeated in it and how many times, and its end; and how many jobs are
+/// read, or the bad line.
 const LONG_TEXTS: [(&str, &str, usize, &str, Result<usize, usize>); 8] = [
     ("", "send x y u\n", 1024, "# c\n\n", Ok(1024)),
     ("", "send x y u\n", 1025, "", Err(1025)),
@@ -53,7 +53,7 @@ fn name(rt: &impl Abort, text: &[u8]) -> Name {
     Name::new(text).expect(rt, "a name")
 }
 
-/// These are the jobs `send x y u` and `request q y u`.
+/// Asserts that these are the jobs `send x y u` and `request q y u`.
 fn assert_two_jobs(rt: &impl Abort, jobs: &[Job]) {
     let (target, user) = (name(rt, b"y"), name(rt, b"u"));
     let send = Job::Send {
@@ -86,7 +86,7 @@ fn reads_jobs(rt: HostRuntime) {
     assert_only_two_jobs(&rt, &queue);
 }
 
-/// Writes the jobs of a text as this one.
+/// Asserts that the jobs of a text are written as this one.
 fn assert_writes(
     rt: &impl Abort,
     alloc: Global,
@@ -98,7 +98,7 @@ fn assert_writes(
     assert_same_at(rt, Ok(written.as_str()), expected, text);
 }
 
-/// Reads a text that has these jobs, or this bad line.
+/// Asserts that a text has these jobs, or this bad line.
 fn assert_reads(rt: &impl Abort, alloc: Global, text: &str, jobs: Result<&str, usize>) {
     match read_jobs(alloc, text.as_bytes()) {
         Ok(queue) => assert_writes(rt, alloc, text, queue.pending(), jobs),
@@ -129,7 +129,7 @@ fn long_text(rt: &impl Abort, alloc: Global, (front, part, times, back): LongTex
     text
 }
 
-/// How many jobs a text has.
+/// Returns how many jobs a text has.
 fn count_jobs(alloc: Global, text: &str) -> Result<usize, JobsFault> {
     let queue = read_jobs(alloc, text.as_bytes())?;
     Ok(queue.pending().len())
@@ -157,7 +157,7 @@ enum Call {
     Failed,
 }
 
-/// Makes the call. Whether it was done.
+/// Makes the call. Returns whether it was done.
 fn make(
     call: Call,
     heap: &Refusing<Global>,
@@ -172,7 +172,8 @@ fn make(
     }
 }
 
-/// The call, whose nth request is refused, changes nothing then, and can be made again. Whether one was refused.
+/// Makes the call, whose nth request is refused. It changes nothing then, and can be made again. Returns whether one
+/// was refused.
 fn refuse_with(
     rt: &impl Abort,
     heap: &Refusing<Global>,
@@ -191,7 +192,7 @@ fn refuse_with(
     was_refused
 }
 
-/// Refuses the nth request of the call. Whether there was one.
+/// Refuses the nth request of the call. Returns whether there was one.
 fn refuse(
     rt: &impl Abort,
     heap: &Refusing<Global>,
@@ -206,7 +207,7 @@ fn refuse(
 /// More requests than any of the calls makes.
 const ENOUGH: u64 = 100;
 
-/// Refuses each request of the call in turn. How many it makes.
+/// Refuses each request of the call in turn. Returns how many it makes.
 fn requests(rt: &impl Abort, heap: &Refusing<Global>, call: Call, queue: &Queue<Global>) -> u64 {
     for nth in 1..ENOUGH {
         if !refuse(rt, heap, (call, nth), queue) {
@@ -237,7 +238,7 @@ fn makes_refused_calls_good(rt: HostRuntime) {
     refuse_calls(&rt, &heap, &queue);
 }
 
-/// Appends what is printed of the caller with two jobs, before its first turn.
+/// Appends the report of the caller with two jobs, before its first turn.
 fn add_caller(rt: &impl Abort, alloc: Global, text: &mut String, queue: &Queue<Global>) {
     let state = add_state(alloc, text, Side::Caller, Phase::Hail, queue);
     state.expect(rt, "memory for its state");

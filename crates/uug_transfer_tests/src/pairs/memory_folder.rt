@@ -17,7 +17,7 @@ pub struct MemoryFolder {
 }
 
 impl MemoryFolder {
-    /// The empty folder of the end on this side, which refuses the file of this number.
+    /// Creates the empty folder of the end on this side, which refuses the file of this number.
     pub fn new(side: Side, puts: u32) -> Self {
         MemoryFolder {
             side,
@@ -27,7 +27,7 @@ impl MemoryFolder {
         }
     }
 
-    /// For each task, whether its file was put in here whole.
+    /// Returns for each task whether its file was put in here whole.
     pub fn taken(&self) -> &[bool] {
         &self.taken
     }

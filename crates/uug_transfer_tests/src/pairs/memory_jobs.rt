@@ -9,10 +9,10 @@ use std::process::Abort;
 use uug_folder::{FolderFailed, TextFile};
 use uug_stream::ToolFault;
 
-/// The most bytes of a text.
+/// The maximum number of bytes of a text.
 const TEXT_MAX: usize = 256;
 
-/// Holds a text, and refuses a reading or a text.
+/// A text that refuses a reading or a new text.
 #[derive(Drop)]
 pub struct MemoryJobs {
     text: ArrayVec<u8, TEXT_MAX>,

@@ -7,10 +7,10 @@ use arrayvec::ArrayVec;
 use uug_session::Side;
 use uug_transfer::{Line, LineFailed, UNREAD_MAX};
 
-/// What is on its way to an end.
+/// The bytes on their way to an end.
 type Unread = ArrayVec<u8, UNREAD_MAX>;
 
-/// Bytes on their way to both ends, of which one read and one write may fail. A call moves so many at most.
+/// The bytes on their way to both ends. One read and one write may fail. A call moves at most `piece` of them.
 #[derive(Drop)]
 pub struct MemoryLine {
     to_caller: Unread,
@@ -22,8 +22,8 @@ pub struct MemoryLine {
 }
 
 impl MemoryLine {
-    /// An empty line, of which the read and the write of these numbers fail, and of which a call moves so many bytes at
-    /// most, or one.
+    /// Creates an empty line, on which the read and the write of these numbers fail. A call moves at most `piece`
+    /// bytes; 0 counts as 1.
     pub fn new(reads: u32, writes: u32, piece: usize) -> Self
         ensures unread { (side : _) → ⟦<MemoryLine as Line>⟧.unread result side ≡ 0 }
     {
@@ -81,7 +81,7 @@ impl Line for MemoryLine {
     }
 }
 
-/// Puts a piece behind what is on its way.
+/// Appends a piece to the bytes on their way.
 fn append(unread: &mut Unread, piece: &[u8])
     requires { length unread.old.items + length piece.now ≤ UNREAD_MAX }
     ensures { length unread.new.items ≡ length unread.old.items + length piece.now }
@@ -91,7 +91,7 @@ fn append(unread: &mut Unread, piece: &[u8])
     };
 }
 
-/// Moves as many bytes as fit from the front of what is on its way.
+/// Moves as many bytes as fit from the front of those on their way, and returns how many.
 fn take(unread: &mut Unread, buffer: &mut [u8]) -> usize
     ensures count { length unread.new.items + result ≡ length unread.old.items }
     ensures within { result ≤ length buffer.old }

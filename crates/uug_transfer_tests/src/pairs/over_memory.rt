@@ -1,6 +1,6 @@
-//! Two ends over a line, folders and files of jobs in memory, of which one call fails or one request for memory is refused.
-//! What no clause says: whatever fails, a job that is gone from the jobs of its end has its file in the folder of the end
-//! that takes it, or is printed as failed.
+//! Two ends over a line, folders and files of jobs in memory, of which one call fails or one request for memory is
+//! refused. No clause says what these tests check: whatever fails, a job that is gone from the jobs of its end has its
+//! file in the folder of the end that takes it, or is printed as failed.
 
 use crate::pairs::assertions::{assert_same, assert_same_at, assert_so, assert_so_at};
 use crate::pairs::ends::{Call, End, Ends, Heap, NO_FAULT, PIECE, Plan};
@@ -19,15 +19,15 @@ use uug_transfer::{Line, pair_over};
 /// More turns than two ends take in any of these tests.
 const ENOUGH: u32 = 1000;
 
-/// What came of a run.
+/// The result of a run.
 #[derive(Clone, Copy)]
 struct Outcome {
     answer: Result<u8, ToolFault>,
-    /// Whether a call failed.
+    /// Set if a call failed.
     has_failed: bool,
 }
 
-/// Lets the ends take so many turns at most.
+/// Lets the ends take at most `limit` turns.
 fn run<'a>(
     heap: Heap<'a>,
     ends: &mut Ends<'a>,
@@ -52,7 +52,7 @@ fn run<'a>(
     }
 }
 
-/// The faults of an end's folder, or of its file of jobs.
+/// Returns the faults of an end's folder, or of its file of jobs.
 fn faults(end: &End<'_>) -> u64 {
     folder(end).faults().max(end.jobs.file.faults())
 }
@@ -66,7 +66,7 @@ fn has(text: &[u8], line: &str) -> bool {
     text.windows(line.len().max(1)).any(|part| part == line)
 }
 
-/// The text of the jobs of the end on a side.
+/// Returns the text of the jobs of the end on a side.
 fn jobs<'e>(ends: &'e Ends<'_>, side: Side) -> &'e [u8] {
     match side {
         Side::Caller => ends.caller.jobs.file.text(),
@@ -74,7 +74,7 @@ fn jobs<'e>(ends: &'e Ends<'_>, side: Side) -> &'e [u8] {
     }
 }
 
-/// Whether the file of the task of this number is in the folder of the end that takes it.
+/// Returns whether the file of the task of this number is in the folder of the end that takes it.
 fn is_taken(ends: &Ends<'_>, number: usize, taker: Side) -> bool {
     let folder = match taker {
         Side::Caller => folder(&ends.caller),
@@ -83,8 +83,8 @@ fn is_taken(ends: &Ends<'_>, number: usize, taker: Side) -> bool {
     folder.taken().get(number) == Some(&true)
 }
 
-/// Whether the job of this number is still among those of its end, has its file in the folder of the end that takes it, or
-/// is printed as failed.
+/// Returns whether the job of this number is not lost. It is still among those of its end, has its file in the folder
+/// of the end that takes it, or is printed as failed.
 fn is_not_lost(ends: &Ends<'_>, printed: &[u8], number: usize, task: &Task<'_>) -> bool {
     has(jobs(ends, task.of), task.line)
         || is_taken(ends, number, task.taker)
@@ -97,8 +97,8 @@ fn assert_not_lost(rt: &impl Abort, ends: &Ends<'_>, printed: &[u8]) {
     }
 }
 
-/// The calls that fail, how many of them there are at least, the stage that the ends come to before the last of them where
-/// it is a call of the line, and what is answered.
+/// The calls that fail, and how many of them there are at least; the stage that the ends reach before the last of them,
+/// if it is a call of the line; and the answer.
 const FAULTS: [(Call, u32, usize, Result<u8, ToolFault>); 9] = [
     (Call::Read, 40, 7, Err(ToolFault::Device)),
     (Call::Write, 40, 7, Err(ToolFault::Device)),
@@ -111,8 +111,8 @@ const FAULTS: [(Call, u32, usize, Result<u8, ToolFault>); 9] = [
     (Call::Print, 8, 0, Err(ToolFault::Write)),
 ];
 
-/// The text of the jobs of an end where the sessions come to their end: it is empty, unless it could not be read, or the
-/// new one was refused.
+/// Returns the text of the jobs of an end if the sessions reach their end. It is empty, unless it could not be read, or
+/// the new one was refused.
 fn left_jobs<'a>(given: &'a str, plan: Plan, reading: Call, text: Call) -> &'a [u8] {
     if plan.number_of(reading) == 1 || plan.number_of(text) == 1 {
         given.as_bytes()
@@ -121,7 +121,7 @@ fn left_jobs<'a>(given: &'a str, plan: Plan, reading: Call, text: Call) -> &'a [
     }
 }
 
-/// What is in the files of jobs where the sessions come to their end.
+/// Asserts what is in the files of jobs if the sessions reach their end.
 fn assert_done(rt: &impl Abort, ends: &Ends<'_>, plan: Plan) {
     let caller = left_jobs(CALLER.jobs, plan, Call::ReadingOfCaller, Call::JobsOfCaller);
     let called = left_jobs(CALLED.jobs, plan, Call::ReadingOfCalled, Call::JobsOfCalled);
@@ -129,13 +129,13 @@ fn assert_done(rt: &impl Abort, ends: &Ends<'_>, plan: Plan) {
     assert_same(rt, jobs(ends, Side::Called), called);
 }
 
-/// All jobs are as before.
+/// Asserts that all jobs are as before.
 fn assert_as_before(rt: &impl Abort, ends: &Ends<'_>) {
     assert_same(rt, jobs(ends, Side::Caller), CALLER.jobs.as_bytes());
     assert_same(rt, jobs(ends, Side::Called), CALLED.jobs.as_bytes());
 }
 
-/// Whether the sessions come to their end whatever call of this kind fails.
+/// Returns whether the sessions reach their end whatever call of this kind fails.
 fn is_done(call: Call) -> bool {
     match call {
         Call::ReadingOfCaller
@@ -147,7 +147,7 @@ fn is_done(call: Call) -> bool {
     }
 }
 
-/// The stage at which the ends are, exactly, where this is a call of the line, and 0 where it is not.
+/// Asserts that the ends are at exactly one stage, if this is a call of the line. Returns it, or 0 for another call.
 fn assert_stage(rt: &impl Abort, ends: &Ends<'_>, call: Call, printed: &[u8]) -> usize {
     match call {
         Call::Read | Call::Write => {
@@ -158,7 +158,7 @@ fn assert_stage(rt: &impl Abort, ends: &Ends<'_>, call: Call, printed: &[u8]) ->
     }
 }
 
-/// Of a text that can't be printed it is not looked at what is printed.
+/// Asserts what is left. If a text can't be printed it is not checked what is printed.
 fn assert_left(rt: &impl Abort, ends: &Ends<'_>, plan: Plan, output: &ShortOutput) {
     if is_done(plan.call) {
         assert_done(rt, ends, plan);
@@ -172,8 +172,8 @@ fn assert_left(rt: &impl Abort, ends: &Ends<'_>, plan: Plan, output: &ShortOutpu
     assert_not_lost(rt, ends, output.text());
 }
 
-/// Runs these ends, of which a call fails. Their stage then, or none where there was no such call, and they have come to
-/// their end.
+/// Runs these ends, of which a call fails. Returns their stage then. Returns `None` if there was no such call, and they
+/// have reached their end.
 fn fail_ends<'a>(
     rt: &impl Abort,
     heap: Heap<'a>,
@@ -194,8 +194,8 @@ fn fail_ends<'a>(
     None
 }
 
-/// Lets each call of a kind fail in turn. How many there are, and the last stage. The ends come to it one stage after the
-/// other, from the first on.
+/// Lets each call of a kind fail in turn. Returns how many there are, and the last stage. Asserts that the ends reach
+/// it one stage after the other, from the first on.
 fn fail_each(
     rt: &impl Abort,
     heap: Heap<'_>,
@@ -235,7 +235,7 @@ fn loses_no_job_by_a_fault(rt: HostRuntime) {
     }
 }
 
-/// What a run leaves of which a request for memory was refused, or none.
+/// Asserts what a run leaves if a request for memory was refused, or none was.
 fn assert_refused(
     rt: &impl Abort,
     ends: &Ends<'_>,
@@ -253,7 +253,7 @@ fn assert_refused(
     }
 }
 
-/// Refuses the nth request for memory of these ends. Whether there was one.
+/// Refuses the nth request for memory of these ends. Returns whether there was one.
 fn refuse_ends<'a>(rt: &impl Abort, heap: Heap<'a>, ends: &mut Ends<'a>, nth: u64) -> bool {
     let mut output = ShortOutput::new(0);
     heap.refuse(nth);
@@ -263,7 +263,7 @@ fn refuse_ends<'a>(rt: &impl Abort, heap: Heap<'a>, ends: &mut Ends<'a>, nth: u6
     was_refused
 }
 
-/// Refuses each request for memory in turn. How many there are.
+/// Refuses each request for memory in turn. Returns how many there are.
 fn refuse_each(rt: &impl Abort, heap: Heap<'_>) -> u64 {
     for nth in 1..10_000 {
         if play(rt, heap, Trial::Refusal(nth)).is_none() {
@@ -280,11 +280,11 @@ fn leaves_all_jobs_when_out_of_memory(rt: HostRuntime) {
     assert_so_at(&rt, requests > 30, requests);
 }
 
-/// What is printed where no job is done.
+/// The report if no job is done.
 const BROKEN_OFF: &[u8] =
     b"caller hungup pending 4 struck 0 failed 0\ncalled hungup pending 2 struck 0 failed 0\n";
 
-/// Lets these ends take so few turns that no job is done.
+/// Lets these ends take too few turns for any job to be done.
 fn break_ends_off<'a>(rt: &impl Abort, heap: Heap<'a>, ends: &mut Ends<'a>, limit: u32) {
     let mut output = ShortOutput::new(0);
     let outcome = run(heap, ends, (NO_FAULT, limit), &mut output);
@@ -301,7 +301,8 @@ fn ends_at_the_limit_of_turns(rt: HostRuntime) {
     }
 }
 
-/// What both files of jobs have when the session is over, the most turns that it takes, and what is left then.
+/// The text of both files of jobs when the session is over, the maximum number of its turns, and the text that is left
+/// then.
 #[derive(Clone, Copy)]
 struct Change<'a> {
     caller: &'a str,
@@ -337,7 +338,7 @@ const CHANGES: &[Change<'static>] = &[
         caller_left: "\nrequest q z u\nsend q z u\nrequest q z w\n",
         called_left: "",
     },
-    // no job is over: what is pending stays, and what was appended stays behind it
+    // no job is over: what is pending stays, and what was appended stays after it
     Change {
         caller: "send x y u\nrequest q z u\nsend x .hidden u\nsend none n u\nsend x new u\n",
         called: "send q back u\nrequest x again u\n",
@@ -364,13 +365,13 @@ fn keeps_what_came_into_the_jobs_meanwhile(rt: HostRuntime) {
     }
 }
 
-/// Which of the tasks' files are in the folders of the ends that take them, where nothing fails.
+/// For each task, whether its file is in the folder of the end that takes it, if nothing fails.
 const TAKEN: [bool; 6] = [true, true, false, false, true, true];
 
-/// More turns than the ends take where one byte goes in each.
+/// A limit that exceeds the turns of the ends if one byte goes in each.
 const ENOUGH_FOR_BYTES: u32 = 100_000;
 
-/// Runs these ends over a line that moves so many bytes at a time. All is done as at any line.
+/// Runs these ends over a line that moves `piece` bytes at a time. Asserts that all is done as at any line.
 fn move_in_pieces<'a>(rt: &impl Abort, heap: Heap<'a>, ends: &mut Ends<'a>, plan: Plan) {
     let mut output = ShortOutput::new(0);
     let outcome = run(heap, ends, (plan, ENOUGH_FOR_BYTES), &mut output);
@@ -392,18 +393,18 @@ fn goes_in_pieces_as_whole(rt: HostRuntime) {
     }
 }
 
-/// What is tried with two ends.
+/// A trial with two ends.
 #[derive(Clone, Copy)]
 enum Trial {
-    /// A call fails, and this is answered.
+    /// A call fails, and this is the answer.
     Fault(Plan, Result<u8, ToolFault>),
     /// The request for memory of this number is refused.
     Refusal(u64),
-    /// They take so few turns that no job is done.
+    /// They take too few turns for any job to be done.
     Limit(u32),
     /// Both files of jobs are changed meanwhile.
     Change(Change<'static>),
-    /// The line moves so many bytes at a time.
+    /// The line moves this many bytes at a time.
     Pieces(usize),
 }
 
@@ -420,7 +421,7 @@ impl Trial {
         }
     }
 
-    /// What both files of jobs have when the session is over.
+    /// Returns the text of both files of jobs when the session is over.
     fn texts(self) -> (&'static str, &'static str) {
         match self {
             Trial::Change(change) => (change.caller, change.called),
@@ -429,7 +430,8 @@ impl Trial {
     }
 }
 
-/// Plays it with these ends. Their stage where a call of the line failed; none where there was no such call or request.
+/// Plays it with these ends. Returns their stage if a call of the line failed, and `None` if there was no such call or
+/// request.
 fn play_with<'a>(
     rt: &impl Abort,
     heap: Heap<'a>,

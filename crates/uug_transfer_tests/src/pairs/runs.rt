@@ -1,5 +1,5 @@
-//! Two ends over a socket and folders of the system. What no clause says: what comes into the folders, and that a hostile
-//! folder does no harm.
+//! Two ends over a socket and folders of the system. No clause says what these tests check: what is put into the
+//! folders, and that a hostile folder does no harm.
 
 use crate::pairs::assertions::{assert_same, assert_same_at, assert_so, assert_so_at};
 use crate::pairs::short_output::ShortOutput;
@@ -20,17 +20,17 @@ use uug_refusal::Refusing;
 use uug_stream::ToolFault;
 use uug_talk::Name;
 
-/// What there is before a run, beside the folder `a/send`. `a` and `b` are the folders of the two ends.
+/// A thing that there is before a run, beside the folder `a/send`. `a` and `b` are the folders of the two ends.
 #[derive(Clone, Copy)]
 pub enum Given<'a> {
     /// A folder, and those that it lies in.
     Folder(&'a str),
     File(&'a str, &'a [u8]),
-    /// So many bytes of one value.
+    /// A file of this many bytes of one value.
     Filled(&'a str, u8, usize),
-    /// So many empty files, whose names begin with this.
+    /// This many empty files, whose names begin with this.
     Files(&'a str, usize),
-    /// A link, and what it leads to.
+    /// A link, and its target.
     Link(&'a str, &'a str),
     Socket(&'a str),
 }
@@ -48,7 +48,7 @@ impl Given<'_> {
     }
 }
 
-/// Which call of the system failed first: whose, on what, and why.
+/// The call of the system that failed first: whose it was, on what, and why.
 #[derive(Clone, Copy)]
 enum Why {
     Nothing,
@@ -60,7 +60,7 @@ enum Why {
     Got(usize, &'static [u8], Cause),
 }
 
-/// That a call on this, of an end of this number, failed so.
+/// Returns the failure of a call on this resource, of the end of this number, with this cause.
 fn why_of(end: usize, resource: Resource, cause: Cause) -> Option<SystemFailure> {
     Some(SystemFailure {
         end,
@@ -70,7 +70,7 @@ fn why_of(end: usize, resource: Resource, cause: Cause) -> Option<SystemFailure>
 }
 
 impl Why {
-    /// Whether this is what was said.
+    /// Returns whether this is the failure that was reported.
     fn is(self, said: Option<SystemFailure>) -> bool {
         let wanted = match self {
             Why::Nothing => None,
@@ -87,8 +87,8 @@ impl Why {
     }
 }
 
-/// What is in the folders before a run, the faults on the line, the answer, which call of the system failed, what is
-/// printed, and the files that there are then.
+/// The contents of the folders before a run, the faults on the line, the answer, the call of the system that failed,
+/// the printed text, and the files that there are then.
 struct Row<'a> {
     given: &'a [Given<'a>],
     drop_every: Option<u32>,
@@ -404,7 +404,7 @@ const ROWS: &[Row<'static>] = &[
     },
 ];
 
-/// The path of this name in a folder.
+/// Returns the path of this name in a folder.
 pub fn within(rt: &(impl Abort + AllocGlobal), dir: &str, name: &str) -> String {
     let path = format!(in rt.alloc(); "{dir}/{name}");
     path.expect(rt, "memory for a path")
@@ -484,7 +484,7 @@ pub fn remove(rt: &(impl Files + Abort + AllocGlobal), dir: &str) {
     fs::remove_dir_all(rt, dir).expect(rt, "a folder to remove");
 }
 
-/// The path of a folder of its own for each test, in a process of this number.
+/// Returns the path of a folder of its own for each test, in a process of this number.
 pub fn folder_path(rt: &(impl Env + Abort + AllocGlobal), id: u32, test: &str) -> String {
     let temporary = env::temp_dir(rt).expect(rt, "a folder for temporary files");
     let path = format!(in rt.alloc(); "{}/uug_transfer_{id}_{test}", temporary.as_str());
@@ -503,7 +503,7 @@ struct Paths {
 }
 
 impl Paths {
-    /// The paths of `socket`, `a` and `b` in a folder.
+    /// Returns the paths of `socket`, `a` and `b` in a folder.
     fn within(rt: &(impl Abort + AllocGlobal), dir: &str) -> Self {
         Paths {
             socket: within(rt, dir, "socket"),
@@ -539,7 +539,7 @@ fn run_within<A: Allocator + Copy>(
     pair_run(alloc, rt, socket, a, b, drop_every, flip_every, output)
 }
 
-/// The file of this name has these bytes.
+/// Asserts that the file of this name has these bytes.
 fn assert_file(rt: &(impl Files + Abort + AllocGlobal), dir: &str, name: &str, bytes: &[u8]) {
     let path = within(rt, dir, name);
     assert_bytes(rt, path.as_str(), name, bytes);
@@ -576,7 +576,7 @@ impl Row<'_> {
         assert_same(rt, output.text(), self.printed.as_bytes());
     }
 
-    /// All files are there that are to be left.
+    /// Asserts that all files are there that are to be left.
     fn assert_left(&self, rt: &(impl Files + Abort + AllocGlobal), dir: &str) {
         for (name, bytes) in self.left {
             assert_file(rt, dir, name, bytes);
@@ -613,7 +613,8 @@ fn moves_files_between_folders(rt: HostRuntime) {
     play_rows(&rt, dir.as_str());
 }
 
-/// Two ends of which another run holds a folder: nothing is read or sent, and what a run that was killed left stays.
+/// Asserts that two ends read and send nothing if another run holds a folder, and that the remains of a run that was
+/// killed stay.
 fn assert_held(
     rt: &(impl Files<File = File> + Net + Abort + AllocGlobal + Clone + Drop),
     dir: &str,
@@ -636,15 +637,15 @@ fn assert_held(
     assert_so(rt, !has_socket(rt, dir));
 }
 
-/// The first folder of the program's arguments.
+/// Returns the first folder of the program's arguments.
 pub fn first(path: &str) -> EndDir<'_> {
     EndDir { path, number: 0 }
 }
 
-/// What a run that was killed left of a file that was not whole.
+/// The incomplete file that a run left that was killed.
 const PART: Given<'static> = Given::File("b/got/.part.7.0", b"p");
 
-/// What it left of the jobs.
+/// The incomplete jobs that it left.
 const PART_OF_JOBS: Given<'static> = Given::File("a/.part.7.1", b"p");
 
 /// Runs both ends, whose folders nobody holds.
@@ -680,7 +681,7 @@ fn works_in_a_folder_alone(rt: HostRuntime) {
     hold_folders(&rt, dir.as_str());
 }
 
-/// Reads a file of jobs, appends to it, and replaces it: what was appended stays behind the new text.
+/// Reads a file of jobs, appends to it, and replaces it. Asserts that what was appended stays after the new text.
 fn append_between(
     rt: &(impl Files<File = File> + Net + Abort + AllocGlobal + Clone + Drop),
     dir: &str,
@@ -705,7 +706,7 @@ fn keeps_what_is_appended_at_the_last_moment(rt: HostRuntime) {
     append_between(&rt, dir.as_str());
 }
 
-/// The nth request for memory was refused, after which nothing is printed; or none was.
+/// Asserts that memory ran out and nothing is printed, if the nth request was refused, and success otherwise.
 fn assert_refused(
     rt: &impl Abort,
     was_refused: bool,
@@ -720,7 +721,7 @@ fn assert_refused(
     }
 }
 
-/// Runs two ends with the nth request for memory refused. Whether one was.
+/// Runs two ends with the nth request for memory refused. Returns whether one was.
 fn refuse(
     rt: &(impl Files<File = File> + Net + Abort + AllocGlobal + Clone + Drop),
     heap: &Refusing<Global>,
@@ -735,7 +736,7 @@ fn refuse(
     was_refused
 }
 
-/// Refuses each request for memory in turn. How many there are.
+/// Refuses each request for memory in turn. Returns how many there are.
 fn refuse_each(
     rt: &(impl Files<File = File> + Net + Abort + AllocGlobal + Clone + Drop),
     heap: &Refusing<Global>,

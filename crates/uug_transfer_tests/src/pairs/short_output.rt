@@ -5,13 +5,13 @@ use crate::pairs::failing::fails;
 use arrayvec::ArrayVec;
 use uug_stream::{Output, WriteFailed};
 
-/// The most bytes of a text.
+/// The maximum number of bytes of a text.
 const TEXT_MAX: usize = 512;
 
-/// The most bytes that one write takes.
+/// The maximum number of bytes that one write takes.
 const PIECE: usize = 16;
 
-/// Takes a few bytes in a write, and refuses one write.
+/// An output that takes a few bytes in a write, and refuses one write.
 #[derive(Drop)]
 pub struct ShortOutput {
     text: ArrayVec<u8, TEXT_MAX>,
@@ -20,7 +20,7 @@ pub struct ShortOutput {
 }
 
 impl ShortOutput {
-    /// Has taken nothing, and refuses the write of this number.
+    /// Creates an output that has taken nothing, and refuses the write of this number.
     pub fn new(writes: u32) -> Self {
         ShortOutput {
             text: ArrayVec::new(),

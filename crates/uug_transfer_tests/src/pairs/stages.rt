@@ -1,8 +1,8 @@
-//! How far two ends come with their jobs before the line fails.
+//! The stages that two ends reach with their jobs before the line fails.
 
 use crate::pairs::tasks::{JOBS_OF_CALLED, JOBS_OF_CALLER, REPORT};
 
-/// What both files of jobs then have, and what is printed.
+/// The text of both files of jobs at this stage, and the report.
 #[derive(Clone, Copy)]
 struct Stage<'a> {
     caller: &'a str,
@@ -10,7 +10,7 @@ struct Stage<'a> {
     printed: &'a str,
 }
 
-/// One after the other, as the jobs say: those of the caller go first, in their order.
+/// The stages in the order of the jobs: those of the caller go first, in their order.
 const STAGES: [Stage<'static>; 8] = [
     // no job is over
     Stage {
@@ -57,7 +57,7 @@ const STAGES: [Stage<'static>; 8] = [
             called hungup pending 0 struck 2 failed 0\n\
             caller failed send x .hidden u\ncaller failed send none n u\n",
     },
-    // it has said H, and the caller HY, with which its session is done, whatever the line loses behind that
+    // it has said H, and the caller HY, with which its session is done, whatever the line loses after that
     Stage {
         caller: "",
         called: "",
@@ -81,7 +81,7 @@ impl Stage<'_> {
     }
 }
 
-/// The stage at which this is left, if it is one.
+/// Returns the stage at which this is left, if it is one.
 pub fn stage_of(caller: &[u8], called: &[u8], printed: &[u8]) -> Option<usize> {
     for (number, stage) in STAGES.iter().enumerate() {
         if stage.is(caller, called, printed) {

@@ -13,7 +13,7 @@ pub struct Given<'a> {
     pub bytes: &'a [u8],
 }
 
-/// More than a message.
+/// A file of more than a message.
 const X: &[u8] = &[b'x'; 100];
 
 pub const JOBS_OF_CALLER: &str = "send x y u\nrequest q z u\nsend x .hidden u\nsend none n u\n";
@@ -38,8 +38,8 @@ pub const CALLED: Given<'static> = Given {
     bytes: b"q",
 };
 
-/// A job: the end that has it, its line, the end that takes the file, the file's name and bytes; and what is printed where
-/// it is given up.
+/// A job: the end that has it, its line, the end that takes the file, the file's name and bytes, and the line that is
+/// printed if it is given up.
 #[derive(Clone, Copy)]
 pub struct Task<'a> {
     pub of: Side,
@@ -51,13 +51,13 @@ pub struct Task<'a> {
 }
 
 impl Task<'_> {
-    /// Whether its file is the one of this name and these bytes, which the end on this side took.
+    /// Returns whether its file is the one of this name and these bytes, which the end on this side took.
     pub fn is_done_by(&self, side: Side, name: &[u8], bytes: &[u8]) -> bool {
         self.taker == side && self.target == name && self.bytes == bytes
     }
 }
 
-/// How many jobs both ends have.
+/// The number of jobs of both ends.
 pub const TASKS_LEN: usize = 6;
 
 pub const TASKS: [Task<'static>; TASKS_LEN] = [
@@ -111,7 +111,7 @@ pub const TASKS: [Task<'static>; TASKS_LEN] = [
     },
 ];
 
-/// What is printed where nothing fails.
+/// The report if nothing fails.
 pub const REPORT: &str = "caller done pending 0 struck 2 failed 2\n\
     called done pending 0 struck 2 failed 0\n\
     caller failed send x .hidden u\ncaller failed send none n u\n";
