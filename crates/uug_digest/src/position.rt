@@ -1,4 +1,4 @@
-//! From which byte on a file is to be sent: the answer `SY`, and the number behind it.
+//! The byte from which a file is sent: the answer `SY`, and the number after it.
 ghost use Rattle.std.specs.Prelude.{◌≡◌, ◌≤◌};
 ghost use Rattle.uug_digest.specs.Positions.{consent_text, position_in, position_told};
 ghost use Rattle.uug_talk.specs.Answer.{ReadsAnswer};
@@ -11,8 +11,8 @@ use crate::told::read_size;
 use arrayvec::ArrayVec;
 use uug_talk::split_word;
 
-/// Returns the text of the answer `SY` that asks for a file from this byte on, without its zero byte. From the first byte
-/// on it is `SY` alone.
+/// Returns the text of the answer `SY` that asks for a file from this byte on, without its zero byte. For the first byte
+/// it is `SY` alone.
 pub fn write_consent(position: u32) -> ArrayVec<u8, TELLING_MAX>
     ensures text { result.items ≡ consent_text position }
     // It is read as that answer, whether that is looked at or not.
@@ -38,8 +38,8 @@ fn spell_consent(position: u32) -> ArrayVec<u8, TELLING_MAX>
     text
 }
 
-/// Reads from which byte on an answer `SY` asks for its file, by the word behind it. Where that is no position, or the
-/// text is no such answer, it is the first.
+/// Returns the byte from which an answer `SY` asks for its file, by the word after it. It is 0 if that is no position, or
+/// the text is no such answer.
 pub fn position_told(text: &[u8]) -> u32
     ensures { result ≡ position_told text.now }
 {

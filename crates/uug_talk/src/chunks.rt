@@ -10,7 +10,7 @@ use arrayvec::ArrayVec;
 /// The longest message, in bytes.
 pub const MESSAGE_MAX: usize = 4096;
 
-/// A message: what one packet carries.
+/// A message, which one packet carries.
 pub type Message = ArrayVec<u8, MESSAGE_MAX>;
 
 #[derive(Clone, Copy, Debug, PartialEq, Eq)]
@@ -23,9 +23,9 @@ enum Ending {
     Given,
 }
 
-/// The messages in which a command or a file travels, in order. A command goes as its text, one zero
-/// byte and zeros up to a multiple of the size, cut every `size` bytes; a short one without the zeros behind its
-/// zero byte. A file goes as its bytes, cut every `size` bytes, and one empty message.
+/// The messages of a command or a file, in order. A command is sent as its text, one zero byte and zeros up to a
+/// multiple of the size, cut every `size` bytes; a short one ends with its zero byte. A file is sent as its bytes, cut
+/// every `size` bytes, and one empty message.
 #[derive(Drop)]
 pub struct Chunks<'a> {
     rest: &'a [u8],
@@ -37,7 +37,7 @@ pub struct Chunks<'a> {
     ghost fits: { size ≤ MESSAGE_MAX },
 }
 
-/// Whether a text may be sent as a command: at most `COMMAND_MAX` bytes, and no zero byte among them.
+/// Returns whether a text may be sent as a command: at most `COMMAND_MAX` bytes, and no zero byte among them.
 pub fn is_command_text(text: &[u8]) -> bool
     ensures { IsTrue result ↔ IsCommandText text.now }
 {
@@ -80,7 +80,7 @@ impl<'a> Chunks<'a> {
         }
     }
 
-    /// The messages of a file, with at most `size` bytes each, which is 1 to `MESSAGE_MAX`.
+    /// Returns the messages of a file, with at most `size` bytes each, which is 1 to `MESSAGE_MAX`.
     pub fn file(bytes: &'a [u8], size: usize) -> Self
         requires some { 0 < size }
         requires fits { size ≤ MESSAGE_MAX }
@@ -117,8 +117,8 @@ impl<'a> Iterator for Chunks<'a> {
 impl Chunks<'_> {
     ghost use Rattle.uug_talk.specs.MessagesLeft.{measure_of, messages_left};
 
-    /// Puts the next message into `message`, in the place of what that held, and says whether there was one. Where there
-    /// is none, `message` stays. `next` makes a new message of `MESSAGE_MAX` bytes each time; this makes none.
+    /// Replaces `message` by the next message, and returns whether there is one. If there is none, `message` stays.
+    /// `next` makes a new message of `MESSAGE_MAX` bytes each time; this makes none.
     pub fn next_into(&mut self, message: &mut Message) -> bool
         ensures some { OnTrue result (messages_left self.old
             ≡ message.new.items ∷ messages_left self.new) }

@@ -8,13 +8,13 @@ use arrayvec::ArrayVec;
 use std::alloc::Allocator;
 use std::marker::Model;
 
-/// The longest file, in bytes, where no other limit is said.
+/// The longest file, in bytes, if no other limit is given.
 pub const FILE_MAX: usize = 1_048_576;
 
 /// The greatest limit of a file, in bytes.
 pub const FILE_LIMIT_MAX: usize = 268_435_456;
 
-/// How far a command or a file has come.
+/// The progress of a command or a file.
 #[derive(Clone, Copy, Debug, PartialEq, Eq)]
 pub enum Progress {
     /// More messages follow.
@@ -49,7 +49,7 @@ impl<A: Allocator> Model for Gather<A> {
 }
 
 impl<A: Allocator + Copy> Gather<A> {
-    /// Nothing of a file yet. Its bytes will be kept in memory of `alloc`.
+    /// Begins a file, with nothing of it yet. Its bytes are kept in memory of `alloc`.
     pub fn file(alloc: A) -> Self
         ensures { result ≡ gathered (OfFile FILE_MAX) [] }
     {
@@ -61,7 +61,7 @@ impl<A: Allocator + Copy> Gather<A> {
 }
 
 impl<A: Allocator> Gather<A> {
-    /// Nothing of a command yet.
+    /// Begins a command, with nothing of it yet.
     pub fn command() -> Self
         ensures { result ≡ gathered OfCommand [] }
     {
@@ -71,8 +71,7 @@ impl<A: Allocator> Gather<A> {
         }
     }
 
-    /// Begins with the bytes of a file that are held already, of which there may be `limit` in all: 1 to
-    /// `FILE_LIMIT_MAX`.
+    /// Begins a file of which these bytes are there already. It may have `limit` bytes in all: 1 to `FILE_LIMIT_MAX`.
     pub fn file_from(front: Vec<u8, A>, limit: usize) -> Self
         requires some { 0 < limit }
         requires fits { limit ≤ FILE_LIMIT_MAX }
@@ -85,7 +84,7 @@ impl<A: Allocator> Gather<A> {
         }
     }
 
-    /// Takes out the bytes of a file, or returns `None` where a command was gathered.
+    /// Returns the bytes of a file, or `None` if a command was gathered.
     pub fn into_file(self) -> Option<Vec<u8, A>>
         ensures { MatchOption result (self.kind ≡ OfCommand)
             (λ bytes. (self.kind ≢ OfCommand) × (bytes.items ≡ self.bytes)) }
@@ -96,14 +95,14 @@ impl<A: Allocator> Gather<A> {
         }
     }
 
-    /// Whether the command or file is whole, so that no further message may be pushed.
+    /// Returns whether the command or file is whole, so that no further message may be pushed.
     pub fn is_whole(&self) -> bool
         ensures { result ≡ self.now.whole }
     {
         self.whole
     }
 
-    /// The text or file so far.
+    /// Returns the text or file so far.
     pub fn bytes(&self) -> &[u8]
         ensures { result.now ≡ self.now.bytes }
     {
@@ -113,10 +112,9 @@ impl<A: Allocator> Gather<A> {
         }
     }
 
-    /// Takes the next message: of a command what stands before its first zero byte, of a file all of it.
+    /// Takes the next message: the bytes before the first zero byte of a command's, and all of a file's.
     ///
-    /// A message that would pass the limit is refused as `TooLong`, and then, of a file alone, one that
-    /// finds no memory as `Memory`.
+    /// Refuses a message that would pass the limit, as `TooLong`, and a file's that finds no memory, as `Memory`.
     pub fn push(&mut self, message: &[u8]) -> Result<Progress, BadText>
         requires { self.old.whole ≡ false }
         ensures ok { OnOk result (self.new ≡ with_message self.old message.now) }
