@@ -13,6 +13,7 @@ use std::{fs, io};
 use uug_conversation::Side;
 use uug_disk::is_named_pipe;
 use uug_failure::{Cause, Resource, SystemFailure};
+use uug_folder::BadNumber;
 use uug_log::{LogFile, SessionLog, end_text, words_of};
 use uug_pair::pair_run_with_reason;
 use uug_port::{ReportFile, StandardStreams, SystemOutput};
@@ -310,6 +311,11 @@ fn fault_text(
     let (ToolFault::Device, Some(failure)) = (fault, why) else {
         return Ok(word);
     };
+    match (failure.resource, failure.cause) {
+        (Resource::Dir, Cause::InUse) => return Ok(word),
+        (_, Cause::NotANumber) => return format!(in alloc; "{}", BadNumber),
+        _ => (),
+    }
     let report = call.report.unwrap_or("");
     let reason = reason_line(alloc, report, call.line, call.dir, call.locks, failure)?;
     end_text(alloc, word.as_str(), words_of(reason.as_str()))

@@ -1,6 +1,6 @@
 //! The folder of an end for one run alone.
 ghost use Rattle.std.specs.Prelude.{◌≡◌, IfErr};
-ghost use Rattle.uug_failure.specs.Faults.{IsFolderFault, IsLockFault};
+ghost use Rattle.uug_failure.specs.Faults.{IsFolderFault};
 
 use crate::granted::{Granted, grant};
 use crate::part_path::{is_part, remove_part};
@@ -37,13 +37,13 @@ impl<A: Allocator> DirLock<A> {
 }
 
 /// Locks the folder of an end, and removes what runs that were killed left of files that were not whole. Nothing is made in
-/// it. A folder that another run holds is `InUse`.
+/// it. A folder that another run holds is in use, which is a failure of its own (`Cause::InUse`).
 pub fn lock_dir<A: Allocator + Copy, R: Files<File = File> + Alloc + Clone + Drop>(
     alloc: A,
     rt: &R,
     dir: EndDir<'_>,
 ) -> Result<DirLock<A>, RunFault>
-    ensures no_other { IfErr result IsLockFault }
+    ensures no_other { IfErr result IsFolderFault }
 {
     let path = String::from_str(alloc, dir.path)?;
     let file = match open_dir(rt, dir.path) {

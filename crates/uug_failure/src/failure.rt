@@ -99,6 +99,8 @@ pub enum Cause {
     TooMuch,
     /// There is something else than a regular file.
     NotAFile,
+    /// Its text is no number.
+    NotANumber,
     /// Another run holds it.
     InUse,
 }
@@ -115,7 +117,11 @@ impl Cause {
     {
         match self {
             Cause::Refused(kind, _) => !is_out_of_reach(kind),
-            Cause::MovedNothing | Cause::TooMuch | Cause::NotAFile | Cause::InUse => false,
+            Cause::MovedNothing
+            | Cause::TooMuch
+            | Cause::NotAFile
+            | Cause::NotANumber
+            | Cause::InUse => false,
         }
     }
 }

@@ -1,7 +1,7 @@
 //! Why a run over the system gave up.
 ghost use Rattle.std.specs.Prelude.{◌≡◌, IfErr, IsOk, OnOk};
 ghost use Rattle.uug_failure.specs.Failures.{fault_of_run, told_by};
-ghost use Rattle.uug_failure.specs.Faults.{IsFolderFault, IsLockFault};
+ghost use Rattle.uug_failure.specs.Faults.{IsFolderFault};
 ghost use Rattle.uug_failure.specs.declared.run_fault.RunFault.TheVariants.{Tool as tool};
 ghost use Rattle.uug_stream.specs.declared.fault.ToolFault.TheVariants.{Memory as memory};
 
@@ -55,11 +55,13 @@ impl RunFault {
 /// What a run does that was answered so when it asked for the lock of a folder: it goes on only where it has got it.
 pub fn grant_lock(answer: Result<(), TryLockError>, dir: EndDir<'_>) -> Result<(), RunFault>
     ensures granted { OnOk result (IsOk answer) }
-    ensures no_other { IfErr result IsLockFault }
+    ensures no_other { IfErr result IsFolderFault }
 {
     match answer {
         Ok(()) => Ok(()),
-        Err(TryLockError::WouldBlock) => Err(RunFault::Tool(ToolFault::InUse(dir.number))),
+        Err(TryLockError::WouldBlock) => {
+            Err(RunFault::System(dir.failure(Resource::Dir, Cause::InUse)))
+        }
         Err(TryLockError::Error(error)) => Err(RunFault::of(&error, dir, Resource::Dir)),
     }
 }

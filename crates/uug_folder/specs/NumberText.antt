@@ -5,9 +5,8 @@ use Rattle.uug_session.specs.Greeting.{next_number}
 use Rattle.uug_talk.specs.Number.{number_of}
 use Rattle.uug_talk.specs.declared.call.TheConstants.{NUMBER_MAX}
 use Rattle.uug_talk.specs.Lines.{lines, ended}
-use Rattle.uug_stream.specs.declared.fault.ToolFault.{ToolFault}
-use Rattle.uug_stream.specs.declared.fault.ToolFault.TheVariants as faults
 use Rattle.uug_folder.specs.TextFiles.{holding}
+use Rattle.uug_folder.specs.declared.number_text.BadNumber.{BadNumber}
 
 -- ---- the text
 
@@ -27,12 +26,12 @@ number_in text = number_of_lines (lines text)
 -- ---- what an end keeps
 
 -- it goes on with the number in its file
-abbrev pub goes_on_with : Option ℕ → Result (Option ℕ) ToolFault
+abbrev pub goes_on_with : Option ℕ → Result (Option ℕ) BadNumber
 goes_on_with (Some number) = Ok (Some number)
-goes_on_with None = Err faults.Number
+goes_on_with None = Err (record {})
 
 -- without a file it keeps none, but where it is told to: then it begins at 0
-abbrev pub begins_with : (is_told : Bool) → Result (Option ℕ) ToolFault
+abbrev pub begins_with : (is_told : Bool) → Result (Option ℕ) BadNumber
 begins_with true = Ok (Some 0)
 begins_with false = Ok None
 

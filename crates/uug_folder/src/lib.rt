@@ -32,7 +32,7 @@ pub use local_names::{LocalNames, local_source};
 pub use meanwhile::{jobs_after, take_first};
 pub use notices::{WhyFailed, why_failed, write_notices};
 pub use number_text::{
-    NUMBER_LINE_MAX, number_at_start, number_beside, number_line, read_number_text,
+    BadNumber, NUMBER_LINE_MAX, number_at_start, number_beside, number_line, read_number_text,
 };
 pub use queued::{
     OrderFault, appended_job, default_user, is_among, is_given_by, is_given_in, nth_name,

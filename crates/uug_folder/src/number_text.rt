@@ -4,8 +4,13 @@ ghost use Rattle.uug_folder.specs.NumberText.{begins_with, goes_on_with, number_
 
 use arrayvec::ArrayVec;
 use itoa::Buffer;
-use uug_stream::ToolFault;
+use thiserror::Error;
 use uug_talk::{NUMBER_MAX, read_number, split_line};
+
+/// The text of the file `number` of a folder is no number.
+#[derive(Clone, Copy, Debug, PartialEq, Eq, Error)]
+#[error("bad number file")]
+pub struct BadNumber;
 
 /// The most bytes of the line of a number.
 pub const NUMBER_LINE_MAX: usize = 11;
@@ -44,14 +49,14 @@ fn written_line(number: u32) -> ArrayVec<u8, NUMBER_LINE_MAX>
 
 /// The number that an end keeps whose folder has this text of one, if it has any. Without a text it keeps none, but where it
 /// is told to: then it begins at 0.
-pub fn number_at_start(text: Option<&[u8]>, is_told: bool) -> Result<Option<u32>, ToolFault>
+pub fn number_at_start(text: Option<&[u8]>, is_told: bool) -> Result<Option<u32>, BadNumber>
     ensures { MatchOption text.entry (result ≡ begins_with is_told)
         (λ text. result ≡ goes_on_with (number_in text.now)) }
 {
     match text {
         Some(text) => match read_number_text(text) {
             Some(number) => Ok(Some(number)),
-            None => Err(ToolFault::Number),
+            None => Err(BadNumber),
         },
         None if is_told => Ok(Some(0)),
         None => Ok(None),

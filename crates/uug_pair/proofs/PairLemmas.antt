@@ -14,12 +14,10 @@ run_fault (Ok status) h = h
 run_fault (Err faults.Write) h = h
 run_fault (Err faults.Memory) h = h
 run_fault (Err faults.Device) h = h
-run_fault (Err (faults.InUse folder)) h = absurd h
 run_fault (Err faults.Usage) h = absurd h
 run_fault (Err faults.Read) h = absurd h
 run_fault (Err (faults.Script line)) h = absurd h
 run_fault (Err (faults.Jobs line)) h = absurd h
-run_fault (Err faults.Number) h = absurd h
 
 at_most_one : (done : Bool) → (if done then 0 else 1) ≤ 1
 at_most_one true = lit≤ tt

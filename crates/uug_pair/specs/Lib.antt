@@ -1,2 +1,1 @@
 pub mod GoneJobs
-pub mod PairFaults

@@ -7,7 +7,6 @@ ghost use Rattle.uug_stream.specs.Streams.{CountsFault};
 ghost use Rattle.uug_transfer.specs.FaultInjection.{is_in_range};
 ghost use Rattle.uug_failure.specs.Faults.{IsReadingFault, IsRunFault};
 ghost use Rattle.uug_pair.specs.GoneJobs.{GoneJobsWereDone, beginnings_of, kept_by, nodes_of};
-ghost use Rattle.uug_pair.specs.PairFaults.{IsPairFault};
 ghost use Rattle.uug_task.specs.Places.{IsPlaceInPair};
 ghost use Rattle.uug_task.specs.Tasks.{beginning_of};
 ghost use Rattle.uug_transfer.specs.BufferedNodes.{IsLed, node_in, spool_in};
@@ -64,7 +63,7 @@ pub struct FinishedPair<'a, R: Files, A: Allocator + Copy> {
 }
 
 /// Runs the caller `a` over the folder `dir_a` and the called end `b` over `dir_b`, as `pair_run_with_reason` does, and
-/// does not say which call of the system failed. A folder that another run holds is a device fault.
+/// does not say which call of the system failed, or which folder another run holds.
 pub fn pair_run<A: Allocator + Copy, R: Files<File = File> + Net + Alloc + Clone + Drop, O: Output>(
     alloc: A,
     rt: &R,
@@ -80,37 +79,19 @@ pub fn pair_run<A: Allocator + Copy, R: Files<File = File> + Net + Alloc + Clone
     ensures status { IfOk result (λ status. status ≤ 1) }
     ensures write { result ≡ Err ToolFault.Write
         → CountsFault (O.fault_count output.old) (O.fault_count output.new) }
-    ensures no_other { IfErr result IsPairFault }
+    ensures no_other { IfErr result IsRunFault }
 {
     let mut why = None;
-    let answer = pair_run_with_reason(
+    pair_run_with_reason(
         alloc, rt, socket, dir_a, dir_b, drop_every, flip_every, output, &mut why,
-    );
-    without_folder(answer)
-}
-
-/// Returns the answer, with a device fault for a folder that another run holds.
-fn without_folder(answer: Result<u8, ToolFault>) -> Result<u8, ToolFault>
-    ensures usage { (result ≡ Err ToolFault.Usage) ↔ (answer ≡ Err ToolFault.Usage) }
-    ensures status { IfOk answer (λ status. status ≤ 1) → IfOk result (λ status. status ≤ 1) }
-    ensures write { result ≡ Err ToolFault.Write → answer ≡ Err ToolFault.Write }
-    ensures no_other { IfErr result IsPairFault }
-{
-    match answer {
-        Ok(status) => Ok(status),
-        Err(ToolFault::Usage) => Err(ToolFault::Usage),
-        Err(ToolFault::Jobs(line)) => Err(ToolFault::Jobs(line)),
-        Err(ToolFault::Write) => Err(ToolFault::Write),
-        Err(ToolFault::Memory) => Err(ToolFault::Memory),
-        Err(_) => Err(ToolFault::Device),
-    }
+    )
 }
 
 /// Runs the caller `a` over the folder `dir_a` and the called end `b` over `dir_b`, over a Unix socket that is made at
 /// the path `socket`. Every Nth packet is lost, and every Nth changed, for an N of its own each, if one is given.
-/// `docs/OPERATING.md` describes what is in a folder. Both folders are locked before anything in them is read: `InUse`
-/// says which of them another run holds. Returns the program's status. `why` says which call of the system failed
-/// first, if one did.
+/// `docs/OPERATING.md` describes what is in a folder. Both folders are locked before anything in them is read. Returns
+/// the program's status. `why` says which call of the system failed first, if one did, or which folder another run
+/// holds.
 pub fn pair_run_with_reason<
     A: Allocator + Copy,
     R: Files<File = File> + Net + Alloc + Clone + Drop,

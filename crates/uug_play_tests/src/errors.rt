@@ -29,9 +29,7 @@ const TEXTS: &[(Fault, &str)] = &[
     (Fault::Tool(ToolFault::Memory), "out of memory"),
     (Fault::Tool(ToolFault::Script(7)), "bad script at line 7"),
     (Fault::Tool(ToolFault::Jobs(1)), "bad jobs at line 1"),
-    (Fault::Tool(ToolFault::Number), "bad number file"),
     (Fault::Tool(ToolFault::Device), "device fault"),
-    (Fault::Tool(ToolFault::InUse(0)), "device fault"),
     (Fault::Tool(ToolFault::Usage), "bad usage"),
     (Fault::Run(RunFault::Memory), "out of memory"),
     (Fault::Script(ScriptFault::Bad(12)), "bad script at line 12"),
@@ -72,9 +70,7 @@ const STATUSES: &[(ToolFault, u8)] = &[
     (ToolFault::Memory, 4),
     (ToolFault::Script(7), 2),
     (ToolFault::Jobs(1), 2),
-    (ToolFault::Number, 2),
     (ToolFault::Device, 3),
-    (ToolFault::InUse(0), 3),
     (ToolFault::Usage, 2),
 ];
 

@@ -310,8 +310,6 @@ fn says_why_a_tool_gave_up(rt: HostRuntime) -> Result<(), Fail> {
         (ToolFault::Memory, 4, "out of memory"),
         (ToolFault::Script(7), 2, "bad script at line 7"),
         (ToolFault::Jobs(1), 2, "bad jobs at line 1"),
-        (ToolFault::Number, 2, "bad number file"),
-        (ToolFault::InUse(0), 3, "device fault"),
         (ToolFault::Device, 3, "device fault"),
         (ToolFault::Usage, 2, "bad usage"),
     ] {

@@ -3,7 +3,7 @@ use Rattle.std.specs.Fmt.{signed_decimal}
 use Rattle.std.specs.Prelude.{ℕ, ℤ, ◌==◌, List, [], ◌++◌, codes, Option, Some, None, if◌then◌else◌}
 use Rattle.std.specs.declared.io.ErrorKind.{ErrorKind}
 use Rattle.uug_failure.specs.declared.failure.Cause.{Cause}
-use Rattle.uug_failure.specs.declared.failure.Cause.TheVariants.{Refused, MovedNothing, TooMuch, NotAFile, InUse}
+use Rattle.uug_failure.specs.declared.failure.Cause.TheVariants.{Refused, MovedNothing, TooMuch, NotAFile, NotANumber, InUse}
 use Rattle.uug_failure.specs.declared.failure.EndText.{EndText}
 use Rattle.uug_failure.specs.declared.failure.EndText.TheVariants.{Jobs, Number, Failed}
 use Rattle.uug_failure.specs.declared.failure.Resource.{Resource}
@@ -81,6 +81,7 @@ cause_words resource (Refused kind number) = named_or_numbered resource (kind_wo
 cause_words resource MovedNothing = codes "it takes no byte"
 cause_words resource TooMuch = much_words resource
 cause_words resource NotAFile = no_file_words resource
+cause_words resource NotANumber = codes "not a number"
 cause_words resource InUse = codes "in use"
 
 -- ---- both, as a line

@@ -22,6 +22,7 @@ pub(crate) fn add_cause<A: Allocator>(
         Cause::MovedNothing => text.push_str("it takes no byte"),
         Cause::TooMuch => text.push_str(much_words(resource)),
         Cause::NotAFile => text.push_str(no_file_words(resource)),
+        Cause::NotANumber => text.push_str("not a number"),
         Cause::InUse => text.push_str("in use"),
     }
 }

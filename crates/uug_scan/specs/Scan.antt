@@ -24,6 +24,4 @@ IsScanFault faults.Memory = ⊤
 IsScanFault faults.Device = ⊤
 IsScanFault (faults.Script line) = ⊥
 IsScanFault (faults.Jobs line) = ⊥
-IsScanFault faults.Number = ⊥
-IsScanFault (faults.InUse folder) = ⊥
 IsScanFault faults.Usage = ⊥

@@ -1,6 +1,6 @@
 //! The session of an end over a spool.
 ghost use Rattle.std.specs.Prelude.{◌≡◌, ◌≢◌, ◌<◌, ◌≤◌, ◌⊎◌, Some, IfErr, IfOk, IsErr, IsSome, OnOk, string_bytes};
-ghost use Rattle.uug_failure.specs.Faults.{IsCallFault, IsFolderFault};
+ghost use Rattle.uug_failure.specs.Faults.{IsFolderFault, IsRunFault};
 ghost use Rattle.uug_mailbox.specs.OpenLines.{jobs_of};
 ghost use Rattle.uug_mailbox.specs.WorkStores.{lines_of};
 ghost use Rattle.uug_session.specs.Engine.{HasFailed};
@@ -59,7 +59,7 @@ where
         (O.written output.old) (O.written output.new)) }
     ensures write { result ≡ Err ToolFault.Write
         → CountsFault (O.fault_count output.old) (O.fault_count output.new) }
-    ensures no_other { IfErr result IsCallFault }
+    ensures no_other { IfErr result IsRunFault }
     ensures no_usage { result ≢ Err ToolFault.Usage }
     // Where the line has not failed it is said which call on the spool it was.
     ensures why { result ≡ Err ToolFault.Device
@@ -93,7 +93,7 @@ where
         (O.written output.old) (O.written output.new)) }
     ensures write { result ≡ Err ToolFault.Write
         → CountsFault (O.fault_count output.old) (O.fault_count output.new) }
-    ensures no_other { IfErr result IsCallFault }
+    ensures no_other { IfErr result IsRunFault }
     ensures no_usage { result ≢ Err ToolFault.Usage }
     ensures why { result ≡ Err ToolFault.Device
         → IsSome why.new ⊎ (0 < L.fault_count line.new) }
@@ -245,7 +245,7 @@ fn answer_of<S: Spool, A: Allocator + Copy, O: Output>(
         (O.written output.old) (O.written output.new)) }
     ensures write { result ≡ Err ToolFault.Write
         → CountsFault (O.fault_count output.old) (O.fault_count output.new) }
-    ensures no_other { IfErr result IsCallFault }
+    ensures no_other { IfErr result IsRunFault }
     ensures no_usage { result ≢ Err ToolFault.Usage }
     ensures device { result ≡ Err ToolFault.Device → IsErr session }
     ensures memory { session ≡ Err SessionFault.Memory → result ≡ Err ToolFault.Memory }

@@ -2,12 +2,14 @@
 use Rattle.std.specs.Prelude.{◌≡◌, ◌==◌, ℕ, Bool, true, false, List, [], codes, if◌then◌else◌, None, Option, Some, Result, Ok, Err, IsErrAnd, string_bytes}
 use Rattle.uug_stream.specs.Fault.{status_of}
 use Rattle.uug_stream.specs.declared.fault.ToolFault.{ToolFault}
-use Rattle.uug_stream.specs.declared.fault.ToolFault.TheVariants.{Device, InUse, Jobs, Memory, Read, Script, Usage, Write}
+use Rattle.uug_stream.specs.declared.fault.ToolFault.TheVariants.{Device, Jobs, Memory, Read, Script, Usage, Write}
 use Rattle.uug_disk.specs.Queued.{word_or_empty}
 use Rattle.uug_failure.specs.declared.failure.Cause.{Cause}
 use Rattle.uug_failure.specs.declared.failure.Cause.TheVariants as causes
+use Rattle.uug_failure.specs.declared.failure.Resource.{Resource}
+use Rattle.uug_failure.specs.declared.failure.Resource.TheVariants.{Line}
 use Rattle.uug_failure.specs.declared.failure.SystemFailure.{SystemFailure}
-use Rattle.uug_reason.specs.Reasons.{Places, places, reason_line}
+use Rattle.uug_reason.specs.Reasons.{Places, dir_of, places, reason_line}
 use Rattle.uug_words.specs.UsageWords.{IsUsageOf, pair_words}
 use Rattle.uug_task.specs.declared.task.CallTask.{CallTask}
 use Rattle.uug_words.specs.declared.command_line.PairTask.{PairTask}
@@ -22,7 +24,8 @@ abbrev pub status_of_stop : Stop → ℕ
 status_of_stop (Fault fault) = status_of fault
 status_of_stop (Remarked fault remark) = status_of fault
 status_of_stop (File name reason) = status_of Read
-status_of_stop (stops.InUse name) = status_of (InUse 0)
+status_of_stop (stops.InUse name) = status_of Device
+status_of_stop (stops.Number bad) = status_of Usage
 status_of_stop (Told fault line) = status_of fault
 status_of_stop (CommandLine error) = status_of Usage
 
@@ -34,6 +37,7 @@ HasRemark fault remark (Remarked f text) = (f ≡ fault) × (string_bytes text �
 HasRemark fault remark (Fault f) = ⊥
 HasRemark fault remark (File name reason) = ⊥
 HasRemark fault remark (stops.InUse name) = ⊥
+HasRemark fault remark (stops.Number bad) = ⊥
 HasRemark fault remark (Told f line) = ⊥
 HasRemark fault remark (CommandLine error) = ⊥
 
@@ -44,6 +48,7 @@ SaysReason reason (Fault fault) = fault ≡ Device
 SaysReason reason (Remarked fault remark) = ⊥
 SaysReason reason (File name line) = ⊥
 SaysReason reason (stops.InUse name) = ⊥
+SaysReason reason (stops.Number bad) = ⊥
 SaysReason reason (CommandLine error) = ⊥
 
 -- the fault and this line, which may be empty
@@ -53,6 +58,7 @@ HasLine fault line (Fault f) = ⊥
 HasLine fault line (Remarked f remark) = ⊥
 HasLine fault line (File name reason) = ⊥
 HasLine fault line (stops.InUse name) = ⊥
+HasLine fault line (stops.Number bad) = ⊥
 HasLine fault line (CommandLine error) = ⊥
 
 -- the fault, and no line that says why
@@ -70,6 +76,7 @@ NamesFileFor path reason (File name line) = (string_bytes name ≡ path) × (str
 NamesFileFor path reason (Fault fault) = fault ≡ Memory
 NamesFileFor path reason (Remarked fault remark) = ⊥
 NamesFileFor path reason (stops.InUse name) = ⊥
+NamesFileFor path reason (stops.Number bad) = ⊥
 NamesFileFor path reason (Told f line) = ⊥
 NamesFileFor path reason (CommandLine error) = ⊥
 
@@ -100,6 +107,7 @@ SaysTooMuch (Fault fault) = fault ≡ Memory
 SaysTooMuch (Remarked fault remark) = HasRemark Usage too_much (Remarked fault remark)
 SaysTooMuch (File name reason) = ⊥
 SaysTooMuch (stops.InUse name) = ⊥
+SaysTooMuch (stops.Number bad) = ⊥
 SaysTooMuch (Told f line) = ⊥
 SaysTooMuch (CommandLine error) = ⊥
 
@@ -110,18 +118,12 @@ StopsOnDrawing fault stop = SaysFault fault stop
 -- the folder or the line of this name is named, unless there was no memory for that
 abbrev pub NamesFolder : (dir : List ℕ) → Stop → Type 0
 NamesFolder dir (stops.InUse name) = string_bytes name ≡ dir
+NamesFolder dir (stops.Number bad) = ⊥
 NamesFolder dir (Fault fault) = fault ≡ Memory
 NamesFolder dir (File name reason) = ⊥
 NamesFolder dir (Remarked fault remark) = ⊥
 NamesFolder dir (Told f line) = ⊥
 NamesFolder dir (CommandLine error) = ⊥
-
--- The folder is named that another run holds: of several the one of that number, counted from 0. And it is said on what a call of
--- the system failed, and why, where it is known.
-abbrev pub StopsOnFolders : (line first second : List ℕ) → (why : Option SystemFailure) → ToolFault → Stop → Type 0
-StopsOnFolders line first second why (InUse folder) stop = NamesFolder (if folder == 0 then first else second) stop
-StopsOnFolders line first second (Some failure) Device stop = SaysReason (reason_line (places [] line first second) failure) stop
-StopsOnFolders line first second why fault stop = stop ≡ Fault fault
 
 -- The file that a failure on an output of one end is of: its report, the second, its log, or the third, the statistics.
 abbrev pub output_of : CallTask → (number : ℕ) → List ℕ
@@ -129,10 +131,17 @@ output_of call number =
     if number == 1 then word_or_empty call.log else
     (if number == 2 then word_or_empty call.stats else word_or_empty call.report)
 
--- the folders of one end are its own, and that of the locks
-abbrev pub StopsOnCause : (output line dir locks : List ℕ) → SystemFailure → Cause → Stop → Type 0
-StopsOnCause output line dir locks failure causes.InUse stop = NamesFolder line stop
-StopsOnCause output line dir locks failure cause stop = SaysReason (reason_line (places output line dir locks) failure) stop
+-- what another run holds: the line, or the folder of this number
+abbrev pub held_by_another : Places → (end : ℕ) → Resource → List ℕ
+held_by_another p end Line = p.line
+held_by_another p end resource = dir_of p.first p.second end
+
+-- What another run holds is named, a bad number file is said alone, and of another call of the system that failed it is said on what,
+-- and why.
+abbrev pub StopsOnCause : Places → SystemFailure → Cause → Stop → Type 0
+StopsOnCause p failure causes.InUse stop = NamesFolder (held_by_another p failure.end failure.resource) stop
+StopsOnCause p failure causes.NotANumber stop = stop ≡ stops.Number (record {})
+StopsOnCause p failure cause stop = SaysReason (reason_line p failure) stop
 
 -- it is said what is wrong with the usage, which this holds of, unless there was no memory for that
 abbrev pub SaysUsage : (List ℕ → Type 0) → Stop → Type 0
@@ -140,13 +149,15 @@ SaysUsage IsWrong (Remarked fault remark) = (fault ≡ Usage) × IsWrong (string
 SaysUsage IsWrong (Fault fault) = fault ≡ Usage
 SaysUsage IsWrong (File name reason) = ⊥
 SaysUsage IsWrong (stops.InUse name) = ⊥
+SaysUsage IsWrong (stops.Number bad) = ⊥
 SaysUsage IsWrong (Told f line) = ⊥
 SaysUsage IsWrong (CommandLine error) = ⊥
 
--- of two ends it is said what is wrong with a line of jobs, and else the same as of one
+-- of two ends it is said what is wrong with a line of jobs, and where a call of the system failed, if it is known
 abbrev pub StopsOnLoudPair : PairTask → (why : Option SystemFailure) → ToolFault → (remark : List ℕ) → Stop → Type 0
 StopsOnLoudPair pair why (Jobs line) remark stop = HasLine (Jobs line) remark stop
-StopsOnLoudPair pair why fault remark stop = StopsOnFolders pair.socket.now pair.dir_a.now pair.dir_b.now why fault stop
+StopsOnLoudPair pair (Some failure) Device remark stop = StopsOnCause (places [] pair.socket.now pair.dir_a.now pair.dir_b.now) failure failure.cause stop
+StopsOnLoudPair pair why fault remark stop = stop ≡ Fault fault
 
 -- that, or no more than the fault
 abbrev pub StopsOnPairBy : (is_loud : Bool) → PairTask → (why : Option SystemFailure) → ToolFault → (remark : List ℕ) → Stop → Type 0
@@ -158,13 +169,13 @@ abbrev pub StopsOnPair : PairTask → (why : Option SystemFailure) → ToolFault
 StopsOnPair pair why Usage remark stop = SaysUsage (λ said. said ≡ pair_words pair.drop_every pair.flip_every) stop
 StopsOnPair pair why fault remark stop = StopsOnPairBy pair.is_loud pair why fault remark stop
 
--- Of one end it is said what is wrong with its task, or with a line of its jobs, the line is named that another run holds, and else
--- the same.
+-- Of one end it is said what is wrong with its task, or with a line of its jobs, and where a call of the system failed, if it is known:
+-- its folders are its own, and that of the locks.
 abbrev pub StopsOnEnd : CallTask → (why : Option SystemFailure) → ToolFault → (remark : List ℕ) → Stop → Type 0
 StopsOnEnd call why Usage remark stop = SaysUsage (IsUsageOf call) stop
 StopsOnEnd call why (Jobs line) remark stop = HasLine (Jobs line) remark stop
-StopsOnEnd call (Some failure) Device remark stop = StopsOnCause (output_of call failure.end) call.line.now call.dir.now call.locks.now failure failure.cause stop
-StopsOnEnd call why fault remark stop = StopsOnFolders call.line.now call.dir.now call.dir.now why fault stop
+StopsOnEnd call (Some failure) Device remark stop = StopsOnCause (places (output_of call failure.end) call.line.now call.dir.now call.locks.now) failure failure.cause stop
+StopsOnEnd call why fault remark stop = stop ≡ Fault fault
 
 -- Of what was to be queued the file is named that can't be copied, and it is said what is wrong with the order, and on what a call
 -- of the system failed, and why, where it is known.

@@ -1,13 +1,15 @@
 //! The reasons why one end or both gave up, and why nothing was queued.
-ghost use Rattle.std.specs.Prelude.{◌≡◌, string_bytes};
+ghost use Rattle.std.specs.Prelude.{◌≡◌, [], string_bytes};
 ghost use Rattle.uug_disk.specs.Queued.{word_or_empty};
-ghost use Rattle.uug_stop.specs.Stop.{StopsOnCause, StopsOnEnd, StopsOnFolders, StopsOnLoudPair, StopsOnPair, StopsOnPairBy, StopsOnQueue, output_of};
+ghost use Rattle.uug_reason.specs.Reasons.{places};
+ghost use Rattle.uug_stop.specs.Stop.{StopsOnCause, StopsOnEnd, StopsOnLoudPair, StopsOnPair, StopsOnPairBy, StopsOnQueue, held_by_another, output_of};
 ghost use Rattle.uug_stop.specs.declared.of_end.TheConstants.{LOG};
 
 use crate::said::{names_file, names_folder, says_fault, says_reason, says_usage};
 use crate::stop::Stop;
 use std::alloc::Global;
-use uug_failure::{Cause, SystemFailure};
+use uug_failure::{Cause, Resource, SystemFailure};
+use uug_folder::BadNumber;
 use uug_reason::reason_line;
 use uug_stream::ToolFault;
 use uug_task::CallTask;
@@ -21,28 +23,6 @@ pub const LOG: usize = 1;
 
 /// The number of the statistics among them.
 pub const STATS: usize = 2;
-
-/// Returns why a task gave up that works in these folders, of which the second may be the first again. It names the
-/// folder if another run holds it. It says on what a call of the system failed, and why, if that is known.
-fn stop_of_folders(
-    alloc: Global,
-    line: &str,
-    first: &str,
-    second: &str,
-    fault: ToolFault,
-    why: Option<SystemFailure>,
-) -> Stop
-    ensures { StopsOnFolders line.now first.now second.now why fault result }
-{
-    match (fault, why) {
-        (ToolFault::InUse(0), _) => names_folder(alloc, first),
-        (ToolFault::InUse(_), _) => names_folder(alloc, second),
-        (ToolFault::Device, Some(failure)) => {
-            says_reason(reason_line(alloc, "", line, first, second, failure))
-        }
-        (fault, _) => Stop::Fault(fault),
-    }
-}
 
 /// Returns why two ends gave up. It always says what is wrong with their usage, and the rest with `-v`.
 pub(crate) fn stop_of_pair(
@@ -87,9 +67,12 @@ fn stop_of_loud_pair(
 ) -> Stop
     ensures { StopsOnLoudPair pair.now why fault (string_bytes remark) result }
 {
-    match fault {
-        ToolFault::Jobs(_) => Stop::Told(fault, remark),
-        fault => stop_of_folders(alloc, pair.socket, pair.dir_a, pair.dir_b, fault, why),
+    match (fault, why) {
+        (ToolFault::Jobs(_), _) => Stop::Told(fault, remark),
+        (ToolFault::Device, Some(failure)) => {
+            stop_of_cause(alloc, "", pair.socket, pair.dir_a, pair.dir_b, failure)
+        }
+        (fault, _) => Stop::Fault(fault),
     }
 }
 
@@ -115,24 +98,44 @@ pub(crate) fn stop_of_end(
             call.locks,
             failure,
         ),
-        (fault, why) => stop_of_folders(alloc, call.line, call.dir, call.dir, fault, why),
+        (fault, _) => Stop::Fault(fault),
     }
 }
 
-/// Returns why one end gave up after a failed call of the system. Its folders are its own, and that of the locks.
+/// Returns why one end gave up after a failed call of the system, by its folders and its line. It names what another
+/// run holds, and says a bad number file alone.
 fn stop_of_cause(
     alloc: Global,
     output: &str,
     line: &str,
-    dir: &str,
-    locks: &str,
+    first: &str,
+    second: &str,
     failure: SystemFailure,
 ) -> Stop
-    ensures { StopsOnCause output.now line.now dir.now locks.now failure failure.cause result }
+    ensures { StopsOnCause (places output.now line.now first.now second.now)
+        failure failure.cause result }
 {
     match failure.cause {
-        Cause::InUse => names_folder(alloc, line),
-        _ => says_reason(reason_line(alloc, output, line, dir, locks, failure)),
+        Cause::InUse => names_folder(alloc, held_by_another(line, first, second, failure)),
+        Cause::NotANumber => Stop::Number(BadNumber),
+        _ => says_reason(reason_line(alloc, output, line, first, second, failure)),
+    }
+}
+
+/// Returns what another run holds: the line, or the folder of this number.
+fn held_by_another<'a>(
+    line: &'a str,
+    first: &'a str,
+    second: &'a str,
+    failure: SystemFailure,
+) -> &'a str
+    ensures { result.now ≡ held_by_another (places [] line.now first.now second.now)
+        failure.end failure.resource }
+{
+    match (failure.resource, failure.end) {
+        (Resource::Line, _) => line,
+        (_, 0) => first,
+        _ => second,
     }
 }
 

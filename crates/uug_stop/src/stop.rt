@@ -7,6 +7,7 @@ ghost use Rattle.uug_stop.specs.declared.stop.Stop.TheVariants.{Fault as stop_fo
 use clap::error::ErrorKind;
 use std::alloc::AllocError;
 use thiserror::Error;
+use uug_folder::BadNumber;
 use uug_stream::ToolFault;
 
 /// The reason why the program ends before its task is done. Its text is the message on standard error.
@@ -23,6 +24,9 @@ pub enum Stop {
     /// Another run works in the folder of this name, or holds the line of this name.
     #[error("uucpair: device fault\nuucpair: {0} is in use\n")]
     InUse(String),
+    /// A number file without a number in it.
+    #[error("uucpair: {0}\n")]
+    Number(BadNumber),
     /// A fault, and where and why, if that is known and asked for.
     #[error("uucpair: {0}\n{1}")]
     Told(ToolFault, String),
@@ -39,8 +43,8 @@ impl Stop {
         match self {
             Stop::Fault(fault) | Stop::Remarked(fault, _) | Stop::Told(fault, _) => fault.status(),
             Stop::File(_, _) => ToolFault::Read.status(),
-            Stop::InUse(_) => ToolFault::InUse(0).status(),
-            Stop::CommandLine(_) => ToolFault::Usage.status(),
+            Stop::InUse(_) => ToolFault::Device.status(),
+            Stop::Number(_) | Stop::CommandLine(_) => ToolFault::Usage.status(),
         }
     }
 }

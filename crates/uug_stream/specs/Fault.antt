@@ -1,7 +1,7 @@
 -- The faults of the program (this project's profile).
 use Rattle.std.specs.Prelude.{ℕ, Result, Ok, Err, ⊤}
 use Rattle.uug_stream.specs.declared.fault.ToolFault.{ToolFault}
-use Rattle.uug_stream.specs.declared.fault.ToolFault.TheVariants.{Read, Write, Memory, Script, Jobs, Number, Device, InUse, Usage}
+use Rattle.uug_stream.specs.declared.fault.ToolFault.TheVariants.{Read, Write, Memory, Script, Jobs, Device, Usage}
 use Rattle.uug_stream.specs.declared.output.WriteFailed.{WriteFailed}
 use Rattle.uug_stream.specs.declared.output.WriteFailed.TheVariants as refusals
 use Rattle.uug_stream.specs.Streams.{CountsFault}
@@ -13,9 +13,7 @@ status_of Write = 3
 status_of Memory = 4
 status_of (Script line) = 2
 status_of (Jobs line) = 2
-status_of Number = 2
 status_of Device = 3
-status_of (InUse folder) = 3
 status_of Usage = 2
 
 -- a write that was refused for memory is no device's fault
@@ -42,7 +40,5 @@ StopsWriting before after Memory = ⊤
 StopsWriting before after Read = ⊥
 StopsWriting before after (Script line) = ⊥
 StopsWriting before after (Jobs line) = ⊥
-StopsWriting before after Number = ⊥
 StopsWriting before after Device = ⊥
-StopsWriting before after (InUse folder) = ⊥
 StopsWriting before after Usage = ⊥

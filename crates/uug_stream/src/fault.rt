@@ -25,15 +25,9 @@ pub enum ToolFault {
     /// The first bad line of a folder's jobs, counted from 1.
     #[error("bad jobs at line {0}")]
     Jobs(usize),
-    /// The text of the file `number` of a folder is no number.
-    #[error("bad number file")]
-    Number,
     /// A device gave more than the program takes, or failed otherwise.
     #[error("device fault")]
     Device,
-    /// Another run works in the folder of this number, counted from 0 in the order of the arguments.
-    #[error("device fault")]
-    InUse(usize),
     /// An argument is out of its range.
     #[error("bad usage")]
     Usage,
@@ -45,8 +39,8 @@ impl ToolFault {
         ensures { result ≡ status_of self }
     {
         match self {
-            ToolFault::Script(_) | ToolFault::Jobs(_) | ToolFault::Number | ToolFault::Usage => 2,
-            ToolFault::Device | ToolFault::InUse(_) | ToolFault::Read | ToolFault::Write => 3,
+            ToolFault::Script(_) | ToolFault::Jobs(_) | ToolFault::Usage => 2,
+            ToolFault::Device | ToolFault::Read | ToolFault::Write => 3,
             ToolFault::Memory => 4,
         }
     }

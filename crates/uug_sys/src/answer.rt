@@ -1,7 +1,7 @@
 //! An end that is called at a socket. It listens until its last caller has been let in.
 ghost use Rattle.std.specs.Prelude.{◌≡◌, ◌≢◌, ◌≤◌, Err, IfErr, IfNone, IfOk, IfSome, IsSome, Ok, OnOk, Some, max};
 ghost use Rattle.uug_stream.specs.Streams.{CountsFault};
-ghost use Rattle.uug_failure.specs.Faults.{IsCallFault};
+ghost use Rattle.uug_failure.specs.Faults.{IsRunFault};
 ghost use Rattle.uug_sys.specs.HubFaults.{is_of_files, is_of_spool};
 
 use crate::call::{stream_line, talk_over};
@@ -57,7 +57,7 @@ where
     ensures status { IfOk result (λ status. status ≤ 1) }
     ensures write { result ≡ Err ToolFault.Write
         → CountsFault (O.fault_count output.old) (O.fault_count output.new) }
-    ensures no_other { IfErr result IsCallFault }
+    ensures no_other { IfErr result IsRunFault }
     ensures no_usage { result ≢ Err ToolFault.Usage }
     ensures why { result ≡ Err ToolFault.Device → IsSome why.new }
 {
@@ -94,7 +94,7 @@ where
     ensures status { IfOk result (λ status. status ≤ 1) }
     ensures write { result ≡ Err ToolFault.Write
         → CountsFault (O.fault_count output.old) (O.fault_count output.new) }
-    ensures no_other { IfErr result IsCallFault }
+    ensures no_other { IfErr result IsRunFault }
     ensures no_usage { result ≢ Err ToolFault.Usage }
     ensures why { result ≡ Err ToolFault.Device → IsSome why.new }
 {
@@ -222,7 +222,7 @@ where
     W: SessionObserver + Drop,
     B: Allocator,
     ensures status { IfOk result.0.answer (λ status. status ≤ 1) }
-    ensures no_other { IfErr result.0.answer IsCallFault }
+    ensures no_other { IfErr result.0.answer IsRunFault }
     ensures no_usage { result.0.answer ≢ Err ToolFault.Usage }
     // What is held is in memory, whose faults are no refused writes.
     ensures no_write { result.0.answer ≢ Err ToolFault.Write }
@@ -273,7 +273,7 @@ where
     W: SessionObserver + Drop,
     B: Allocator,
     ensures status { IfOk result.0.answer (λ status. status ≤ 1) }
-    ensures no_other { IfErr result.0.answer IsCallFault }
+    ensures no_other { IfErr result.0.answer IsRunFault }
     ensures no_usage { result.0.answer ≢ Err ToolFault.Usage }
     ensures no_write { result.0.answer ≢ Err ToolFault.Write }
     ensures why { result.0.answer ≡ Err ToolFault.Device → IsSome why.new }
@@ -327,13 +327,13 @@ fn fails(why: &mut Option<SystemFailure>, error: &io::Error) -> ToolFault
 /// Prints the report of a caller. A fault of the session precedes one of the printing.
 fn give<A: Allocator, O: Output>(served: Served<A>, output: &mut O) -> Result<u8, ToolFault>
     requires status { IfOk served.answer (λ status. status ≤ 1) }
-    requires no_other { IfErr served.answer IsCallFault }
+    requires no_other { IfErr served.answer IsRunFault }
     requires no_usage { served.answer ≢ Err ToolFault.Usage }
     requires no_write { served.answer ≢ Err ToolFault.Write }
     ensures status { IfOk result (λ status. status ≤ 1) }
     ensures write { result ≡ Err ToolFault.Write
         → CountsFault (O.fault_count output.old) (O.fault_count output.new) }
-    ensures no_other { IfErr result IsCallFault }
+    ensures no_other { IfErr result IsRunFault }
     ensures no_usage { result ≢ Err ToolFault.Usage }
     ensures device { result ≡ Err ToolFault.Device → served.answer ≡ Err ToolFault.Device }
     ensures calm { OnOk result (O.fault_count output.new ≡ O.fault_count output.old) }

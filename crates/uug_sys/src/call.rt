@@ -1,6 +1,6 @@
 //! One end over a folder, and the line to the other one.
 ghost use Rattle.std.specs.Prelude.{◌≡◌, ◌≢◌, ◌<◌, ◌≤◌, ◌⊎◌, ◌↔◌, IfErr, IfOk, IsSome};
-ghost use Rattle.uug_failure.specs.Faults.{IsCallFault, IsLockFault, IsOpeningFault, IsStartFault};
+ghost use Rattle.uug_failure.specs.Faults.{IsFolderFault, IsReadingFault, IsRunFault};
 ghost use Rattle.uug_stream.specs.Streams.{CountsFault};
 ghost use Rattle.uug_task.specs.Tasks.{IsTask};
 
@@ -33,9 +33,9 @@ use uug_task::{CallTask, FinishedEnd, Station, Terms, read_terms};
 use uug_transfer::{EndLine, GreetedLine, LineMonitor, LineName, SessionObserver};
 
 /// Runs one end over its folder and its line, for one session, or at a socket where it is called for several, one after
-/// the other. `docs/OPERATING.md` describes what is in a folder. The folder is locked before anything in it is read:
-/// `InUse` says that another run holds it. A called end releases the lock while it waits, and locks the folder again
-/// when its line is up. It reads the jobs, the number and the files then. Whether the jobs and the number can be read
+/// the other. `docs/OPERATING.md` describes what is in a folder. The folder is locked before anything in it is read;
+/// `why` says if another run holds it. A called end releases the lock while it waits, and locks the folder again when
+/// its line is up. It reads the jobs, the number and the files then. Whether the jobs and the number can be read
 /// is checked before the line opens. Returns the program's status. `remark` says which conversation numbers the ends
 /// have if they differ, and why jobs have failed or were put off. `why` says which call of the system failed first, if
 /// one did.
@@ -66,7 +66,7 @@ where
     ensures write { result ≡ Err ToolFault.Write
         → CountsFault (O.fault_count output.old) (O.fault_count output.new) }
     ensures usage { (result ≡ Err ToolFault.Usage) ↔ (IsTask task.now → ⊥) }
-    ensures no_other { IfErr result IsCallFault }
+    ensures no_other { IfErr result IsRunFault }
     // A device fault always says which call it was.
     ensures why { result ≡ Err ToolFault.Device → IsSome why.new }
 {
@@ -101,7 +101,7 @@ fn lock_and_look<A: Allocator + Copy, R: Files<File = File> + Alloc + Clone + Dr
     rt: &R,
     task: &CallTask<'_>,
 ) -> Result<DirLock<A>, RunFault>
-    ensures { IfErr result IsOpeningFault }
+    ensures { IfErr result IsReadingFault }
 {
     let lock = lock_dir(alloc, rt, task.end_dir())?;
     match look(alloc, rt, task, &lock) {
@@ -120,7 +120,7 @@ fn look<A: Allocator + Copy, R: Files>(
     task: &CallTask<'_>,
     lock: &DirLock<A>,
 ) -> Result<(), RunFault>
-    ensures { IfErr result IsStartFault }
+    ensures { IfErr result IsReadingFault }
 {
     read_numbers(alloc, rt, task, lock)?;
     let jobs = open_jobs(alloc, rt, lock, task.end_dir())?;
@@ -158,7 +158,7 @@ where
     ensures status { IfOk result (λ status. status ≤ 1) }
     ensures write { result ≡ Err ToolFault.Write
         → CountsFault (O.fault_count output.old) (O.fault_count output.new) }
-    ensures no_other { IfErr result IsCallFault }
+    ensures no_other { IfErr result IsRunFault }
     ensures no_usage { result ≢ Err ToolFault.Usage }
     ensures why { result ≡ Err ToolFault.Device → IsSome why.new }
 {
@@ -276,7 +276,7 @@ where
     ensures status { IfOk result (λ status. status ≤ 1) }
     ensures write { result ≡ Err ToolFault.Write
         → CountsFault (O.fault_count output.old) (O.fault_count output.new) }
-    ensures no_other { IfErr result IsCallFault }
+    ensures no_other { IfErr result IsRunFault }
     ensures no_usage { result ≢ Err ToolFault.Usage }
     ensures why { result ≡ Err ToolFault.Device → IsSome why.new }
 {
@@ -321,7 +321,7 @@ where
     ensures status { IfOk result (λ status. status ≤ 1) }
     ensures write { result ≡ Err ToolFault.Write
         → CountsFault (O.fault_count output.old) (O.fault_count output.new) }
-    ensures no_other { IfErr result IsCallFault }
+    ensures no_other { IfErr result IsRunFault }
     ensures no_usage { result ≢ Err ToolFault.Usage }
     ensures why { result ≡ Err ToolFault.Device → IsSome why.new }
 {
@@ -407,7 +407,7 @@ where
     ensures status { IfOk result.0 (λ status. status ≤ 1) }
     ensures write { result.0 ≡ Err ToolFault.Write
         → CountsFault (O.fault_count output.old) (O.fault_count output.new) }
-    ensures no_other { IfErr result.0 IsCallFault }
+    ensures no_other { IfErr result.0 IsRunFault }
     ensures no_usage { result.0 ≢ Err ToolFault.Usage }
     ensures why { result.0 ≡ Err ToolFault.Device → IsSome why.new }
 {
@@ -458,7 +458,7 @@ where
     ensures status { IfOk result (λ status. status ≤ 1) }
     ensures write { result ≡ Err ToolFault.Write
         → CountsFault (O.fault_count output.old) (O.fault_count output.new) }
-    ensures no_other { IfErr result IsCallFault }
+    ensures no_other { IfErr result IsRunFault }
     ensures no_usage { result ≢ Err ToolFault.Usage }
     ensures why { result ≡ Err ToolFault.Device
         → IsSome why.new ⊎ (0 < L.fault_count line.new.line) }
@@ -480,7 +480,7 @@ fn lock_again<A: Allocator + Copy, R: Files<File = File> + Alloc + Clone + Drop>
     task: &CallTask<'_>,
     held: Option<DirLock<A>>,
 ) -> Result<DirLock<A>, RunFault>
-    ensures { IfErr result IsLockFault }
+    ensures { IfErr result IsFolderFault }
 {
     match held {
         Some(lock) => Ok(lock),
@@ -510,7 +510,7 @@ where
     ensures status { IfOk result (λ status. status ≤ 1) }
     ensures write { result ≡ Err ToolFault.Write
         → CountsFault (O.fault_count output.old) (O.fault_count output.new) }
-    ensures no_other { IfErr result IsCallFault }
+    ensures no_other { IfErr result IsRunFault }
     ensures no_usage { result ≢ Err ToolFault.Usage }
     // Unless the line has failed, `why` says which call on the folder did.
     ensures why { result ≡ Err ToolFault.Device

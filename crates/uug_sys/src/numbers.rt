@@ -1,14 +1,13 @@
 //! The numbers of an end's conversations as its session begins.
 ghost use Rattle.std.specs.Prelude.{◌≡◌, None, Ok, IfErr, MatchOption, MatchResult};
-ghost use Rattle.uug_failure.specs.Faults.{IsStartFault};
+ghost use Rattle.uug_failure.specs.Faults.{IsBadNumber, IsReadingFault};
 ghost use Rattle.uug_folder.specs.NumberText.{begins_with, number_in};
-ghost use Rattle.uug_stream.specs.declared.fault.ToolFault.TheVariants.{Number as bad_number};
 
 use std::alloc::{AllocError, Allocator};
 use std::rt::Files;
 use uug_disk::{DirLock, read_text};
-use uug_failure::{EndText, RunFault};
-use uug_folder::{number_at_start, number_beside, read_number_text};
+use uug_failure::{Cause, EndDir, EndText, Resource, RunFault};
+use uug_folder::{BadNumber, number_at_start, number_beside, read_number_text};
 use uug_session::{MemorySpool, Place, Queue, Side};
 use uug_task::{CallTask, Station, make_node};
 use uug_transfer::{BufferedNode, EndLine, FaultInjector, GreetedLine};
@@ -31,21 +30,21 @@ pub(crate) fn read_numbers<A: Allocator + Copy, R: Files>(
     task: &CallTask<'_>,
     lock: &DirLock<A>,
 ) -> Result<Numbers, RunFault>
-    ensures { IfErr result IsStartFault }
+    ensures { IfErr result IsReadingFault }
 {
     let Some(text) = read_text(alloc, rt, lock.dir(), EndText::Number)? else {
-        return numbers_of(None, task.is_numbered);
+        return numbers_of(lock.dir(), None, task.is_numbered);
     };
-    numbers_of(Some(text.as_slice()), task.is_numbered)
+    numbers_of(lock.dir(), Some(text.as_slice()), task.is_numbered)
 }
 
 /// Returns the number that an end keeps whose file has this text, if there is a file, and the number in the file.
-fn numbers_of(text: Option<&[u8]>, is_told: bool) -> Result<Numbers, RunFault>
+fn numbers_of(dir: EndDir<'_>, text: Option<&[u8]>, is_told: bool) -> Result<Numbers, RunFault>
     ensures numbers { MatchResult result
         (λ numbers. MatchOption text.entry
         ((numbers.held ≡ None) × (begins_with is_told ≡ Ok numbers.begins))
         (λ text. (numbers.held ≡ number_in text.now) × (numbers.begins ≡ numbers.held)))
-        (λ fault. fault ≡ RunFault.Tool bad_number) }
+        IsBadNumber }
 {
     let held = match text {
         Some(text) => read_number_text(text),
@@ -57,7 +56,10 @@ fn numbers_of(text: Option<&[u8]>, is_told: bool) -> Result<Numbers, RunFault>
             held,
             heard: None,
         }),
-        Err(fault) => Err(RunFault::Tool(fault)),
+        Err(BadNumber) => {
+            let resource = Resource::Text(EndText::Number);
+            Err(RunFault::System(dir.failure(resource, Cause::NotANumber)))
+        }
     }
 }
 
@@ -71,7 +73,7 @@ pub(crate) fn meet<A: Allocator + Copy, R: Files, L: EndLine>(
     station: Station,
     line: &mut GreetedLine<L, A>,
 ) -> Result<Numbers, RunFault>
-    ensures { IfErr result IsStartFault }
+    ensures { IfErr result IsReadingFault }
 {
     let numbers = read_numbers(alloc, rt, task, lock)?;
     if task.side == Side::Caller || numbers.begins.is_none() {

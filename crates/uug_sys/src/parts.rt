@@ -1,7 +1,7 @@
 //! The parts of an end over a folder of the system.
 ghost use Rattle.std.specs.Prelude.{◌≡◌, ◌<◌, IfErr, IfOk, IsSome, length};
 ghost use Rattle.uug_conversation.specs.Jobs.{pending};
-ghost use Rattle.uug_failure.specs.Faults.{IsStartFault};
+ghost use Rattle.uug_failure.specs.Faults.{IsReadingFault};
 ghost use Rattle.uug_folder.specs.JobsText.{IsFrontOf};
 
 use crate::numbers::Numbers;
@@ -64,7 +64,7 @@ pub(crate) fn read_parts<'a, A: Allocator + Copy, R: Files + Eprint + Alloc + Cl
     ensures place { IfOk result (λ parts.
         parts.place ≡ record place { number = numbers.begins }) }
     ensures jobs { IfOk result (λ parts. IsFrontOf parts.jobs.before.items parts.queue) }
-    ensures no_other { IfErr result IsStartFault }
+    ensures no_other { IfErr result IsReadingFault }
 {
     place.number = numbers.begins;
     let jobs = open_jobs(alloc, rt, lock, task.end_dir())?;

@@ -1,6 +1,6 @@
 //! An end over a spool of Taylor UUCP, and the lock of the other system.
 ghost use Rattle.std.specs.Prelude.{◌≡◌, ◌≢◌, ◌<◌, ◌≤◌, ◌⊎◌, IfErr, IfOk, IsSome, OnErr, codes, false, string_bytes, true};
-ghost use Rattle.uug_failure.specs.Faults.{IsCallFault, IsFolderFault};
+ghost use Rattle.uug_failure.specs.Faults.{IsFolderFault, IsRunFault};
 ghost use Rattle.uug_spool.specs.SpoolNames.{is_system_name};
 ghost use Rattle.uug_spool_call.specs.Reported.{IsReported};
 ghost use Rattle.uug_stream.specs.Streams.{CountsFault};
@@ -63,7 +63,7 @@ where
     ensures status { IfOk result (λ status. status ≤ 1) }
     ensures write { result ≡ Err ToolFault.Write
         → CountsFault (O.fault_count output.old) (O.fault_count output.new) }
-    ensures no_other { IfErr result IsCallFault }
+    ensures no_other { IfErr result IsRunFault }
     ensures no_usage { result ≢ Err ToolFault.Usage }
     ensures why { result ≡ Err ToolFault.Device → IsSome why.new }
 {
@@ -114,7 +114,7 @@ where
     ensures status { IfOk result (λ status. status ≤ 1) }
     ensures write { result ≡ Err ToolFault.Write
         → CountsFault (O.fault_count output.old) (O.fault_count output.new) }
-    ensures no_other { IfErr result IsCallFault }
+    ensures no_other { IfErr result IsRunFault }
     ensures no_usage { result ≢ Err ToolFault.Usage }
     ensures why { result ≡ Err ToolFault.Device → IsSome why.new }
     ensures calls_later { IfErr lock (λ fault. is_locked fault ≡ true → CallsLater task.now
@@ -160,7 +160,7 @@ where
     B: Allocator,
     requires fault { IsFolderFault fault }
     ensures status { IfOk result (λ status. status ≤ 1) }
-    ensures no_other { IfErr result IsCallFault }
+    ensures no_other { IfErr result IsRunFault }
     ensures no_write { result ≢ Err ToolFault.Write }
     ensures no_usage { result ≢ Err ToolFault.Usage }
     ensures why { result ≡ Err ToolFault.Device → IsSome why.new }
@@ -218,7 +218,7 @@ where
     ensures status { IfOk result (λ status. status ≤ 1) }
     ensures write { result ≡ Err ToolFault.Write
         → CountsFault (O.fault_count output.old) (O.fault_count output.new) }
-    ensures no_other { IfErr result IsCallFault }
+    ensures no_other { IfErr result IsRunFault }
     ensures no_usage { result ≢ Err ToolFault.Usage }
     ensures reported { IfOk result (λ status. IsReported task.now.side status
         (O.written output.old) (O.written output.new)) }
@@ -287,7 +287,7 @@ where
     ensures status { IfOk result (λ status. status ≤ 1) }
     ensures write { result ≡ Err ToolFault.Write
         → CountsFault (O.fault_count output.old) (O.fault_count output.new) }
-    ensures no_other { IfErr result IsCallFault }
+    ensures no_other { IfErr result IsRunFault }
     ensures no_usage { result ≢ Err ToolFault.Usage }
     ensures reported { IfOk result (λ status. IsReported task.now.side status
         (O.written output.old) (O.written output.new)) }
@@ -340,7 +340,7 @@ where
         (O.written output.old) (O.written output.new)) }
     ensures write { result ≡ Err ToolFault.Write
         → CountsFault (O.fault_count output.old) (O.fault_count output.new) }
-    ensures no_other { IfErr result IsCallFault }
+    ensures no_other { IfErr result IsRunFault }
     ensures no_usage { result ≢ Err ToolFault.Usage }
     ensures why { result ≡ Err ToolFault.Device → IsSome why.new }
     ensures gives_up { is_locked fault ≡ false → GivesUp fault result why.old why.new }
@@ -380,7 +380,7 @@ where
     ensures status { IfOk result (λ status. status ≤ 1) }
     ensures write { result ≡ Err ToolFault.Write
         → CountsFault (O.fault_count output.old) (O.fault_count output.new) }
-    ensures no_other { IfErr result IsCallFault }
+    ensures no_other { IfErr result IsRunFault }
     ensures no_usage { result ≢ Err ToolFault.Usage }
     ensures reported { IfOk result (λ status. IsReported task.now.side status
         (O.written output.old) (O.written output.new)) }
@@ -409,7 +409,7 @@ where
     ensures status { IfOk result (λ status. status ≤ 1) }
     ensures write { result ≡ Err ToolFault.Write
         → CountsFault (O.fault_count output.old) (O.fault_count output.new) }
-    ensures no_other { IfErr result IsCallFault }
+    ensures no_other { IfErr result IsRunFault }
     ensures no_usage { result ≢ Err ToolFault.Usage }
     ensures reported { IfOk result (λ status. IsReported task.now.side status
         (O.written output.old) (O.written output.new)) }

@@ -39,8 +39,6 @@ printing_failed T faults.Device report w v c d F h f = absurd f
 printing_failed T faults.Read report w v c d F h f = absurd f
 printing_failed T (faults.Script line) report w v c d F h f = absurd f
 printing_failed T (faults.Jobs line) report w v c d F h f = absurd f
-printing_failed T faults.Number report w v c d F h f = absurd f
-printing_failed T (faults.InUse folder) report w v c d F h f = absurd f
 printing_failed T faults.Usage report w v c d F h f = absurd f
 
 pub printing_stopped : (T : Type 0) (fault : ToolFault) (report printed : List ℕ) (w v : Option (List ℕ)) (c d : ℕ) (F : Type 0)
@@ -58,8 +56,6 @@ behind_device T U (Err faults.Device) report w v c d F h = absurd h.fault
 behind_device T U (Err faults.Read) report w v c d F h = absurd h.fault
 behind_device T U (Err (faults.Script line)) report w v c d F h = absurd h.fault
 behind_device T U (Err (faults.Jobs line)) report w v c d F h = absurd h.fault
-behind_device T U (Err faults.Number) report w v c d F h = absurd h.fault
-behind_device T U (Err (faults.InUse folder)) report w v c d F h = absurd h.fault
 behind_device T U (Err faults.Usage) report w v c d F h = absurd h.fault
 
 pub printed_behind_device : (T U : Type 0) (fault : ToolFault) (r : Result U ToolFault) (report printed : List ℕ) (w v : Option (List ℕ))
@@ -83,8 +79,6 @@ not_printed_of_both T faults.Read report w a b d e c F h f = absurd h
 not_printed_of_both T faults.Write report w a b d e c F h f = absurd h
 not_printed_of_both T (faults.Script line) report w a b d e c F h f = absurd h
 not_printed_of_both T (faults.Jobs line) report w a b d e c F h f = absurd h
-not_printed_of_both T faults.Number report w a b d e c F h f = absurd h
-not_printed_of_both T (faults.InUse folder) report w a b d e c F h f = absurd h
 not_printed_of_both T faults.Usage report w a b d e c F h f = absurd h
 
 -- ---- a plan was carried out
@@ -119,8 +113,6 @@ left_on (Err faults.Read) F U L l = l
 left_on (Err faults.Write) F U L l = l
 left_on (Err (faults.Script line)) F U L l = l
 left_on (Err (faults.Jobs line)) F U L l = l
-left_on (Err faults.Number) F U L l = l
-left_on (Err (faults.InUse folder)) F U L l = l
 left_on (Err faults.Usage) F U L l = l
 
 -- ---- behind a fault of the line
@@ -134,8 +126,6 @@ left_after V (Err faults.Write) F U L k h = inr h
 left_after V (Err faults.Read) F U L k h = absurd k
 left_after V (Err (faults.Script line)) F U L k h = absurd k
 left_after V (Err (faults.Jobs line)) F U L k h = absurd k
-left_after V (Err faults.Number) F U L k h = absurd k
-left_after V (Err (faults.InUse folder)) F U L k h = absurd k
 left_after V (Err faults.Usage) F U L k h = absurd k
 
 printed_after : {T : Type 0} (V : Type 0) (r : Result T ToolFault) (report : List ℕ) (w v : Option (List ℕ)) (c d : ℕ) (F : Type 0)
@@ -147,8 +137,6 @@ printed_after V (Err faults.Write) report w v c d F k h = inr (h.0, inl h.1)
 printed_after V (Err faults.Read) report w v c d F k h = absurd k
 printed_after V (Err (faults.Script line)) report w v c d F k h = absurd k
 printed_after V (Err (faults.Jobs line)) report w v c d F k h = absurd k
-printed_after V (Err faults.Number) report w v c d F k h = absurd k
-printed_after V (Err (faults.InUse folder)) report w v c d F k h = absurd k
 printed_after V (Err faults.Usage) report w v c d F k h = absurd k
 
 -- the fault that is answered, and what is left beside it

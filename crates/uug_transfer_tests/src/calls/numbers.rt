@@ -9,7 +9,7 @@ use super::{Manner, caller, line};
 use crate::calls::assertions::{assert_same, assert_same_at};
 use std::alloc::Global;
 use std::process::Abort;
-use uug_folder::{JobsFile, number_at_start, number_line, read_number_text};
+use uug_folder::{BadNumber, JobsFile, number_at_start, number_line, read_number_text};
 use uug_session::{MemorySpool, Side};
 use uug_stream::{MemoryOutput, ToolFault};
 use uug_transfer::{TransferEnd, call_over};
@@ -317,7 +317,7 @@ fn reads_the_number_of_a_file(rt: HostRuntime) {
     for (place, (text, number)) in TEXTS.into_iter().enumerate() {
         assert_same_at(&rt, read_number_text(text), number, place);
         let at_start = number_at_start(Some(text), true);
-        assert_same(&rt, at_start, number.map(Some).ok_or(ToolFault::Number));
+        assert_same(&rt, at_start, number.map(Some).ok_or(BadNumber));
     }
     assert_same(&rt, number_line(70).as_slice(), b"70\n".as_slice());
     assert_same(&rt, number_at_start(None, true), Ok(Some(0)));

@@ -3,13 +3,14 @@
 use crate::pairs::assertions::assert_same;
 use std::alloc::{AllocError, Global};
 use std::process::Abort;
-use uug_folder::{FolderFailed, JobsFault};
+use uug_folder::{BadNumber, FolderFailed, JobsFault};
 use uug_transfer::{LineFailed, SessionFault, TurnFault};
 
 /// An error of the crate.
 #[derive(Clone, Copy)]
 enum Fault {
     Folder(FolderFailed),
+    Number(BadNumber),
     Line(LineFailed),
     Jobs(JobsFault),
     Turn(TurnFault),
@@ -18,6 +19,7 @@ enum Fault {
 
 const TEXTS: &[(Fault, &str)] = &[
     (Fault::Folder(FolderFailed), "device fault"),
+    (Fault::Number(BadNumber), "bad number file"),
     (Fault::Line(LineFailed), "device fault"),
     (Fault::Jobs(JobsFault::Bad(3)), "bad jobs at line 3"),
     (Fault::Jobs(JobsFault::Memory), "out of memory"),
@@ -32,6 +34,7 @@ const TEXTS: &[(Fault, &str)] = &[
 fn text_of(alloc: Global, fault: Fault) -> Result<String, AllocError> {
     match fault {
         Fault::Folder(fault) => fault.to_string(alloc),
+        Fault::Number(fault) => fault.to_string(alloc),
         Fault::Line(fault) => fault.to_string(alloc),
         Fault::Jobs(fault) => fault.to_string(alloc),
         Fault::Turn(fault) => fault.to_string(alloc),

@@ -626,10 +626,12 @@ fn assert_held(
     place(rt, dir, PART);
     let mut output = ShortOutput::new(0);
     let paths = Paths::within(rt, dir);
-    let answer = run_ends(rt.alloc(), rt, &paths, (None, None), &mut output, &mut None);
+    let mut why = None;
+    let answer = run_ends(rt.alloc(), rt, &paths, (None, None), &mut output, &mut why);
     let plain = run_within(rt.alloc(), rt, dir, (None, None), &mut output);
     drop(lock);
-    assert_same(rt, answer, Err(ToolFault::InUse(number)));
+    assert_same(rt, answer, Err(ToolFault::Device));
+    assert_so(rt, Why::Dir(number, Cause::InUse).is(why));
     assert_same(rt, plain, Err(ToolFault::Device));
     assert_same(rt, output.text(), b"");
     assert_file(rt, dir, "a/jobs", b"send x y u\n");
