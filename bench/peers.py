@@ -3,11 +3,11 @@
 
     peers.py [ROUNDS]
 
-ZMODEM is `sz` and `rz` of Debian's package `lrzsz`, with their usual settings. Kermit is C-Kermit of the package `ckermit`, which is
-told not to rely on the line (`set reliable off`, `set streaming off`). Both are joined by a relay, on these lines:
+ZMODEM is `sz` and `rz` of Debian's package `lrzsz`, Kermit is C-Kermit of the package `ckermit`, at a terminal of its own; both have
+their usual settings. A relay joins the two ends, on these lines, of which none loses or garbles a byte:
 
-    bytes        no faults: how many bytes the sender writes for a file of 20,000
-    half duplex  that of half_duplex.py, in real time: the seconds until the last byte of that file has arrived
+    bytes        a fast one: how many bytes the sender writes for a file of 20,000
+    half duplex  that of half_duplex.py, in real time: the seconds until the last byte has arrived, of that file or of what ends it
     cut          a line that ends after 30,000 bytes, both ways together. A file of 60,000 bytes is sent again and again, each session
                  resuming the last, until it has arrived: the sessions, and the bytes of all of them
 
@@ -32,8 +32,7 @@ from ends import Taylor, fresh, over_sockets, read, stop
 half_duplex.BYTES_A_SECOND, half_duplex.TURN, half_duplex.PIECE = 150, 1, 3
 FILE_SIZE, CUT_SIZE, CUT_AFTER = 20_000, 60_000, 30_000
 MOST, SESSIONS_MAX = 600, 12
-KERMIT = ["set file type binary", "set file incomplete keep", "set transfer display none", "set quiet on", "set flow none"]
-KERMIT += ["set reliable off", "set streaming off"]
+KERMIT = ["set file type binary", "set file incomplete keep", "set transfer display none", "set quiet on"]
 
 
 def file_of(size):
