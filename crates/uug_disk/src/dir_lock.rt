@@ -1,4 +1,4 @@
-//! The folder of an end for one run alone.
+//! The lock that keeps the folder of an end for one run alone.
 ghost use Rattle.std.specs.Prelude.{◌≡◌, IfErr};
 ghost use Rattle.uug_failure.specs.Faults.{IsFolderFault};
 
@@ -14,8 +14,9 @@ use uug_failure::{Cause, EndDir, EndText, Resource, RunFault};
 use uug_folder::sends_any;
 use uug_session::Job;
 
-/// The lock on the folder of an end. The system gives it back when this is dropped, and when the process dies. What reads the
-/// jobs, the number or the files of an end asks for it, so that none of them is read before.
+/// The lock on the folder of an end. The system releases it when this is dropped, and when the process dies. The
+/// functions with which a session reads the jobs, the number or the files of an end ask for it, which keeps them from
+/// reading earlier.
 #[derive(Drop)]
 pub struct DirLock<A: Allocator> {
     _file: File,
@@ -25,7 +26,7 @@ pub struct DirLock<A: Allocator> {
 }
 
 impl<A: Allocator> DirLock<A> {
-    /// The folder that is locked.
+    /// Returns the folder that is locked.
     pub fn dir(&self) -> EndDir<'_>
         ensures { result.number ≡ self.now.number }
     {
@@ -36,8 +37,8 @@ impl<A: Allocator> DirLock<A> {
     }
 }
 
-/// Locks the folder of an end, and removes what runs that were killed left of files that were not whole. Nothing is made in
-/// it. A folder that another run holds is in use, which is a failure of its own (`Cause::InUse`).
+/// Locks the folder of an end, and removes incomplete files that killed runs left. Creates nothing in the folder.
+/// Returns a failure of its own, `Cause::InUse`, if another run holds the folder.
 pub fn lock_dir<A: Allocator + Copy, R: Files<File = File> + Alloc + Clone + Drop>(
     alloc: A,
     rt: &R,
@@ -60,7 +61,7 @@ pub fn lock_dir<A: Allocator + Copy, R: Files<File = File> + Alloc + Clone + Dro
     })
 }
 
-/// Sees that there is a folder of an end.
+/// Checks that the folder of an end exists.
 pub(crate) fn see_dir<R: Files>(rt: &R, dir: EndDir<'_>) -> Result<(), RunFault>
     ensures no_other { IfErr result IsFolderFault }
 {
@@ -70,8 +71,8 @@ pub(crate) fn see_dir<R: Files>(rt: &R, dir: EndDir<'_>) -> Result<(), RunFault>
     }
 }
 
-/// Sees that the folders in that of an end are there which a session with these jobs needs: `got`, and `send` where one of
-/// them sends a file; and that `failed` is no pipe.
+/// Checks that an end's folder has the folders that a session with these jobs needs: `got`, and `send` if one of the
+/// jobs sends a file. Also checks that `failed` is not a pipe.
 pub fn see_folders<A: Allocator + Copy, R: Files>(
     alloc: A,
     rt: &R,
@@ -87,7 +88,7 @@ pub fn see_folders<A: Allocator + Copy, R: Files>(
     see_failed(alloc, rt, dir)
 }
 
-/// Sees that what tells of failed jobs is no pipe, which would wait for a reader.
+/// Checks that the file of failed jobs is not a pipe, which would wait for a reader.
 fn see_failed<A: Allocator + Copy, R: Files>(
     alloc: A,
     rt: &R,
@@ -105,7 +106,7 @@ fn see_failed<A: Allocator + Copy, R: Files>(
     Ok(())
 }
 
-/// Sees that the folder of this name is there, in that of an end.
+/// Checks that the folder of this name exists in that of an end.
 fn see_below<A: Allocator + Copy, R: Files>(
     alloc: A,
     rt: &R,
@@ -123,7 +124,7 @@ fn see_below<A: Allocator + Copy, R: Files>(
     }
 }
 
-/// Opens a folder. A pipe, which would wait for a writer, is not opened.
+/// Opens a folder. Anything else is an error. A pipe, which would wait for a writer, is not opened.
 pub(crate) fn open_dir<R: Files>(rt: &R, dir: &str) -> io::Result<R::File> {
     if fs::metadata(rt, dir)?.is_dir() {
         File::open(rt, dir)
@@ -132,8 +133,7 @@ pub(crate) fn open_dir<R: Files>(rt: &R, dir: &str) -> io::Result<R::File> {
     }
 }
 
-/// Removes what is left of files that were not whole, in `dir` and in `got` below it. What can't be removed is in nobody's
-/// way.
+/// Removes incomplete files in `dir` and in `got` below it. A file that can't be removed is in nobody's way.
 fn clear_dir<A: Allocator + Copy, R: Files + Alloc + Clone + Drop>(
     alloc: A,
     rt: &R,
@@ -145,13 +145,13 @@ fn clear_dir<A: Allocator + Copy, R: Files + Alloc + Clone + Drop>(
     Ok(())
 }
 
-/// Removes the files in a folder whose names begin as those of files that are not whole.
+/// Removes the files in a folder whose names begin like those of incomplete files.
 fn remove_parts<R: Files + Alloc + Clone + Drop>(rt: &R, dir: &str) {
     let Ok(entries) = fs::read_dir(rt, dir) else {
         return;
     };
     for entry in entries {
-        // a name that is no text is nobody's of this program
+        // a name that is not text belongs to no file of this program
         let Ok(entry) = entry else {
             continue;
         };

@@ -1,4 +1,4 @@
-//! What is in the folder of an end at the start: its jobs, and the files that it has to give.
+//! Reads the jobs in an end's folder at the start, and the files that it has to give.
 ghost use Rattle.std.specs.Prelude.{◌≡◌, ◌+◌, ◌<◌, ◌≤◌, IfOk, IfErr, IfSome, OnOk, length};
 ghost use Rattle.uug_failure.specs.Faults.{IsFolderFault};
 
@@ -16,17 +16,17 @@ use uug_failure::{
 use uug_session::Stored;
 use uug_talk::{FILE_MAX, Name};
 
-/// The most files that a folder of `pair` may have to give.
+/// The maximum number of files to give in a folder of `pair`.
 pub const FILES_MAX: usize = 256;
 
 /// The mode of each file that is given.
 pub const GIVEN_MODE: u16 = 0o644;
 
-/// The most bytes of a text in a folder, such as that of its jobs.
+/// The maximum number of bytes of a text in a folder, for example that of its jobs.
 pub const TEXT_MAX: usize = 16_777_216;
 
-/// Whether there is a regular file at a path, at the end of links too: a link that leads nowhere has none. So no pipe
-/// is opened, which would wait for a writer.
+/// Returns whether there is a regular file at a path. Links are followed. A link that leads nowhere has no file.
+/// Callers thus open no pipe, which would wait for a writer.
 pub(crate) fn is_file<R: Files>(rt: &R, path: &str) -> io::Result<bool> {
     match fs::metadata(rt, path) {
         Ok(metadata) => Ok(metadata.is_file()),
@@ -37,7 +37,7 @@ pub(crate) fn is_file<R: Files>(rt: &R, path: &str) -> io::Result<bool> {
     }
 }
 
-/// The bytes of the regular file at a path, unless they are more than so many.
+/// Reads the regular file at a path. Returns `None` if it has more than `most` bytes.
 pub(crate) fn read_file<A: Allocator, R: Files>(
     alloc: A,
     rt: &R,
@@ -58,7 +58,7 @@ fn given<A: Allocator>(name: Name, bytes: Vec<u8, A>) -> Stored<A> {
     }
 }
 
-/// Adds a file to those that are given, unless it is too large.
+/// Adds a file to those that are given, unless it has more than `FILE_MAX` bytes.
 pub(crate) fn add_given<A: Allocator, R: Files>(
     files: &mut Vec<Stored<A>, A>,
     alloc: A,
@@ -81,7 +81,8 @@ pub(crate) fn add_given<A: Allocator, R: Files>(
     Ok(())
 }
 
-/// The text of this file in the folder of an end, if there is one.
+/// Reads this text in the folder of an end. Returns `None` if the file is missing. Anything but a regular file is a
+/// failure, and so are more than `TEXT_MAX` bytes.
 pub fn read_text<A: Allocator + Copy, R: Files>(
     alloc: A,
     rt: &R,
@@ -97,7 +98,7 @@ pub fn read_text<A: Allocator + Copy, R: Files>(
     read_text_at(alloc, rt, dir, which, path.as_str())
 }
 
-/// The text of this file in the folder of an end, which is at this path, if there is one.
+/// Reads the same from this path.
 pub(crate) fn read_text_at<A: Allocator + Copy, R: Files>(
     alloc: A,
     rt: &R,
@@ -124,9 +125,9 @@ pub(crate) fn read_text_at<A: Allocator + Copy, R: Files>(
     }
 }
 
-/// The files in the folder `send` below that of an end of a pair. A missing folder is an empty one. What has a name that is no
-/// `Name`, or is no regular file, is skipped, and so is a file of more than `FILE_MAX` bytes, which still counts among the
-/// `FILES_MAX`. A listing that a signal has ended is begun anew.
+/// Returns the files in the folder `send` below that of an end of a pair. A missing folder counts as empty. Files whose
+/// name is not a `Name`, and anything but a regular file, are skipped. A file of more than `FILE_MAX` bytes is skipped
+/// too, but counts among the `FILES_MAX`. A listing that a signal has ended is repeated.
 pub fn read_send<A: Allocator + Copy, R: Files + Alloc + Clone + Drop>(
     alloc: A,
     rt: &R,
@@ -145,7 +146,7 @@ pub fn read_send<A: Allocator + Copy, R: Files + Alloc + Clone + Drop>(
     list_send(alloc, rt, lock.dir())
 }
 
-/// The same, of one listing.
+/// Does the same, in one listing.
 fn list_send<A: Allocator + Copy, R: Files + Alloc + Clone + Drop>(
     alloc: A,
     rt: &R,
@@ -159,7 +160,7 @@ fn list_send<A: Allocator + Copy, R: Files + Alloc + Clone + Drop>(
     Ok(files)
 }
 
-/// Adds the files in the folder `send` below that of an end to those that are given, of which there are none.
+/// Adds the files in the folder `send` below that of an end to `files`, which is empty.
 fn add_sends<A: Allocator + Copy, R: Files + Alloc + Clone + Drop>(
     files: &mut Vec<Stored<A>, A>,
     alloc: A,
@@ -179,7 +180,7 @@ fn add_sends<A: Allocator + Copy, R: Files + Alloc + Clone + Drop>(
     }
 }
 
-/// Adds the files of these entries to those that are given, of which there are none.
+/// Adds the files of these entries to `files`, which is empty.
 fn add_entries<A: Allocator + Copy, R: Files + Alloc + Clone + Drop>(
     files: &mut Vec<Stored<A>, A>,
     alloc: A,
@@ -202,7 +203,8 @@ fn add_entries<A: Allocator + Copy, R: Files + Alloc + Clone + Drop>(
     Ok(())
 }
 
-/// Adds the file of an entry, if it has one that may be given. Each of them is counted.
+/// Adds the file of an entry, if it may be given, and counts it. A file that is too large is only counted. More than
+/// `FILES_MAX` files are a failure.
 fn add_entry<A: Allocator + Copy, R: Files + Alloc + Clone + Drop>(
     files: &mut Vec<Stored<A>, A>,
     alloc: A,
@@ -229,7 +231,7 @@ fn add_entry<A: Allocator + Copy, R: Files + Alloc + Clone + Drop>(
     add_given(files, alloc, rt, dir, name, entry.path().as_str())
 }
 
-/// The name of an entry's file, if it has one that may be given. One that is not whole yet may not, nor the mark of a copy.
+/// Returns the name of an entry's file, if it may be given. An incomplete file may not, nor may the mark of a copy.
 fn given_name<R: Files + Alloc + Clone + Drop>(
     rt: &R,
     dir: EndDir<'_>,
@@ -250,12 +252,12 @@ fn given_name<R: Files + Alloc + Clone + Drop>(
     }
 }
 
-/// Whether a listing has come to a name that is no text. It goes on behind that.
+/// Returns whether a listing has reached a name that is not text. The listing continues after that name.
 pub(crate) fn is_no_text(error: &io::Error) -> bool {
     error.kind() == ErrorKind::InvalidFilename
 }
 
-/// The path of a file in the folder `send` below that of an end.
+/// Returns the path of a file in the folder `send` below that of an end.
 pub(crate) fn path_in_send<A: Allocator + Copy>(
     alloc: A,
     dir: EndDir<'_>,

@@ -15,34 +15,34 @@ use uug_failure::{Cause, EndDir, Faults, Resource, SystemFailure};
 use uug_folder::{Folder, FolderFailed};
 use uug_talk::{NAME_MAX, Name};
 
-/// The most folders in `got` whose names are barred.
+/// The maximum number of folders in `got` whose names are barred.
 pub(crate) const FOLDERS_MAX: usize = 256;
 
-/// The files that come for an end, in the folder `got` below its own. That folder is not made.
+/// The files received for an end, in the folder `got` below its own. That folder is not created.
 #[derive(Drop)]
 pub struct SystemFolder<'a, R: Files, A: Allocator> {
     rt: &'a R,
     /// The folder of the end.
     end: EndDir<'a>,
-    /// Where a file is written before it is whole.
+    /// The path of a file until it is complete.
     part: PartPath<A>,
-    /// The folder.
+    /// The path of `got`.
     dir: String<A>,
-    /// What stands in front of a name.
+    /// The path before a file's name.
     front: String<A>,
-    /// A file's path, with room for every name.
+    /// The path of a file, with room for every name.
     path: String<A>,
-    /// The names that folders have in it.
+    /// The names of folders in `got`, which are barred.
     folders: Vec<Name, A>,
-    /// The most bytes that a name may have in it.
+    /// The maximum number of bytes of a name in `got`.
     longest: usize,
     faults: Faults,
     ghost room: { string_len front + NAME_MAX ≤ string_capacity path },
 }
 
 impl<'a, R: Files, A: Allocator + Copy> SystemFolder<'a, R, A> {
-    /// The folder of an end whose own folder is this. All memory for its calls is taken here. It bars no name, so that each
-    /// that can't be put is a fault.
+    /// Makes the folder of received files of an end. All memory for its calls is allocated here. It bars no name, and
+    /// each name that can't be put is thus a fault.
     pub fn new(alloc: A, rt: &'a R, end: EndDir<'a>) -> Result<Self, AllocError>
         ensures calm { IfOk result (λ folder.
             ⟦<SystemFolder<'a, R, A> as Folder>⟧.fault_count folder ≡ 0) }
@@ -68,8 +68,8 @@ impl<'a, R: Files, A: Allocator + Copy> SystemFolder<'a, R, A> {
         })
     }
 
-    /// The same folder, which bars the names that folders have in it now, up to `FOLDERS_MAX`, and those that are too long for
-    /// the system.
+    /// Makes the same folder, but bars the names of folders that are in it now, up to `FOLDERS_MAX`, and names that are
+    /// too long for the system.
     pub fn looking(alloc: A, rt: &'a R, end: EndDir<'a>) -> Result<Self, AllocError>
     where
         R: Alloc + Clone + Drop,
@@ -84,7 +84,7 @@ impl<'a, R: Files, A: Allocator + Copy> SystemFolder<'a, R, A> {
 }
 
 impl<R: Files, A: Allocator> SystemFolder<'_, R, A> {
-    /// Why a call of the system on it failed first, if one did.
+    /// Returns the first failure of a call of the system on this folder, if there was one.
     pub fn failure(&self) -> Option<SystemFailure>
         ensures told { 0 < self.now.faults.count → IsSome result }
     {
@@ -130,7 +130,7 @@ impl<R: Files, A: Allocator> Folder for SystemFolder<'_, R, A> {
     }
 }
 
-/// The names that folders have in the one at this path, up to `FOLDERS_MAX`. One that can't be read has none.
+/// Returns the names of the folders in the one at this path, up to `FOLDERS_MAX`. A folder that can't be read has none.
 fn folder_names<A: Allocator + Copy, R: Files + Alloc + Clone + Drop>(
     alloc: A,
     rt: &R,
@@ -153,7 +153,7 @@ fn folder_names<A: Allocator + Copy, R: Files + Alloc + Clone + Drop>(
     Ok(names)
 }
 
-/// The name of an entry that is a folder.
+/// Returns the name of an entry that is a folder.
 fn folder_name<R: Files + Drop, A: Allocator>(entry: io::Result<DirEntry<R, A>>) -> Option<Name> {
     let entry = entry.ok()?;
     if entry.file_type().ok()?.is_dir() {
@@ -163,7 +163,7 @@ fn folder_name<R: Files + Drop, A: Allocator>(entry: io::Result<DirEntry<R, A>>)
     }
 }
 
-/// The most bytes that a name may have behind this front.
+/// Returns the maximum number of bytes that a name may have after this front.
 fn longest_name<A: Allocator + Copy, R: Files>(
     alloc: A,
     rt: &R,
@@ -181,7 +181,7 @@ fn longest_name<A: Allocator + Copy, R: Files>(
     Ok(0)
 }
 
-/// A path behind this front whose name has `NAME_MAX` bytes.
+/// Returns this front with a name of `NAME_MAX` bytes after it.
 fn longest_path<A: Allocator + Copy>(alloc: A, front: &str) -> Result<String<A>, AllocError> {
     let mut path = String::from_str(alloc, front)?;
     for _ in 0..NAME_MAX {
@@ -190,7 +190,7 @@ fn longest_path<A: Allocator + Copy>(alloc: A, front: &str) -> Result<String<A>,
     Ok(path)
 }
 
-/// Whether the system says that a path is too long.
+/// Returns whether the system reports that a path is too long.
 fn is_too_long<R: Files>(rt: &R, path: &str) -> bool {
     match fs::symlink_metadata(rt, path) {
         Ok(_) => false,
@@ -198,7 +198,7 @@ fn is_too_long<R: Files>(rt: &R, path: &str) -> bool {
     }
 }
 
-/// A name is a text.
+/// Returns a name as text.
 fn name_text(name: &Name) -> &str
     ensures text { result.now ≡ name.now }
     ensures most { length result.now ≤ NAME_MAX }
@@ -209,7 +209,7 @@ fn name_text(name: &Name) -> &str
     text
 }
 
-/// Makes the path of the file of this name, in room that is there.
+/// Writes the path of the file of this name into `path`, which has room for it.
 fn set_path<A: Allocator>(path: &mut String<A>, front: &str, name: &Name)
     requires room { length front.now + NAME_MAX ≤ string_capacity path.old }
     ensures path { string_bytes path.new ≡ front.now ++ name.now }

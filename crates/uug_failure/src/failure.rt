@@ -1,4 +1,4 @@
-//! Why a call of the system failed.
+//! The failure of a call of the system: on what, and why.
 ghost use Rattle.std.specs.Prelude.{◌≡◌};
 ghost use Rattle.uug_failure.specs.Passing.{is_out_of_reach, may_pass};
 
@@ -6,11 +6,12 @@ use std::io;
 use std::io::ErrorKind;
 use uug_talk::Name;
 
-/// What a call of the system was made on. The texts, and what is given and got, are below the folder of an end.
+/// The object of a call of the system. The texts, and the files given and got, are below the folder of an end.
 #[derive(Clone, Copy, Debug, PartialEq, Eq)]
 pub enum Resource {
-    /// What is read, and what is written.
+    /// The input that is read.
     Input,
+    /// The output that is written.
     Output,
     /// The line of an end, or the socket between two.
     Line,
@@ -31,16 +32,16 @@ pub enum Resource {
 /// A file of an end with a text of its own.
 #[derive(Clone, Copy, Debug, PartialEq, Eq)]
 pub enum EndText {
-    /// That of its jobs.
+    /// The file of its jobs.
     Jobs,
-    /// That of the number of its conversations.
+    /// The file of the number of its conversations.
     Number,
-    /// That of the jobs that it has given up.
+    /// The file of the jobs that it has given up.
     Failed,
 }
 
 impl EndText {
-    /// What the file is called, in the folder of the end.
+    /// Returns the name of the file in the folder of the end.
     pub fn name(self) -> &'static str {
         match self {
             EndText::Jobs => "jobs",
@@ -60,7 +61,7 @@ pub struct EndDir<'a> {
 }
 
 impl SystemFailure {
-    /// A failure of a call on this, which is in no folder.
+    /// Makes the failure of a call on a resource that is in no folder.
     pub fn on(resource: Resource, cause: Cause) -> SystemFailure
         ensures resource { result.resource ≡ resource }
         ensures cause { result.cause ≡ cause }
@@ -74,7 +75,7 @@ impl SystemFailure {
 }
 
 impl EndDir<'_> {
-    /// A failure of a call on this, of this end.
+    /// Makes the failure of a call on a resource of this end.
     pub fn failure(self, resource: Resource, cause: Cause) -> SystemFailure
         ensures end { result.end ≡ self.entry.number }
         ensures resource { result.resource ≡ resource }
@@ -88,30 +89,30 @@ impl EndDir<'_> {
     }
 }
 
-/// Why it failed.
+/// The cause of a failure.
 #[derive(Clone, Copy, Debug, PartialEq, Eq)]
 pub enum Cause {
-    /// The system refused it with an error of this kind, and of this number where it gave one.
+    /// The system refused the call with an error of this kind, and of this number if it gave one.
     Refused(ErrorKind, Option<i32>),
-    /// It moved no byte, though some were to be moved.
+    /// The call moved no byte, though there were some to move.
     MovedNothing,
-    /// There is more than the program takes.
+    /// There is more than the program accepts.
     TooMuch,
-    /// There is something else than a regular file.
+    /// Something other than a regular file is there.
     NotAFile,
-    /// Its text is no number.
+    /// The text is not a number.
     NotANumber,
     /// Another run holds it.
     InUse,
 }
 
 impl Cause {
-    /// What an error of the system says.
+    /// Returns the cause that an error of the system reports.
     pub fn of(error: &io::Error) -> Cause {
         Cause::Refused(error.kind(), error.raw_os_error())
     }
 
-    /// Returns whether the same call may succeed later, with nothing else changed.
+    /// Returns whether the same call may succeed later with nothing else changed.
     pub fn may_pass(self) -> bool
         ensures { result ≡ may_pass self }
     {
@@ -126,7 +127,7 @@ impl Cause {
     }
 }
 
-/// Returns whether an error of this kind says that no file which this program may read is at a path.
+/// Returns whether an error of this kind means that no file that this program may read is at a path.
 pub fn is_out_of_reach(kind: ErrorKind) -> bool
     ensures { result ≡ is_out_of_reach kind }
 {
@@ -143,10 +144,11 @@ pub fn is_out_of_reach(kind: ErrorKind) -> bool
 /// A call of the system that failed.
 #[derive(Clone, Copy, Debug, PartialEq, Eq)]
 pub struct SystemFailure {
-    /// Whose call it was: the number of the end's folder among the program's arguments, counted from 0. What is in no folder has 0.
+    /// The number of the end's folder among the program's arguments, counted from 0. It is 0 for a resource that is in
+    /// no folder.
     pub end: usize,
-    /// What it was made on.
+    /// The object of the call.
     pub resource: Resource,
-    /// Why it failed.
+    /// The cause of the failure.
     pub cause: Cause,
 }

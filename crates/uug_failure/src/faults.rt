@@ -1,4 +1,4 @@
-//! How often a device of the system has failed.
+//! A count of the faults of a device of the system.
 ghost use Rattle.std.specs.Prelude.{◌≡◌, ◌<◌, ◌≤◌, IsSome};
 ghost use Rattle.uug_session.specs.Engine.{HasFailed};
 ghost use Rattle.uug_failure.specs.Failures.{NotesFault, first_of};
@@ -6,7 +6,7 @@ ghost use Rattle.uug_failure.specs.Failures.{NotesFault, first_of};
 use crate::failure::SystemFailure;
 use crate::run_fault::RunFault;
 
-/// The faults of a device: how many there were, up to the greatest number, and why the first one came.
+/// The faults of a device: their number, up to the greatest that fits, and the cause of the first one.
 #[derive(Clone, Copy)]
 pub struct Faults {
     count: u64,
@@ -15,7 +15,7 @@ pub struct Faults {
 }
 
 impl Faults {
-    /// No faults so far.
+    /// Returns a count of no faults.
     pub fn none() -> Faults
         ensures { result.count ≡ 0 }
     {
@@ -25,7 +25,7 @@ impl Faults {
         }
     }
 
-    /// Counts one fault more.
+    /// Counts another fault.
     pub fn note(&mut self, failure: SystemFailure)
         ensures counted { HasFailed u64.MAX self.old.count self.new.count }
         ensures grows { self.old.count ≤ self.new.count }
@@ -37,7 +37,7 @@ impl Faults {
         };
     }
 
-    /// Counts one fault more, if a call of the system failed.
+    /// Counts another fault if a call of the system failed.
     pub fn note_fault(&mut self, fault: RunFault)
         ensures { NotesFault fault self.old.count self.new.count }
     {
@@ -47,14 +47,14 @@ impl Faults {
         }
     }
 
-    /// How many there were.
+    /// Returns the number of faults.
     pub fn count(&self) -> u64
         ensures { result ≡ self.now.count }
     {
         self.count
     }
 
-    /// Why the first one came.
+    /// Returns the failure that was the first fault, if there was a fault.
     pub fn first(&self) -> Option<SystemFailure>
         ensures first { result ≡ self.now.first }
         ensures told { 0 < self.now.count → IsSome result }

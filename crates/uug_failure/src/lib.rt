@@ -1,5 +1,6 @@
-//! What a call of the system that fails leaves behind: which one it was, on what and why; how often a device has failed; and why
-//! a run gave up. Beside it, reads and writes that a signal does not end, and a whole text within its limit.
+//! Failures of calls of the system (which call, on what and why), counts of a device's faults, and the reasons that a
+//! run gave up. Also here: reads and writes that a signal does not end, and the reading of a whole text within its
+//! limit.
 #![tactic(auto)]
 
 mod failure;

@@ -1,11 +1,11 @@
-//! What comes from a reader, whole.
+//! Reads all bytes of a reader, within a limit.
 ghost use Rattle.std.specs.Prelude.{◌≡◌, ◌<◌, ◌≤◌, IfOk, IfSome, MatchOption, length};
 
 use std::alloc::Allocator;
 use std::io;
 use std::io::Read;
 
-/// Returns all that comes from a reader, unless it is more than so many bytes.
+/// Reads all bytes of a reader. Returns `None` if there are more than `most`.
 pub fn read_within<A: Allocator, R: Read + Drop>(
     alloc: A,
     reader: R,

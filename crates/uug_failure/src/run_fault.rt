@@ -1,4 +1,4 @@
-//! Why a run over the system gave up.
+//! The reasons that a run over the system gave up.
 ghost use Rattle.std.specs.Prelude.{◌≡◌, IfErr, IsOk, OnOk};
 ghost use Rattle.uug_failure.specs.Failures.{fault_of_run, told_by};
 ghost use Rattle.uug_failure.specs.Faults.{IsFolderFault};
@@ -12,21 +12,21 @@ use std::io;
 use std::io::ErrorKind;
 use uug_stream::ToolFault;
 
-/// So many listings of a folder in a row are begun anew that a signal has ended.
+/// The maximum number of times in a row that a listing of a folder is repeated because a signal ended it.
 pub const LISTINGS_MAX: u32 = 100;
 
-/// Why a run gave up.
+/// The reason that a run gave up.
 #[derive(Clone, Copy, Debug)]
 pub enum RunFault {
     /// A call of the system failed. The program answers `ToolFault::Device`.
     System(SystemFailure),
-    /// Something else, which is what the program answers.
+    /// Another fault, which is the program's answer.
     Tool(ToolFault),
 }
 
 impl RunFault {
-    /// Why a run gives up over an error of the system. Memory that was refused is no fault of the system's, which has an
-    /// error of its own for it.
+    /// Returns the fault of a run that gives up over an error of the system. Memory that was refused is not a failure
+    /// of the system, which has a numbered error of its own for it.
     pub fn of(error: &io::Error, dir: EndDir<'_>, resource: Resource) -> RunFault
         ensures { IsFolderFault result }
     {
@@ -37,7 +37,7 @@ impl RunFault {
         }
     }
 
-    /// Says which call of the system failed, if that is why, and gives what the program answers.
+    /// Stores the failed call of the system in `why`, if that is the reason, and returns the program's answer.
     pub fn tell(self, why: &mut Option<SystemFailure>) -> ToolFault
         ensures fault { result ≡ fault_of_run self }
         ensures why { why.new ≡ told_by self why.old }
@@ -52,7 +52,8 @@ impl RunFault {
     }
 }
 
-/// What a run does that was answered so when it asked for the lock of a folder: it goes on only where it has got it.
+/// Handles the system's answer to a request for the lock of a folder. The run continues only if the lock was granted. A
+/// lock that another run holds is the failure `Cause::InUse`.
 pub fn grant_lock(answer: Result<(), TryLockError>, dir: EndDir<'_>) -> Result<(), RunFault>
     ensures granted { OnOk result (IsOk answer) }
     ensures no_other { IfErr result IsFolderFault }
@@ -66,7 +67,7 @@ pub fn grant_lock(answer: Result<(), TryLockError>, dir: EndDir<'_>) -> Result<(
     }
 }
 
-/// Whether a signal has ended a call of the system.
+/// Returns whether a signal has ended a call of the system.
 pub fn was_interrupted<T>(ended: &Result<T, RunFault>) -> bool {
     match ended {
         Err(RunFault::System(failure)) => match failure.cause {

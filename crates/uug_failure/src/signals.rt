@@ -6,10 +6,10 @@ ghost use Rattle.std.specs.Io.KnownBytes.{Appends, Consumes, IsAtEnd, Keeps};
 use std::io;
 use std::io::{ErrorKind, Read, Write};
 
-/// So many signals in a row end a call before it counts as one that nothing came of.
+/// The number of signals in a row that end a call before it counts as failed.
 const SIGNALS_MAX: u32 = 1024;
 
-/// Writes once. A write that a signal has ended is begun anew.
+/// Writes once. A write that a signal has ended is repeated, up to `SIGNALS_MAX` tries in all.
 pub fn write_again<T: Write>(stream: &mut T, piece: &[u8]) -> io::Result<usize>
     ensures bound { WritesAtMost result piece.now }
     ensures bytes { IfOk result (λ n.
@@ -25,7 +25,8 @@ pub fn write_again<T: Write>(stream: &mut T, piece: &[u8]) -> io::Result<usize>
     Err(io::Error::from(ErrorKind::Interrupted))
 }
 
-/// Reads once. A read that a signal has ended is begun anew, and so waits for the whole time.
+/// Reads once. A read that a signal has ended is repeated, up to `SIGNALS_MAX` tries in all. A repeated read waits for
+/// the whole time again.
 pub fn read_again<T: Read>(stream: &mut T, buffer: &mut [u8]) -> io::Result<usize>
     ensures bound { ReadsAtMost result buffer.new }
     ensures size { length buffer.new ≡ length buffer.old }

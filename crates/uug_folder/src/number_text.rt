@@ -7,15 +7,16 @@ use itoa::Buffer;
 use thiserror::Error;
 use uug_talk::{NUMBER_MAX, read_number, split_line};
 
-/// The text of the file `number` of a folder is no number.
+/// The error for a file `number` whose text is not a number.
 #[derive(Clone, Copy, Debug, PartialEq, Eq, Error)]
 #[error("bad number file")]
 pub struct BadNumber;
 
-/// The most bytes of the line of a number.
+/// The maximum number of bytes in the line of a number.
 pub const NUMBER_LINE_MAX: usize = 11;
 
-/// The number of a text that is one line of decimal digits. Its line feed may lack, and zeros in front are read.
+/// Returns the number of a text that is one line of decimal digits. The line feed may be missing, and leading zeros are
+/// accepted.
 pub fn read_number_text(text: &[u8]) -> Option<u32>
     ensures { result ≡ number_in text.now }
 {
@@ -26,7 +27,7 @@ pub fn read_number_text(text: &[u8]) -> Option<u32>
     }
 }
 
-/// The text of a number: its decimal digits and a line feed.
+/// Returns the text of a number: its decimal digits and a line feed.
 pub fn number_line(number: u32) -> ArrayVec<u8, NUMBER_LINE_MAX>
     ensures text { result.items ≡ number_line number }
     // The number is read as the one given.
@@ -47,8 +48,8 @@ fn written_line(number: u32) -> ArrayVec<u8, NUMBER_LINE_MAX>
     line
 }
 
-/// The number that an end keeps whose folder has this text of one, if it has any. Without a text it keeps none, but where it
-/// is told to: then it begins at 0.
+/// Returns the number that an end keeps, if any, from the text in its folder. Without a text it keeps none, unless it
+/// is told to keep one: then it begins at 0. A text that is not a number is an error.
 pub fn number_at_start(text: Option<&[u8]>, is_told: bool) -> Result<Option<u32>, BadNumber>
     ensures { MatchOption text.entry (result ≡ begins_with is_told)
         (λ text. result ≡ goes_on_with (number_in text.now)) }
@@ -63,8 +64,9 @@ pub fn number_at_start(text: Option<&[u8]>, is_told: bool) -> Result<Option<u32>
     }
 }
 
-/// The number with which a called end that keeps this one begins a session, where the caller says that one. It is its own; but
-/// where the caller says the one before it, it is that: the caller has not read then that its last call was let in.
+/// Returns the number with which a called end begins a session, from its own number and the one that the caller said.
+/// It is the end's own, unless the caller said the one before. Then it is that one: the caller has not read that its
+/// last call was let in.
 pub fn number_beside(own: Option<u32>, said: Option<u32>) -> Option<u32>
     ensures { result ≡ number_beside own said }
 {

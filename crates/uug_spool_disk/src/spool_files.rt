@@ -1,4 +1,4 @@
-//! What stands in the folders of a spool.
+//! Looks at the files in the folders of a spool, and reads them.
 ghost use Rattle.std.specs.Fs.{IsSymlink, file_type};
 ghost use Rattle.std.specs.IoError.{error_kind};
 ghost use Rattle.std.specs.Prelude.{◌<◌, ◌≡◌, ◌≢◌, ◌≤◌, ◌↔◌, false, true, Err, IfErr, IfOk, IfSome, IsErr, IsTrue, None, Ok, Some, length};
@@ -18,10 +18,10 @@ use uug_failure::{Cause, Resource, RunFault, is_out_of_reach, read_within};
 use uug_spool::{Room, Spot};
 use uug_talk::Name;
 
-/// What stands in the mode of a file that everybody may read.
+/// The bit of a file's mode that is set if everybody may read the file.
 const ALL_MAY_READ: u32 = 0o004;
 
-/// The names in a room that a session can say. A folder that lacks has none.
+/// Returns the names in a room that a session can say. A missing folder has none.
 pub fn list_room<A: Allocator + Copy, R: Files + Alloc + Clone + Drop>(
     alloc: A,
     rt: &R,
@@ -35,7 +35,7 @@ pub fn list_room<A: Allocator + Copy, R: Files + Alloc + Clone + Drop>(
     Ok(names)
 }
 
-/// Adds the names in a room.
+/// Adds the names in a room that a session can say.
 fn add_names<A: Allocator + Copy, R: Files + Alloc + Clone + Drop>(
     names: &mut Vec<Name, A>,
     alloc: A,
@@ -53,7 +53,7 @@ fn add_names<A: Allocator + Copy, R: Files + Alloc + Clone + Drop>(
     }
 }
 
-/// Adds the names of these entries. One that is no text is nobody's here.
+/// Adds the names of these entries. A name that is not text is skipped.
 fn add_entries<A: Allocator, R: Files + Alloc + Clone + Drop>(
     names: &mut Vec<Name, A>,
     paths: &SpoolPaths<A>,
@@ -85,7 +85,7 @@ fn add_entry<A: Allocator, R: Files + Alloc + Clone + Drop>(
     Ok(())
 }
 
-/// Whether there is a file.
+/// Returns whether there is a file at this spot.
 pub fn is_there<A: Allocator + Copy, R: Files>(
     alloc: A,
     rt: &R,
@@ -101,7 +101,8 @@ pub fn is_there<A: Allocator + Copy, R: Files>(
     }
 }
 
-/// Whether what was looked at is there. Only where the system says that nothing is, it is not.
+/// Returns whether a path that was looked at exists. It is missing only if the system reports `NotFound`. Other errors
+/// are returned.
 pub(crate) fn is_found(seen: io::Result<Metadata>) -> io::Result<bool>
     ensures found { IfOk seen (λ _. result ≡ Ok true) }
     ensures gone { IfErr seen (λ error. error_kind error ≡ ErrorKind.NotFound → result ≡ Ok false) }
@@ -114,7 +115,7 @@ pub(crate) fn is_found(seen: io::Result<Metadata>) -> io::Result<bool>
     }
 }
 
-/// Whether the spool has a folder of the system.
+/// Returns whether the spool has a folder of the system.
 pub fn is_known<A: Allocator + Copy, R: Files>(
     alloc: A,
     rt: &R,
@@ -131,7 +132,7 @@ pub fn is_known<A: Allocator + Copy, R: Files>(
     }
 }
 
-/// The bytes of a file of the spool, unless there is none, or it has more than so many.
+/// Reads a file of the spool. Returns `None` if there is none, or it has more than `most` bytes.
 pub fn read_spot<A: Allocator + Copy, R: Files>(
     alloc: A,
     rt: &R,
@@ -150,7 +151,7 @@ pub fn read_spot<A: Allocator + Copy, R: Files>(
     }
 }
 
-/// The bytes of a file of the spool, unless there is none. One that has more than so many is a fault.
+/// Reads a file of the spool. Returns `None` if there is none. A file of more than `most` bytes is a fault.
 pub fn read_whole<A: Allocator + Copy, R: Files>(
     alloc: A,
     rt: &R,
@@ -173,7 +174,7 @@ pub fn read_whole<A: Allocator + Copy, R: Files>(
     }
 }
 
-/// What was read, nothing where no file is there, or that it is too much.
+/// Returns the bytes that were read, `None` if there is no file, or an error if there are too many bytes.
 fn whole_of<T>(read: Result<T, Unfit>) -> Result<Option<T>, Cause>
     ensures found { IfOk read (λ bytes. result ≡ Ok (Some bytes)) }
     ensures no_file { read ≡ Err Unfit.NoFile → result ≡ Ok None }
@@ -186,8 +187,8 @@ fn whole_of<T>(read: Result<T, Unfit>) -> Result<Option<T>, Cause>
     }
 }
 
-/// The bytes of the file that a person named, unless there is none that may be read, or it has more than so many. What has a
-/// relative path is in no folder that is known.
+/// Reads the file that a person named. Returns `None` if there is none that may be read, or it has more than `most`
+/// bytes. A relative path has no file, as its folder is not known.
 pub fn read_source<A: Allocator + Copy, R: Files>(
     alloc: A,
     rt: &R,
@@ -209,7 +210,7 @@ pub fn read_source<A: Allocator + Copy, R: Files>(
     }
 }
 
-/// What was read, or nothing where no file that this program may read is there.
+/// Returns the result of a read. It is `None` if no file is there that this program may read.
 fn within_reach<T>(read: io::Result<Option<T>>) -> io::Result<Option<T>>
     ensures found { IfOk read (λ found. result ≡ Ok found) }
     ensures gone { IfErr read (λ error. is_out_of_reach (error_kind error) ≡ true → result ≡ Ok None) }
@@ -222,7 +223,7 @@ fn within_reach<T>(read: io::Result<Option<T>>) -> io::Result<Option<T>>
     }
 }
 
-/// Returns whether an error of this kind says that a file can't be put at a path, whatever is tried.
+/// Returns whether an error of this kind means that a file can't be put at a path, whatever is tried.
 pub fn is_no_place(kind: ErrorKind) -> bool
     ensures { result ≡ is_no_place kind }
 {
@@ -238,7 +239,8 @@ pub fn is_no_place(kind: ErrorKind) -> bool
     )
 }
 
-/// The first folder of files that come, and of their markers, that is a link and so none of the spool's own.
+/// Looks at the folders of incoming files and of their markers. Returns the first that is a link, and thus not the
+/// spool's own.
 pub fn linked_room<A: Allocator + Copy, R: Files>(
     alloc: A,
     rt: &R,
@@ -257,7 +259,7 @@ pub fn linked_room<A: Allocator + Copy, R: Files>(
     Ok(None)
 }
 
-/// Returns whether what was looked at is a link. What is not there is none.
+/// Returns whether a path that was looked at is a link. A missing one is none.
 fn is_link(seen: io::Result<Metadata>) -> io::Result<bool>
     ensures seen { IfOk seen (λ seen. IfOk result (λ is_link.
         IsTrue is_link ↔ IsSymlink (file_type seen))) }
@@ -271,8 +273,8 @@ fn is_link(seen: io::Result<Metadata>) -> io::Result<bool>
     }
 }
 
-/// The bytes of the file of this name in the public folder, if it is a regular one that everybody may read, and has so many at
-/// most. A link is none: it may lead elsewhere.
+/// Reads the file of this name in the public folder. Returns `None` unless it is a regular file that everybody may
+/// read, of at most `most` bytes. A link is not read: it may lead elsewhere.
 pub fn read_public<A: Allocator + Copy, R: Files<File = File>>(
     alloc: A,
     rt: &R,
@@ -295,7 +297,8 @@ pub fn read_public<A: Allocator + Copy, R: Files<File = File>>(
     }
 }
 
-/// The bytes of a regular file that everybody may read, unless there is none, or it has more than so many.
+/// Reads a regular file that everybody may read. Returns `None` for any other, or for more than `most` bytes. A missing
+/// file is an error.
 fn read_plain<A: Allocator, R: Files<File = File>>(
     alloc: A,
     rt: &R,
@@ -311,7 +314,7 @@ fn read_plain<A: Allocator, R: Files<File = File>>(
     }
 }
 
-/// Opens a regular file that everybody may read.
+/// Opens a regular file that everybody may read. Returns `None` for any other. A missing file is an error.
 fn open_plain<R: Files<File = File>>(rt: &R, path: &str) -> io::Result<Option<File>> {
     let seen = fs::symlink_metadata(rt, path)?;
     if is_readable_by_all(&seen) {
@@ -321,14 +324,15 @@ fn open_plain<R: Files<File = File>>(rt: &R, path: &str) -> io::Result<Option<Fi
     }
 }
 
-/// Returns whether what was looked at is a regular file that everybody may read.
+/// Returns whether a path that was looked at is a regular file that everybody may read.
 fn is_readable_by_all(seen: &Metadata) -> bool
     ensures { IsTrue result ↔ MayAllRead seen.now }
 {
     seen.is_file() && seen.mode() & ALL_MAY_READ != 0
 }
 
-/// Opens a file that everybody may read, as it was looked at. What another one has put in its place meanwhile, as a link, is none.
+/// Opens a file that everybody may read, which was looked at before. Returns `None` if another one has replaced it
+/// since, for example by a link.
 fn open_seen<R: Files<File = File>>(rt: &R, path: &str, seen: &Metadata) -> io::Result<Option<File>>
     requires { MayAllRead seen.now }
 {
@@ -341,7 +345,7 @@ fn open_seen<R: Files<File = File>>(rt: &R, path: &str, seen: &Metadata) -> io::
     }
 }
 
-/// The bytes of the regular file at a path, unless there is none, or it has more than so many.
+/// Reads the regular file at a path. Returns `None` if there is none, or it has more than `most` bytes.
 pub(crate) fn read_file<A: Allocator, R: Files>(
     alloc: A,
     rt: &R,
@@ -357,16 +361,17 @@ pub(crate) fn read_file<A: Allocator, R: Files>(
     }
 }
 
-/// Why a path has no bytes.
+/// The reason that a path has no bytes.
 #[derive(Clone, Copy)]
 enum Unfit {
     /// No regular file is there.
     NoFile,
-    /// There are too many.
+    /// There are too many bytes.
     TooMuch,
 }
 
-/// The bytes of the regular file at a path, or why there are none. No pipe is opened, which would wait for a writer.
+/// Reads the regular file at a path, or returns the reason that it has no bytes. A pipe, which would wait for a writer,
+/// is not opened.
 fn read_regular<A: Allocator, R: Files>(
     alloc: A,
     rt: &R,

@@ -7,25 +7,25 @@ use crate::output::WriteFailed;
 use std::alloc::AllocError;
 use thiserror::Error;
 
-/// Why a tool of the program gave up.
+/// The reason that a tool of the program gave up.
 #[derive(Clone, Copy, Debug, PartialEq, Eq, Error)]
 pub enum ToolFault {
-    /// The input refused a read.
+    /// A read of the input failed.
     #[error("device fault")]
     Read,
-    /// The output refused a write, and not for memory.
+    /// A write to the output failed, but not for memory.
     #[error("device fault")]
     Write,
     /// Memory ran out.
     #[error("out of memory")]
     Memory,
-    /// The first bad line of a script, counted from 1.
+    /// The number of a script's first bad line, counted from 1.
     #[error("bad script at line {0}")]
     Script(usize),
-    /// The first bad line of a folder's jobs, counted from 1.
+    /// The number of the first bad line of a folder's jobs, counted from 1.
     #[error("bad jobs at line {0}")]
     Jobs(usize),
-    /// A device gave more than the program takes, or failed otherwise.
+    /// A device gave more than the program accepts, or failed in another way.
     #[error("device fault")]
     Device,
     /// An argument is out of its range.
@@ -34,7 +34,7 @@ pub enum ToolFault {
 }
 
 impl ToolFault {
-    /// The status that the program ends with: 2 for what the caller gave, 3 for devices, 4 for memory.
+    /// Returns the exit status of the program: 2 for an error in what the caller gave, 3 for devices, 4 for memory.
     pub fn status(self) -> u8
         ensures { result ≡ status_of self }
     {
