@@ -1,15 +1,38 @@
--- What is printed of an end, whichever end that was.
-use Rattle.std.proofs.Common.{◌≡◌, ℕ, Bool, List, Option, Result, Ok, Err}
+-- What is printed of an end that has run its session, whichever end that was.
+use Rattle.std.proofs.Common.{◌≡◌, ℕ, Bool, List, Option, Result, Ok, Err, sym, subst, ◌∙◌}
 use Rattle.std.specs.Prelude.{IfOk, OnOk}
+use Rattle.uug_conversation.specs.Holdings.{Holdings, Kept}
 use Rattle.uug_conversation.specs.declared.side.Side.{Side}
+use Rattle.uug_events.proofs.NodeRunLemmas.{led_on}
+use Rattle.uug_events.specs.NodeRuns.{IsLedByEvents}
+use Rattle.uug_session.specs.Engine.{IsEnded}
 use Rattle.uug_session.specs.Node.{NodeState}
 use Rattle.uug_stream.specs.Streams.{Appends}
 use Rattle.uug_stream.specs.declared.fault.ToolFault.{ToolFault}
+use Rattle.uug_transfer.specs.BufferedNodes.{IsLed}
 use Rattle.uug_transfer.specs.Ends.{phase_of_end, report_of, status_of_phase}
-use Rattle.uug_spool_call.specs.Reported.{IsReported, status_with}
+use Rattle.uug_spool_call.specs.Reported.{HasRunSoundly, IsReported, status_with}
 
-pub reported_of : (r : Result ℕ ToolFault) (side : Side) (end : NodeState) (is_left : Bool) (written written_after : Option (List ℕ))
+-- an end that has run its session up to here runs it on
+pub runs_on : (side : Side) (h h_after : Holdings) (kept kept_after : List Kept) (before after : NodeState)
+    → HasRunSoundly side h kept before → IsLed h h_after kept kept_after before after
+    → HasRunSoundly side h_after kept_after after
+runs_on side h h_after kept kept_after before after r l = record {
+  beginning = r.beginning;
+  holdings = r.holdings ∙ sym l.same;
+  sound = r.sound;
+  ran = record {
+    first = r.ran.first;
+    begun = r.ran.begun;
+    led = led_on r.beginning.holdings r.beginning.kept kept kept_after r.ran.first before after r.ran.led
+        (subst (λ (holdings : Holdings). IsLedByEvents holdings kept kept_after before after) (sym r.holdings) l.led);
+  };
+}
+
+pub reported_of : (r : Result ℕ ToolFault) (side : Side) (h : Holdings) (kept : List Kept) (end : NodeState) (is_left : Bool)
+    (written written_after : Option (List ℕ)) → HasRunSoundly side h kept end → IsEnded end.engine.stage
     → IfOk r (λ status. status ≡ status_with is_left (status_of_phase (phase_of_end end))) → OnOk r (Appends (report_of side end) written written_after)
     → IfOk r (λ status. IsReported side status written written_after)
-reported_of (Ok status) side end is_left written written_after is printed = record { end = end; is_left = is_left; is_status = is; printed = printed }
-reported_of (Err fault) side end is_left written written_after is printed = tt
+reported_of (Ok status) side h kept end is_left written written_after ran over is printed =
+    record { end = end; holdings = h; kept = kept; ran = ran; over = over; is_left = is_left; is_status = is; printed = printed }
+reported_of (Err fault) side h kept end is_left written written_after ran over is printed = tt

@@ -3,3 +3,4 @@ pub mod Budgets
 pub mod GivenData
 pub mod PublicNames
 pub mod Reported
+pub mod Works

@@ -1,6 +1,10 @@
 -- What is printed of an end over a spool, and what the program answers (this project's profile).
 use Rattle.std.specs.Prelude.{◌≡◌, ℕ, Bool, List, Option, if◌then◌else◌}
+use Rattle.uug_conversation.specs.Holdings.{Holdings, Kept}
 use Rattle.uug_conversation.specs.declared.side.Side.{Side}
+use Rattle.uug_events.specs.Beginnings.{EndBeginning, IsSoundBeginning}
+use Rattle.uug_events.specs.NodeRuns.{HasRun}
+use Rattle.uug_session.specs.Engine.{IsEnded}
 use Rattle.uug_session.specs.Node.{NodeState}
 use Rattle.uug_stream.specs.Streams.{Appends}
 use Rattle.uug_transfer.specs.Ends.{phase_of_end, report_of, status_of_phase}
@@ -9,10 +13,22 @@ use Rattle.uug_transfer.specs.Ends.{phase_of_end, report_of, status_of_phase}
 abbrev pub status_with : (is_left : Bool) (status : ℕ) → ℕ
 status_with is_left status = if is_left then 1 else status
 
--- The report of an end on this side is printed, and the status is that of its session, 0 where it is done, and 1 where it is not or
--- where jobs were put off.
+-- The end came soundly to its session, with a spool that gives and accepts this, and has run it up to here, where the spool has
+-- kept that.
+pub record HasRunSoundly (side : Side) (h : Holdings) (kept : List Kept) (end : NodeState) : Type 0 where
+  pub beginning : EndBeginning
+  pub holdings : beginning.holdings ≡ h
+  pub sound : IsSoundBeginning beginning
+  pub ran : HasRun side beginning kept end
+
+-- The report of an end on this side is printed, which has run its session to its end. The status is that of the session, 0 where
+-- it is done, and 1 where it is not or where jobs were put off.
 pub record IsReported (side : Side) (status : ℕ) (written written_after : Option (List ℕ)) : Type 0 where
   pub end : NodeState
+  pub holdings : Holdings
+  pub kept : List Kept
+  pub ran : HasRunSoundly side holdings kept end
+  pub over : IsEnded end.engine.stage
   pub is_left : Bool
   pub is_status : status ≡ status_with is_left (status_of_phase (phase_of_end end))
   pub printed : Appends (report_of side end) written written_after

@@ -3,12 +3,12 @@ ghost use Rattle.std.specs.Prelude.{◌≡◌, ◌≢◌, ◌<◌, ◌≤◌, �
 ghost use Rattle.uug_failure.specs.Faults.{IsFolderFault, IsRunFault};
 ghost use Rattle.uug_mailbox.specs.OpenLines.{jobs_of};
 ghost use Rattle.uug_mailbox.specs.WorkStores.{lines_of};
-ghost use Rattle.uug_session.specs.Engine.{HasFailed};
+ghost use Rattle.uug_session.specs.Engine.{HasFailed, IsEnded};
 ghost use Rattle.uug_session.specs.Node.{node_of};
-ghost use Rattle.uug_spool_call.specs.Reported.{IsReported, status_with};
+ghost use Rattle.uug_spool_call.specs.Reported.{HasRunSoundly, IsReported, status_with};
 ghost use Rattle.uug_stream.specs.Fault.{StopsWriting};
 ghost use Rattle.uug_stream.specs.Streams.{Appends, CountsFault};
-ghost use Rattle.uug_transfer.specs.BufferedNodes.{node_in};
+ghost use Rattle.uug_transfer.specs.BufferedNodes.{IsLed, KeepsJobs, node_in, spool_in};
 ghost use Rattle.uug_transfer.specs.Ends.{phase_of_end, report_of, status_of_phase};
 ghost use Rattle.uug_transfer.specs.SessionFaults.{UnlessUnsettled};
 ghost use Rattle.uug_transfer.specs.Settling.{LosesNoJob, StaysInStore};
@@ -17,7 +17,7 @@ use crate::arrivals::{Arrivals, finish_arrivals};
 use crate::notices::mail_failed;
 use crate::public_files::{add_public, look_at_public};
 use crate::spool_call::{SpoolCall, paths_of};
-use crate::spool_end::SpoolEnd;
+use crate::spool_end::{SpoolEnd, SpoolFiles};
 use crate::telling::{begin_call, end_call, tell_passed_over};
 use crate::work::{names_of, read_work};
 use std::alloc::{AllocError, Allocator};
@@ -124,9 +124,9 @@ where
 }
 
 /// The end has its session.
-fn run_end<A, R, L>(
+fn run_end<'a, 'p, A, R, L>(
     alloc: A,
-    end: &mut SpoolEnd<'_, '_, R, A>,
+    end: &mut SpoolEnd<'a, 'p, R, A>,
     line: &mut L,
     limits: PatienceLimits,
 ) -> Result<(), SessionFault>
@@ -134,6 +134,20 @@ where
     A: Allocator + Copy,
     R: Files<File = File>,
     L: EndLine,
+    // Events led the end on, beside files that it gives and accepts as before; and what it had kept stays.
+    ensures led { IsLed
+        (⟦<SpoolFiles<'a, 'p, R, A> as Spool>⟧.holdings (spool_in end.old.buffered))
+        (⟦<SpoolFiles<'a, 'p, R, A> as Spool>⟧.holdings (spool_in end.new.buffered))
+        (⟦<SpoolFiles<'a, 'p, R, A> as Spool>⟧.kept (spool_in end.old.buffered))
+        (⟦<SpoolFiles<'a, 'p, R, A> as Spool>⟧.kept (spool_in end.new.buffered))
+        (node_in end.old.buffered) (node_in end.new.buffered) }
+    ensures kept { KeepsJobs
+        (⟦<SpoolFiles<'a, 'p, R, A> as Spool>⟧.holdings (spool_in end.old.buffered))
+        (⟦<SpoolFiles<'a, 'p, R, A> as Spool>⟧.holdings (spool_in end.new.buffered))
+        (⟦<SpoolFiles<'a, 'p, R, A> as Spool>⟧.kept (spool_in end.old.buffered))
+        (⟦<SpoolFiles<'a, 'p, R, A> as Spool>⟧.kept (spool_in end.new.buffered))
+        (node_in end.old.buffered) (node_in end.new.buffered) }
+    ensures over { IsEnded (node_in end.new.buffered).engine.stage }
     // A job that is over is taken out of its C. files, and nothing else is.
     ensures stays { UnlessUnsettled result (StaysInStore (Some (jobs_of (lines_of end.old.store)))
         (Some (jobs_of (lines_of end.new.store))) (node_in end.old.buffered) (node_in end.new.buffered)) }
@@ -167,6 +181,10 @@ fn begin<'a, 'p, A: Allocator + Copy, R: Files<File = File> + Eprint + Alloc + C
     paths: &'p SpoolPaths<A>,
 ) -> Result<SpoolEnd<'a, 'p, R, A>, RunFault>
     ensures calm { IfOk result (λ end. end.store.disk.faults.count ≡ 0) }
+    ensures ran { IfOk result (λ end. HasRunSoundly call.now.side
+        (⟦<SpoolFiles<'a, 'p, R, A> as Spool>⟧.holdings (spool_in end.buffered))
+        (⟦<SpoolFiles<'a, 'p, R, A> as Spool>⟧.kept (spool_in end.buffered))
+        (node_in end.buffered)) }
     ensures no_other { IfErr result IsFolderFault }
 {
     refuse_links(alloc, rt, paths)?;
@@ -248,6 +266,9 @@ fn answer_of<S: Spool, A: Allocator + Copy, O: Output>(
     ensures no_other { IfErr result IsRunFault }
     ensures no_usage { result ≢ Err ToolFault.Usage }
     ensures device { result ≡ Err ToolFault.Device → IsErr session }
+    // What has failed on the disk is never a session that is over.
+    ensures jobs { session ≡ Err SessionFault.Jobs → result ≡ Err ToolFault.Device }
+    ensures number { session ≡ Err SessionFault.Number → result ≡ Err ToolFault.Device }
     ensures memory { session ≡ Err SessionFault.Memory → result ≡ Err ToolFault.Memory }
 {
     if let Err(SessionFault::Memory) = session {

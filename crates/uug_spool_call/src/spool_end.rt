@@ -6,8 +6,10 @@ ghost use Rattle.uug_conversation.specs.MemoryHoldings.{kept_of};
 ghost use Rattle.uug_mailbox.specs.MailHoldings.{mail_holdings};
 ghost use Rattle.uug_mailbox.specs.OpenLines.{jobs_of};
 ghost use Rattle.uug_mailbox.specs.Places.{shown_public};
-ghost use Rattle.uug_mailbox.specs.Placing.{came_of};
-ghost use Rattle.uug_mailbox.specs.WorkStores.{lines_of};
+ghost use Rattle.uug_mailbox.specs.Placing.{came_of, marks_of, no_marks};
+ghost use Rattle.uug_mailbox.specs.Rewriting.{shown_text};
+ghost use Rattle.uug_mailbox.specs.WorkStores.{files_of, lines_of};
+ghost use Rattle.uug_spool_call.specs.Reported.{HasRunSoundly};
 ghost use Rattle.uug_task.specs.Tasks.{HasBegunAt};
 ghost use Rattle.uug_transfer.specs.BufferedNodes.{node_in, spool_in};
 
@@ -18,10 +20,10 @@ use std::fs::File;
 use std::rt::Files;
 use uug_failure::SystemFailure;
 use uug_mailbox::{Came, Execution, MailSpool, PublicFolder, SpoolFolder, WorkStore, queue_of};
-use uug_session::{Place, Queue, Spool, Stored};
+use uug_session::{Place, Spool, Stored};
 use uug_spool_disk::{SpoolDisk, SpoolPaths};
 use uug_talk::Name;
-use uug_task::make_node;
+use uug_task::begin_end;
 use uug_transfer::{BufferedNode, FaultInjector};
 
 /// The files of an end over a spool.
@@ -64,8 +66,25 @@ impl<'a, 'p, R: Files<File = File>, A: Allocator + Copy> SpoolEnd<'a, 'p, R, A> 
         ensures executions { IfOk result (λ end. end.executions ≡ work.executions) }
         ensures unread { IfOk result (λ end. end.unread ≡ work.unread) }
         ensures ungiven { IfOk result (λ end. end.ungiven ≡ work.ungiven) }
+        ensures aside { IfOk result (λ end. end.aside ≡ work.aside) }
+        ensures texts { IfOk result (λ end. files_of end.store ≡ map shown_text work.texts.items) }
+        // What it gives is what waits, and what had come is known.
+        ensures holdings { IfOk result (λ end.
+            ⟦<SpoolFiles<'a, 'p, R, A> as Spool>⟧.holdings (spool_in end.buffered)
+            ≡ mail_holdings call.now.is_lenient call.now.tells_digests
+            (shown_public public) (map kept_of work.files.items)) }
+        ensures kept { IfOk result (λ end.
+            ⟦<SpoolFiles<'a, 'p, R, A> as Spool>⟧.kept (spool_in end.buffered) ≡ []) }
+        ensures came { IfOk result (λ end. came_of (spool_in end.buffered).folder ≡ came.items) }
+        ensures marks { IfOk result (λ end.
+            marks_of (spool_in end.buffered).folder ≡ no_marks) }
         ensures begun { IfOk result (λ end. HasBegunAt call.now.side place
             (at_start (take (min work.offered JOBS_MAX) (jobs_of work.lines.items)) [] []) (node_in end.buffered)) }
+        // It came soundly to its session, and has run it so far.
+        ensures ran { IfOk result (λ end. HasRunSoundly call.now.side
+            (⟦<SpoolFiles<'a, 'p, R, A> as Spool>⟧.holdings (spool_in end.buffered))
+            (⟦<SpoolFiles<'a, 'p, R, A> as Spool>⟧.kept (spool_in end.buffered))
+            (node_in end.buffered)) }
     {
         let queue = match queue_of(alloc, work.lines.as_slice(), work.offered) {
             Ok(queue) => queue,
@@ -88,7 +107,8 @@ impl<'a, 'p, R: Files<File = File>, A: Allocator + Copy> SpoolEnd<'a, 'p, R, A> 
             ..
         } = work;
         let spool = files_over(alloc, rt, call, paths, came, files, public);
-        match at_line(alloc, call, place, queue, spool) {
+        let injector = FaultInjector::without_faults(call.thinning);
+        match begin_end(alloc, call.side, place, queue, spool, injector) {
             Ok(buffered) => Ok(SpoolEnd {
                 buffered,
                 store: WorkStore::new(alloc, SpoolDisk::new(alloc, rt, paths), lines, texts),
@@ -132,7 +152,9 @@ fn files_over<'a, 'p, R: Files<File = File>, A: Allocator + Copy>(
 ) -> SpoolFiles<'a, 'p, R, A>
     ensures holdings { ⟦<SpoolFiles<'a, 'p, R, A> as Spool>⟧.holdings result
         ≡ mail_holdings call.now.is_lenient call.now.tells_digests (shown_public public) (map kept_of files.items) }
+    ensures kept { ⟦<SpoolFiles<'a, 'p, R, A> as Spool>⟧.kept result ≡ [] }
     ensures came { came_of result.folder ≡ came.items }
+    ensures marks { marks_of result.folder ≡ no_marks }
 {
     let folder = SpoolFolder::new(SpoolDisk::new(alloc, rt, paths), came);
     MailSpool::new(
@@ -143,21 +165,4 @@ fn files_over<'a, 'p, R: Files<File = File>, A: Allocator + Copy>(
         call.is_lenient,
         call.tells_digests,
     )
-}
-
-/// An end with these jobs and files at its line, whose session begins.
-fn at_line<S: Spool + Drop, A: Allocator + Copy>(
-    alloc: A,
-    call: &SpoolCall<'_>,
-    place: Place,
-    queue: Queue<A>,
-    spool: S,
-) -> Result<BufferedNode<S, A>, AllocError>
-    ensures begun { IfOk result (λ buffered.
-        HasBegunAt call.now.side place queue (node_in buffered)) }
-    ensures spool { IfOk result (λ buffered. spool_in buffered ≡ spool) }
-{
-    let node = make_node(alloc, call.side, place, queue, spool)?;
-    let buffered = BufferedNode::new(alloc, node, FaultInjector::without_faults(call.thinning))?;
-    Ok(buffered)
 }

@@ -6,6 +6,7 @@ ghost use Rattle.uug_mailbox.specs.OpenLines.{file_lines};
 ghost use Rattle.uug_spool_call.specs.PublicNames.{behind_public, named_job, named_line, named_lines, public_name};
 ghost use Rattle.uug_spool_call.specs.Budgets.{budget_after, budget_fits};
 ghost use Rattle.uug_spool_call.specs.GivenData.{AddsNamed, data_name};
+ghost use Rattle.uug_spool_call.specs.Works.{IsAppended};
 ghost use Rattle.uug_talk.specs.Lines.{lines as lines_of_text};
 ghost use Rattle.uug_talk.specs.Name.{name_of};
 ghost use Rattle.uug_talk.specs.declared.mode.TheConstants.{MODE_MAX};
@@ -273,7 +274,9 @@ fn count_jobs(lines: &[OpenLine], front: usize) -> usize {
 }
 
 /// Appends what waits in one C. file to what waits in those before.
-fn append<A: Allocator>(work: &mut Work<A>, more: &mut Work<A>) -> Result<(), AllocError> {
+fn append<A: Allocator>(work: &mut Work<A>, more: &mut Work<A>) -> Result<(), AllocError>
+    ensures { OnOk result (IsAppended work.old more.old work.new) }
+{
     work.names.append(&mut more.names)?;
     work.lines.append(&mut more.lines)?;
     work.texts.append(&mut more.texts)?;

@@ -10,7 +10,7 @@ ghost use Rattle.uug_session.specs.Engine.{BeginsSession, HasFailed, all_ahead};
 ghost use Rattle.uug_session.specs.Node.{node_of, spool_of};
 ghost use Rattle.uug_session.specs.Sessions.{HoldsNothing};
 ghost use Rattle.uug_stream.specs.Streams.{CountsFault};
-ghost use Rattle.uug_task.specs.Tasks.{HasBegunAt, beginning_of, identity_at};
+ghost use Rattle.uug_task.specs.Tasks.{HasBegunAt, beginning_at, beginning_of, identity_at};
 ghost use Rattle.uug_transfer.specs.BufferedNodes.{node_in, spool_in};
 ghost use Rattle.uug_transfer.specs.EndOver.{IsEndFault};
 
@@ -68,8 +68,6 @@ impl<S: Spool + Drop, J: Drop, N: Drop, A: Allocator + Copy> EndParts<S, J, N, A
         ensures jobs { IfOk result (λ end. end.jobs ≡ self.jobs) }
         ensures number { IfOk result (λ end. end.number ≡ self.number) }
     {
-        a_node_begins_as_an_end();
-        events_follow_events();
         let EndParts {
             place,
             queue,
@@ -77,9 +75,7 @@ impl<S: Spool + Drop, J: Drop, N: Drop, A: Allocator + Copy> EndParts<S, J, N, A
             jobs,
             number,
         } = self;
-        note_types(&place, &queue);
-        let node = make_node(alloc, side, place, queue, spool)?;
-        let buffered = BufferedNode::new(alloc, node, injector)?;
+        let buffered = begin_end(alloc, side, place, queue, spool, injector)?;
         Ok(TransferEnd {
             buffered,
             jobs,
@@ -128,6 +124,31 @@ impl<S: Spool + Drop, J: JobTexts + Drop, N: TextFile + Drop, A: Allocator + Cop
         let answer = call_over(alloc, side, &mut end, line, BYTES_MAX, limits, output);
         Ok(FinishedEnd { end, answer })
     }
+}
+
+/// Begins the session of an end with these jobs and files. What it says first is to be written.
+pub fn begin_end<S: Spool + Drop, A: Allocator + Copy>(
+    alloc: A,
+    side: Side,
+    place: Place,
+    queue: Queue<A>,
+    spool: S,
+    injector: FaultInjector,
+) -> Result<BufferedNode<S, A>, AllocError>
+    ensures begun { IfOk result (λ buffered. HasBegunAt side place queue (node_in buffered)) }
+    ensures ran { IfOk result (λ buffered. HasRun side
+        (beginning_at place queue (S.holdings spool) (S.kept spool))
+        (S.kept (spool_in buffered)) (node_in buffered)) }
+    ensures sound { IfOk result (λ _.
+        IsSoundBeginning (beginning_at place queue (S.holdings spool) (S.kept spool))) }
+    ensures spool { IfOk result (λ buffered. spool_in buffered ≡ spool) }
+{
+    a_node_begins_as_an_end();
+    events_follow_events();
+    note_types(&place, &queue);
+    let node = make_node(alloc, side, place, queue, spool)?;
+    let buffered = BufferedNode::new(alloc, node, injector)?;
+    Ok(buffered)
 }
 
 /// Brings in what the types say of an end's place, and of its jobs.

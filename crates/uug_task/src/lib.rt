@@ -6,7 +6,7 @@ pub mod laws;
 mod places;
 mod task;
 
-pub use end_parts::{EndParts, FinishedEnd, make_node};
+pub use end_parts::{EndParts, FinishedEnd, begin_end, make_node};
 pub use places::place_in_pair;
 pub use task::{
     CallTask, MOST_MIN, ReportPlace, SECONDS_MAX, SESSIONS_MAX, Station, Terms, WAIT_MAX, may_have,

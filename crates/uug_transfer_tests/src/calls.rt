@@ -7,6 +7,7 @@ mod faults;
 mod folders;
 mod follow;
 mod keeping;
+mod memory_folder;
 mod memory_jobs;
 mod memory_text;
 mod numbers;

@@ -1,8 +1,14 @@
 //! A call that asks for a file, and is stopped at each operation of its line, of its files of jobs and of its folder in
 //! turn. Then it is made again over a good line. No job is gone whose file is not in the folder, and none is done
 //! again.
-ghost use Rattle.std.specs.Prelude.{None, false};
+ghost use Rattle.std.specs.Prelude.{Some};
+ghost use Rattle.uug_folder.specs.OpenJobs.{jobs_in};
+ghost use Rattle.uug_talk.specs.Lines.{lines};
+ghost use Rattle.uug_transfer.specs.BufferedNodes.{node_in, spool_in};
+ghost use Rattle.uug_transfer.specs.SessionFaults.{UnlessUnsettled};
+ghost use Rattle.uug_transfer.specs.Settling.{LosesNoJob, StaysInStore, TellsFailed};
 
+use super::memory_folder::MemoryFolder;
 use super::memory_jobs::MemoryJobs;
 use super::memory_text::MemoryText;
 use super::scenes::{AMPLE, CLEAN, LIMITS, NEVER};
@@ -11,10 +17,9 @@ use super::{Manner, buffered, place, spool};
 use crate::calls::assertions::{assert_same, assert_so};
 use std::alloc::Global;
 use std::process::Abort;
-use uug_folder::{Folder, FolderFailed, FolderSpool, JobsFile, read_jobs};
-use uug_session::{Node, Queue};
-use uug_talk::Name;
-use uug_transfer::{BufferedNode, EndLine, FaultInjector, run_session};
+use uug_folder::{FolderSpool, JobsFile, read_jobs};
+use uug_session::{Node, Queue, Spool};
+use uug_transfer::{BufferedNode, EndLine, FaultInjector, SessionFault, run_session};
 
 /// The first operation of each that fails, counted from 0. All after it fail too.
 #[derive(Clone, Copy)]
@@ -29,42 +34,7 @@ const JOBS: &[u8] = b"# mine\nrequest x y u\n";
 /// The file of jobs when all are over.
 const LEFT: &[u8] = b"# mine\n";
 
-/// A folder that knows whether the file is in it.
-#[derive(Drop)]
-struct OneFolder {
-    holds: bool,
-    puts: usize,
-    fails_at: usize,
-    faults: u64,
-}
-
-impl Folder for OneFolder {
-    ghost placed = { λ _. None };
-
-    ghost fault_count = { λ folder. folder.faults };
-
-    ghost barred = { λ _ _. false };
-
-    fn put(&mut self, name: &Name, bytes: &[u8]) -> Result<(), FolderFailed> {
-        if self.puts >= self.fails_at {
-            self.faults = self.faults.saturating_add(1);
-            return Err(FolderFailed);
-        }
-        self.puts = self.puts.saturating_add(1);
-        self.holds = name.as_bytes() == b"y".as_slice() && bytes == b"hi".as_slice();
-        Ok(())
-    }
-
-    fn is_barred(&self, _name: &Name) -> bool {
-        false
-    }
-
-    fn faults(&self) -> u64 {
-        self.faults
-    }
-}
-
-type AskingEnd = BufferedNode<FolderSpool<OneFolder, Global>, Global>;
+type AskingEnd = BufferedNode<FolderSpool<MemoryFolder, Global>, Global>;
 
 type MemoryStore = JobsFile<MemoryJobs, Global>;
 
@@ -81,15 +51,9 @@ fn asking(
     rt: &impl Abort,
     alloc: Global,
     jobs: Queue<Global>,
-    holds: bool,
     fails_at: usize,
 ) -> AskingEnd {
-    let folder = OneFolder {
-        holds,
-        puts: 0,
-        fails_at,
-        faults: 0,
-    };
+    let folder = MemoryFolder::new(alloc, fails_at);
     let files = FolderSpool::new(alloc, Vec::new(alloc), folder);
     let node = Node::caller(alloc, place(rt, b"a", b"b", None), jobs, files);
     let buffered = BufferedNode::new(alloc, node.expect(rt, "an end"), FaultInjector::none());
@@ -107,6 +71,28 @@ fn line_to_giver(rt: &impl Abort, alloc: Global, manner: Manner) -> ScriptedLine
     ScriptedLine::new(buffered(rt, alloc, giver.expect(rt, "an end")), manner)
 }
 
+/// Runs the session itself. The clauses hold of the texts in memory: what is over is taken out of the jobs, and nothing
+/// else, and `failed` says why a job has failed.
+fn run(
+    alloc: Global,
+    end: &mut AskingEnd,
+    jobs: &mut MemoryStore,
+    line: &mut ScriptedLine,
+) -> Result<(), SessionFault>
+    ensures stays { UnlessUnsettled result
+        (StaysInStore (Some (jobs_in (lines jobs.old.file.text.items)))
+        (Some (jobs_in (lines jobs.new.file.text.items))) (node_in end.old) (node_in end.new)) }
+    ensures none_lost { LosesNoJob (Some (jobs_in (lines jobs.old.file.text.items)))
+        (Some (jobs_in (lines jobs.new.file.text.items))) (node_in end.old) (node_in end.new) }
+    ensures told { UnlessUnsettled result
+        (TellsFailed (⟦<FolderSpool<MemoryFolder, Global> as Spool>⟧.holdings (spool_in end.old))
+        (Some jobs.old.file.told.items) (Some jobs.new.file.told.items)
+        (node_in end.old) (node_in end.new)) }
+{
+    let mut number = MemoryText::new(b"", false);
+    run_session(alloc, end, jobs, &mut number, line, AMPLE, LIMITS)
+}
+
 /// Runs the session itself, at a line that is the end's own.
 fn talk(
     rt: &impl Abort,
@@ -115,15 +101,14 @@ fn talk(
     jobs: &mut MemoryStore,
     line: &mut ScriptedLine,
 ) -> Came {
-    let mut number = MemoryText::new(b"", false);
-    let answer = run_session(alloc, end, jobs, &mut number, line, AMPLE, LIMITS);
+    let answer = run(alloc, end, jobs, line);
     let broken = jobs.file.has_failed() || line.faults() > 0;
     assert_same(rt, answer.is_err(), broken);
     let folder = end.node().spool().folder();
     Came {
-        holds: folder.holds,
-        puts: folder.puts,
-        failed: broken || folder.faults > 0,
+        holds: folder.holds(b"y", b"hi"),
+        puts: folder.puts(),
+        failed: broken || folder.has_failed(),
     }
 }
 
@@ -146,11 +131,10 @@ fn session(
     rt: &impl Abort,
     alloc: Global,
     jobs: &mut MemoryStore,
-    holds: bool,
     stop: Stop,
 ) -> Came {
     let queue = read_jobs(alloc, jobs.file.text()).expect(rt, "jobs");
-    let mut end = asking(rt, alloc, queue, holds, stop.folder);
+    let mut end = asking(rt, alloc, queue, stop.folder);
     let came = talk_at(rt, alloc, &mut end, jobs, stop.line);
     drop(end);
     came
@@ -158,7 +142,7 @@ fn session(
 
 /// Runs a session that is stopped, and one that goes on. Returns whether the first one was stopped at all.
 fn go_on(rt: &impl Abort, alloc: Global, jobs: &mut MemoryStore, stop: Stop) -> bool {
-    let first = session(rt, alloc, jobs, false, stop);
+    let first = session(rt, alloc, jobs, stop);
     let gone = jobs.file.text() == LEFT;
     assert_so(rt, !gone || first.holds);
     jobs.file.mend();
@@ -167,8 +151,8 @@ fn go_on(rt: &impl Abort, alloc: Global, jobs: &mut MemoryStore, stop: Stop) -> 
         jobs: NEVER,
         folder: NEVER,
     };
-    let second = session(rt, alloc, jobs, first.holds, good);
-    assert_so(rt, second.holds);
+    let second = session(rt, alloc, jobs, good);
+    assert_so(rt, first.holds || second.holds);
     assert_same(rt, second.puts, if gone { 0 } else { 1 });
     assert_same(rt, jobs.file.text(), LEFT);
     first.failed

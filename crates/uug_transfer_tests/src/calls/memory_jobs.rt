@@ -1,5 +1,5 @@
 //! The files of an end's jobs, in memory.
-ghost use Rattle.std.specs.Prelude.{◌≡◌, None};
+ghost use Rattle.std.specs.Prelude.{◌≡◌, Some};
 
 use arrayvec::ArrayVec;
 use std::alloc::Allocator;
@@ -54,7 +54,9 @@ impl MemoryJobs {
 
     /// Counts a call, and returns whether it fails.
     fn fails(&mut self) -> bool
-        ensures { self.new.faults ≡ self.old.faults }
+        ensures text { self.new.text ≡ self.old.text }
+        ensures told { self.new.told ≡ self.old.told }
+        ensures faults { self.new.faults ≡ self.old.faults }
     {
         self.calls = self.calls.saturating_add(1);
         self.calls > self.fails_at
@@ -62,9 +64,9 @@ impl MemoryJobs {
 }
 
 impl JobTexts for MemoryJobs {
-    ghost text = { λ _. None };
+    ghost text = { λ jobs. Some jobs.text.items };
 
-    ghost told = { λ _. None };
+    ghost told = { λ jobs. Some jobs.told.items };
 
     ghost fault_count = { λ jobs. jobs.faults };
 
@@ -74,21 +76,22 @@ impl JobTexts for MemoryJobs {
     }
 
     fn replace(&mut self, bytes: &[u8]) -> Result<(), FolderFailed> {
-        if self.fails() {
+        if self.fails() || bytes.len() > TEXT_MAX {
             self.faults = self.faults.saturating_add(1);
             return Err(FolderFailed);
         }
         self.text.clear();
-        let _ = self.text.try_extend_from_slice(bytes);
+        let Ok(()) = self.text.try_extend_from_slice(bytes) else {
+            unreachable!();
+        };
         Ok(())
     }
 
     fn tell(&mut self, bytes: &[u8]) -> Result<(), FolderFailed> {
-        if self.fails() {
+        if self.fails() || self.told.try_extend_from_slice(bytes).is_err() {
             self.faults = self.faults.saturating_add(1);
             return Err(FolderFailed);
         }
-        let _ = self.told.try_extend_from_slice(bytes);
         Ok(())
     }
 }

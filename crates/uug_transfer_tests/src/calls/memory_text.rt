@@ -1,5 +1,5 @@
 //! A file of an end, in memory.
-ghost use Rattle.std.specs.Prelude.{None};
+ghost use Rattle.std.specs.Prelude.{Some};
 
 use arrayvec::ArrayVec;
 use std::alloc::Allocator;
@@ -35,7 +35,7 @@ impl MemoryText {
 }
 
 impl TextFile for MemoryText {
-    ghost text = { λ _. None };
+    ghost text = { λ file. Some file.text.items };
 
     ghost fault_count = { λ file. file.faults };
 
@@ -50,7 +50,9 @@ impl TextFile for MemoryText {
             return Err(FolderFailed);
         }
         self.text.clear();
-        let _ = self.text.try_extend_from_slice(bytes);
+        let Ok(()) = self.text.try_extend_from_slice(bytes) else {
+            unreachable!();
+        };
         Ok(())
     }
 

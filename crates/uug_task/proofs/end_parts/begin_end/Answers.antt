@@ -1,10 +1,10 @@
 use Rattle.std.proofs.Common.{refl}
-use Rattle.uug_task.proofs.end_parts.EndParts.begin.Goals as goal
+use Rattle.uug_task.proofs.end_parts.begin_end.Goals as goal
 
 pub returns-clause-sound : goal.returns-clause-sound
 returns-clause-sound g c = record {
   window = c.note_types.ensures.window;
-  modes = g.met.S.Spool.modes c.args.self.spool;
+  modes = g.met.S.Spool.modes c.args.spool;
   names = c.note_types.ensures.names;
   ahead = refl;
 }
