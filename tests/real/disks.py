@@ -5,7 +5,7 @@ import subprocess
 
 from kills import traced
 from lines import Cable, finish, load, wrong
-from suite import Ends, fill_disk, filler, names_in, report, said, scene, text_of, write
+from suite import Ends, fill_disk, filler, leave_room, names_in, report, said, scene, text_of, write
 
 NOBODY = ("setpriv", "--reuid=65534", "--regid=65534", "--clear-groups")
 
@@ -34,9 +34,24 @@ def full_disks(one):
         broken(one, "a full disk", at, lambda ends, at: fill_disk(ends.at(at, "filler")), lambda ends,
                 at: os.remove(ends.at(at, "filler")), None,
                status=3 if at == "alpha" else 1)
-        subprocess.run(["umount", "-l", one.mounted.pop()], check=True)
-        shutil.rmtree(one.path("alpha"), ignore_errors=True)
-        shutil.rmtree(one.path("beta"), ignore_errors=True)
+        one.unmount()
+
+
+@scene("root")
+def disks_with_little_room(one):
+    """A file for which the disk has room in part is not kept: none is cut, and all come when there is room."""
+    for room in range(0, 4):
+        one.mount(one.path("beta"), "100k")
+        ends = Ends(one)
+        ends.give("alpha", long=filler("long", 9000))
+        ends.jobs("alpha", "send long long me")
+        leave_room(ends.at("beta", "filler"), room * 4096)
+        ends.talk()
+        os.remove(ends.at("beta", "filler"))
+        ends.talk()
+        one.row(f"what has come where {room} pages were free", (ends.state("beta"), text_of(ends.at("alpha", "jobs"))),
+                ({"got/long": filler("long", 9000)}, ""))
+        one.unmount()
 
 
 @scene()
@@ -127,7 +142,7 @@ def a_file_that_cant_be_looked_at(one):
 
 @scene("strace")
 def a_file_that_cant_be_opened_for_a_moment(one):
-    """Answers that it may be given later: the job of who asked waits, and the next session brings the file."""
+    """The answer is that it may be given later: the job waits, and the next session brings the file."""
     ends = Ends(one)
     ends.give("beta", late="late\n", y="y\n")
     ends.jobs("alpha", "request late late me", "request y y me")
@@ -135,8 +150,11 @@ def a_file_that_cant_be_opened_for_a_moment(one):
     called = ends.answer(one.line, front=traced(one, *refused))
     cable = Cable(one)
     caller = ends.call(cable.line)
-    one.row("call", caller.all(), (0, report("caller", pending=1, struck=1), ""))
-    one.row("answer", called.end().all(), (0, report("called"), said("beta/send/late is not given: it can't be read")))
+    later = "put off: the other end gives it later, or another file came than it told of"
+    one.row("call", caller.all(), (0, report("caller", pending=1, struck=1), said(f"request late late me: {later}")))
+    called = called.end()
+    one.row("answer", (called.status, called.out), (0, report("called")))
+    one.holds("it is said", said("beta/send/late is not given: it can't be read") in called.err, called.err)
     one.row("the answer, and the job", (b"RN6\0" in cable.heard, text_of(ends.at("alpha", "jobs"))), (True, "request late late me\n"))
     caller, called = ends.talk()
     one.row("the next session", (caller.all(), called.all(), text_of(ends.at("alpha", "got/late"))),

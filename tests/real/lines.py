@@ -106,6 +106,15 @@ def door_at(one, name):
     return door
 
 
+def caller_at(one, ends, name, seconds):
+    """Starts the end that calls, and returns it, and its line from the other side, on which it was greeted."""
+    with door_at(one, name) as door:
+        caller = one.start(ends.words("call", f"unix:{name}", "--timeout", seconds))
+        line, _ = door.accept()
+    line.sendall(b"\x10Shere=beta\0")
+    return caller, line
+
+
 def let_in(one):
     """Returns a line on which the called end has let in alpha, and speaks g."""
     line = socket.socket(socket.AF_UNIX)
@@ -270,14 +279,25 @@ def a_line_that_babbles(one):
 def a_line_that_is_reset(one):
     """The program says why a line failed, where its session is not done."""
     ends = load(one)
-    with door_at(one, "reset") as door:
-        caller = one.start(ends.words("call", "unix:reset", "--timeout", "5"))
-        line, _ = door.accept()
-    line.sendall(b"\x10Shere=beta\0")
+    caller, line = caller_at(one, ends, "reset", "5")
     # what it says then is left unread
     select.select([line], [], [], 10)
     line.close()
     one.row("who calls", caller.end(20).all(), (1, report("caller", "hungup", pending=4), said("unix:reset: connection reset")))
+
+
+@scene()
+def a_line_that_takes_no_more(one):
+    """An end whose line takes nothing more is over with its next read, though nothing says that the other end is gone."""
+    ends = load(one)
+    caller, line = caller_at(one, ends, "deaf", "2")
+    hear(line, b"Salpha")
+    line.shutdown(socket.SHUT_RD)
+    begun = time.monotonic()
+    line.sendall(b"\x10ROK\0\x10Pg\0")
+    one.row("who calls", caller.end(60).all(), (1, report("caller", "hungup", pending=4), said("unix:deaf: broken pipe")))
+    one.holds("at once", time.monotonic() - begun < 8, time.monotonic() - begun)
+    line.close()
 
 
 @scene()
@@ -291,10 +311,7 @@ def ends_that_write_no_more(one):
             line.sendall(INITA)
             hear(line, b"\x10\x09")
         else:
-            with door_at(one, "dying") as door:
-                called = one.start(ends.words("call", "unix:dying", "--timeout", "5"))
-                line, _ = door.accept()
-            line.sendall(b"\x10Shere=beta\0")
+            called, line = caller_at(one, ends, "dying", "5")
             hear(line, b"Salpha")
         begun = time.monotonic()
         line.close()

@@ -4,6 +4,7 @@ import os
 import threading
 import time
 
+from kills import traced
 from lines import Cable
 from suite import Ends, filler, names_in, report, said, scene, text_in, text_of, wait_until, write
 
@@ -77,6 +78,11 @@ def copies_go_where_their_jobs_go(one):
     one.row("it is tried again with its copy", (caller.out, text_of(ends.at("beta", "got/tried"))),
             (report("caller", struck=1), "failed\n"))
     one.row("and stays as long as it is told of", names(ends, "failed.files"), ["failed"])
+    ends.give("alpha", failed="mine\n")
+    ends.jobs("alpha", "send failed mine me")
+    ends.talk()
+    one.row("a file in `send` goes before it", text_of(ends.at("beta", "got/mine")), "mine\n")
+    os.remove(ends.at("alpha", "send/failed"))
     # a job waits whose file is not there, and one whose copy is another's file by now
     ends.jobs("alpha", "send waits early me")
     one.row("a name that a job has", queue(one, "send", "files/waits", "late", "--user", "me").out,
@@ -177,6 +183,31 @@ def jobs_that_come_late(one):
     one.holds("jobs were appended", len(appended) > 5, appended)
 
 
+@scene("strace")
+def a_kill_behind_the_renaming(one):
+    """A job that is appended just before the file of jobs is locked is in the new one as soon as that has its name."""
+    ends = Ends(one)
+    ends.give("alpha", x="x\n")
+    opened = lambda: [line for line in text_of(one.path("trace")).splitlines() if "openat(" in line]
+
+    def start(*more):
+        ends.jobs("alpha", "send x x me")
+        front = traced(one, "-e", "trace=openat,flock", "-P", "alpha/jobs", *more)
+        return ends.answer(one.line), one.start(ends.words("call", one.line), front=front)
+
+    called, caller = start()
+    one.row("a session", (caller.end().status, called.end().status), (0, 0))
+    # the new file is opened to be appended to when it has its name; before that the old one is opened, and locked
+    before = next(number for number, line in enumerate(opened()) if "O_APPEND" in line)
+    os.remove(one.path("trace"))
+    called, caller = start("-e", "inject=flock:delay_enter=500000", "-e", f"inject=openat:signal=SIGKILL:when={before + 1}")
+    wait_until(lambda: len(opened()) == before)
+    write(ends.at("alpha", "jobs"), "send y y me\n", "ab")
+    caller.end()
+    called.end()
+    one.row("the jobs behind a kill", text_of(ends.at("alpha", "jobs")), "send y y me\n")
+
+
 @scene()
 def the_same_job_twice(one):
     """Of two lines that are the same each is one job."""
@@ -204,6 +235,8 @@ def more_than_a_session_offers(one):
     one.row("what waits", text_of(ends.at("alpha", "jobs")), "send b b me\nsend c c me\n")
     caller, called = ends.talk(call=["--most", "1048576"])
     one.row("the next one", (caller.all(), text_of(ends.at("alpha", "jobs"))), ((0, report("caller", struck=2), ""), ""))
+    one.row("what has come", {name: text_of(ends.at("beta", f"got/{name}")) for name in names_in(ends.at("beta", "got"))},
+            {"a": filler("a", 600_000), "b": filler("b", 600_000), "c": "c\n"})
 
 
 @scene()

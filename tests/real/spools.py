@@ -4,7 +4,7 @@ import os
 import re
 import stat
 
-from suite import fill_disk, filler, files_below, listens_at, masked, names_in, report, said, scene, text_of, wait_until, write
+from suite import fill_disk, filler, files_below, leave_room, listens_at, masked, names_in, report, said, scene, text_of, wait_until, write
 
 NOBODY = 65534
 AS_NOBODY = ("setpriv", f"--reuid={NOBODY}", f"--regid={NOBODY}", "--clear-groups") if os.geteuid() == 0 else ()
@@ -107,6 +107,8 @@ def fill(nodes):
         write(f"{pub}/open-{node}", filler(f"open {node}", 3000))
         os.chmod(f"{pub}/open-{node}", 0o644)
         nodes.queue(node, "C.A1", f"S {src}/plain ~/plain u -c D.0 0644 ")
+        # a copy goes as it was when it was queued
+        write(f"{src}/copied", "changed since\n")
         nodes.queue(node, "C.A2", f"S {src}/copied /copied v -C D.0002 0644 ", _0002=filler(f"copied {node}", 5000))
         nodes.mail(node, "0003", f"mail of {node}\n")
         nodes.queue(node, "C.Z4", f"R ~/open-{other} {pub}/asked w -d")
@@ -337,18 +339,57 @@ def digests_over_a_spool(one):
     one.row("who is called", (called.end().all(), nodes.pub("beta")), ((0, report("called"), ""), {"y": "hello\n"}))
 
 
-@scene("root")
-def spools_on_a_full_disk(one):
-    """Nothing is said to be stored that is not, or is cut; and nothing is given up for it."""
+@scene()
+def long_files_over_a_spool(one):
+    """Each kind of file comes whole: a file without a copy, a copy, a mail, and a public file that is asked for."""
+    nodes = Nodes(one)
+    nodes.known("beta", "alpha")
+    long = {name: filler(name, 70_000) for name in ("plain", "copied", "mail", "asked")}
+    write(nodes.at("alpha", "src/plain"), long["plain"])
+    write(nodes.at("beta", "pub/asked"), long["asked"])
+    os.chmod(nodes.at("beta", "pub/asked"), 0o644)
+    nodes.queue("alpha", "C.A1", f"S {nodes.at('alpha', 'src')}/plain ~/plain u -c D.0 0644 ", "R ~/asked ~/asked u -d",
+            "S /copied ~/copied u -C D.0002 0644 ", _0002=long["copied"])
+    nodes.mail("alpha", "0003", long["mail"])
+    caller, called = nodes.talk()
+    one.row("both are well", (caller.all(), called.all()), ((0, report("caller", struck=5), ""), (0, report("called"), "")))
+    come = {**nodes.pub("alpha"), **nodes.pub("beta"), "mail": text_of(nodes.at("beta", "spool/alpha/D./D.alphaN0003"))}
+    one.row("what has come", come, long)
+
+
+def small_disk(one):
+    """Returns nodes of which beta is on a small disk, but for its locks, and alpha has a mail and a file for it."""
     one.mount(one.path("beta"), "200k")
     nodes = Nodes(one)
-    # the lock has room
     os.mkdir(one.path("locks"))
     os.rmdir(nodes.at("beta", "lock"))
     os.symlink(one.path("locks"), nodes.at("beta", "lock"))
     nodes.mail("alpha", "0003", filler("mail", 9000))
     nodes.queue("alpha", "C.Z1", f"S {nodes.at('alpha', 'src')}/f ~/f u -C D.0001 0644 ", _0001=filler("f", 9000))
     nodes.known("beta", "alpha")
+    return nodes
+
+
+@scene("root")
+def spools_on_a_disk_with_little_room(one):
+    """A file for which the disk has room in part is not kept: none is cut, and all come when there is room."""
+    for room in range(1, 6):
+        nodes = small_disk(one)
+        leave_room(nodes.at("beta", "filler"), room * 4096)
+        called = nodes.answer("beta", peer="alpha")
+        nodes.call("alpha", own=False)
+        called.end()
+        os.remove(nodes.at("beta", "filler"))
+        nodes.talk()
+        one.row(f"what has come where {room} pages were free", (text_of(nodes.at("beta", "spool/alpha/D./D.alphaN0003")),
+                nodes.pub("beta"), nodes.there("alpha")), (filler("mail", 9000), {"f": filler("f", 9000)}, {}))
+        one.unmount()
+
+
+@scene("root")
+def spools_on_a_full_disk(one):
+    """Nothing is said to be stored that is not, or is cut; and nothing is given up for it."""
+    nodes = small_disk(one)
     fill_disk(nodes.at("beta", "filler"))
     called = nodes.answer("beta", peer="alpha")
     caller, called = nodes.call("alpha", own=False), called.end()
@@ -453,26 +494,29 @@ def files_that_are_asked_for(one):
 
 @scene("strace")
 def a_public_file_that_cant_be_opened_for_a_moment(one):
-    """Answers that it may be given later: the job of who asked waits, and the next session brings the file."""
+    """The answer is that it may be given later, also where the folder can't be listed: the job waits, and the next session brings
+    the file."""
     from kills import traced
     from lines import Cable
 
     nodes = Nodes(one)
     nodes.known("beta", "alpha")
-    late = nodes.at("beta", "pub/late")
-    write(late, "late\n")
-    os.chmod(late, 0o644)
-    nodes.queue("alpha", "C.N1", "R ~/late ~/late u -d")
-    nodes.mail("alpha", "0002", "two\n")
-    called = nodes.answer("beta", peer="alpha", front=traced(one, "-P", late, "-e", "inject=openat:error=EMFILE:when=1"))
-    cable = Cable(one)
-    caller, called = nodes.call("alpha", line=cable.line, own=False), called.end()
-    one.row("call", caller.all(), (0, report("caller", pending=1, struck=2), ""))
-    one.row("answer", called.all(), (0, report("called"), ""))
-    one.row("the answer, and the job", (b"RN6\0" in cable.heard, sorted(nodes.there("alpha"))), (True, ["beta/C./C.N1"]))
-    caller, called = nodes.talk()
-    one.row("the next session", (caller.all(), called.all(), nodes.pub("alpha")),
-            ((0, report("caller", struck=1), ""), (0, report("called"), ""), {"late": "late\n"}))
+    pub = nodes.at("beta", "pub")
+    write(f"{pub}/late", "late\n")
+    os.chmod(f"{pub}/late", 0o644)
+    for number, (what, path) in enumerate((("the file", f"{pub}/late"), ("its folder", f"{pub}/"))):
+        nodes.queue("alpha", f"C.N{number}", f"R ~/late ~/late{number} u -d")
+        nodes.mail("alpha", f"000{number}", "a mail\n")
+        called = nodes.answer("beta", peer="alpha", front=traced(one, "-P", path, "-e", "inject=openat:error=EMFILE:when=1"))
+        cable = Cable(one)
+        caller, called = nodes.call("alpha", line=cable.line, own=False), called.end()
+        one.row(f"{what}: call", caller.all(), (0, report("caller", pending=1, struck=2), ""))
+        one.row(f"{what}: answer", (called.status, called.out), (0, report("called")))
+        one.row(f"{what}: what is said, and the job", (b"RN6\0" in cable.heard, sorted(nodes.there("alpha"))),
+                (True, [f"beta/C./C.N{number}"]))
+        caller, called = nodes.talk()
+        one.row(f"{what}: the next session", (caller.all(), called.all(), nodes.pub("alpha").get(f"late{number}")),
+                ((0, report("caller", struck=1), ""), (0, report("called"), ""), "late\n"))
 
 
 @scene()
@@ -571,6 +615,26 @@ def what_a_stop_has_left(one):
     one.row("it is said", [line for line in nodes.log("beta") if "ERROR" in line],
             ["uucico alpha - (TIME) ERROR: late is set aside: not a regular file"])
     one.row("nothing is beside its place", [name for name in there if name.startswith(".Temp")], [])
+
+
+@scene("strace")
+def a_file_that_cant_be_looked_at_for_a_moment(one):
+    """A file that a stop has left stays, with its marker, where the system fails to look at it; the next session gives it its place."""
+    from kills import traced
+
+    nodes = Nodes(one)
+    beta = nodes.at("beta", "spool")
+    nodes.known("beta", "alpha")
+    write(f"{beta}/.Temp/alpha/well", "well\n")
+    write(f"{beta}/.Received/alpha/well", "well")
+    refused = ("-P", f"{beta}/.Temp/alpha/well", "-e", "inject=statx,newfstatat,lstat:error=EIO")
+    called = nodes.answer("beta", peer="alpha", front=traced(one, *refused))
+    nodes.call("alpha", own=False)
+    one.row("a fault", called.end().all(), (3, "", said(f"{beta}: error 5", "device fault", f"{beta}: error 5")))
+    one.row("what is there", nodes.there("beta"), {".Temp/alpha/well": "well\n", ".Received/alpha/well": "well"})
+    caller, called = nodes.talk()
+    one.row("the next session", (caller.all(), called.all(), nodes.pub("beta")),
+            ((0, report("caller"), ""), (0, report("called"), ""), {"well": "well\n"}))
 
 
 @scene()

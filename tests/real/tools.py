@@ -77,6 +77,10 @@ def pairs(one):
             (0, report("caller", struck=1) + report("called"), ""))
     one.row("its file", (text_of(one.path("b/got/y")), text_of(one.path("a/jobs"))), ("hello\n", ""))
     one.row("the socket is gone", os.path.lexists(one.path("line")), False)
+    for option in ("--drop-every", "--flip-every"):
+        write(one.path("a/jobs"), "send x z me\n")
+        one.row(f"{option} 2", one.run(["pair", "line", "a", "b", option, "2"]).all(),
+                (1, report("caller", "gaveup", pending=1) + report("called", "gaveup"), ""))
     for folder in ("a/got", "b/send"):
         os.makedirs(one.path(folder), exist_ok=True)
     for end in "ab":

@@ -47,12 +47,7 @@ struct Came {
     failed: bool,
 }
 
-fn asking(
-    rt: &impl Abort,
-    alloc: Global,
-    jobs: Queue<Global>,
-    fails_at: usize,
-) -> AskingEnd {
+fn asking(rt: &impl Abort, alloc: Global, jobs: Queue<Global>, fails_at: usize) -> AskingEnd {
     let folder = MemoryFolder::new(alloc, fails_at);
     let files = FolderSpool::new(alloc, Vec::new(alloc), folder);
     let node = Node::caller(alloc, place(rt, b"a", b"b", None), jobs, files);
@@ -127,12 +122,7 @@ fn talk_at(
 }
 
 /// Runs a session with the jobs that wait then.
-fn session(
-    rt: &impl Abort,
-    alloc: Global,
-    jobs: &mut MemoryStore,
-    stop: Stop,
-) -> Came {
+fn session(rt: &impl Abort, alloc: Global, jobs: &mut MemoryStore, stop: Stop) -> Came {
     let queue = read_jobs(alloc, jobs.file.text()).expect(rt, "jobs");
     let mut end = asking(rt, alloc, queue, stop.folder);
     let came = talk_at(rt, alloc, &mut end, jobs, stop.line);

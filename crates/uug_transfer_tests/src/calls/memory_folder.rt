@@ -37,9 +37,7 @@ impl MemoryFolder {
 
     /// Returns whether a file was put in it under this name, with these bytes.
     pub(super) fn holds(&self, name: &[u8], bytes: &[u8]) -> bool {
-        self.files
-            .iter()
-            .any(|file| file.name.as_bytes() == name && file.bytes.as_slice() == bytes)
+        self.files.iter().any(|file| file.name.as_bytes() == name && file.bytes.as_slice() == bytes)
     }
 
     pub(super) fn has_failed(&self) -> bool {
