@@ -4,7 +4,8 @@ use Rattle.std.specs.Prelude.{IfOk, OnOk}
 use Rattle.uug_conversation.specs.Holdings.{Holdings, Kept}
 use Rattle.uug_conversation.specs.declared.side.Side.{Side}
 use Rattle.uug_events.proofs.NodeRunLemmas.{led_on}
-use Rattle.uug_events.specs.NodeRuns.{IsLedByEvents}
+use Rattle.uug_events.specs.Beginnings.{EndBeginning, IsSoundBeginning}
+use Rattle.uug_events.specs.NodeRuns.{HasRun, IsLedByEvents}
 use Rattle.uug_session.specs.Engine.{IsEnded}
 use Rattle.uug_session.specs.Node.{NodeState}
 use Rattle.uug_stream.specs.Streams.{Appends}
@@ -13,11 +14,15 @@ use Rattle.uug_transfer.specs.BufferedNodes.{IsLed}
 use Rattle.uug_transfer.specs.Ends.{phase_of_end, report_of, status_of_phase}
 use Rattle.uug_spool_call.specs.Reported.{HasRunSoundly, IsReported, status_with}
 
--- an end that has run its session up to here runs it on
-pub runs_on : (side : Side) (h h_after : Holdings) (kept kept_after : List Kept) (before after : NodeState)
+-- an end that came so to its session has come soundly to it
+pub began_soundly : (side : Side) (b : EndBeginning) (h : Holdings) (kept : List Kept) (end : NodeState)
+    → b.holdings ≡ h → IsSoundBeginning b → HasRun side b kept end → HasRunSoundly side h kept end
+began_soundly side b h kept end gives sound ran = record { beginning = b; holdings = gives; sound = sound; ran = ran }
+
+led_soundly : (side : Side) (h h_after : Holdings) (kept kept_after : List Kept) (before after : NodeState)
     → HasRunSoundly side h kept before → IsLed h h_after kept kept_after before after
     → HasRunSoundly side h_after kept_after after
-runs_on side h h_after kept kept_after before after r l = record {
+led_soundly side h h_after kept kept_after before after r l = record {
   beginning = r.beginning;
   holdings = r.holdings ∙ sym l.same;
   sound = r.sound;
@@ -28,6 +33,14 @@ runs_on side h h_after kept kept_after before after r l = record {
         (subst (λ (holdings : Holdings). IsLedByEvents holdings kept kept_after before after) (sym r.holdings) l.led);
   };
 }
+
+-- an end that has run its session up to here runs it on, to what is shown of it
+pub runs_on : (side : Side) (h h_after : Holdings) (kept kept_after : List Kept) (before after shown : NodeState)
+    → HasRunSoundly side h kept before → IsLed h h_after kept kept_after before after → shown ≡ after
+    → HasRunSoundly side h_after kept_after shown
+runs_on side h h_after kept kept_after before after shown r l is =
+    subst (λ (end : NodeState). HasRunSoundly side h_after kept_after end) (sym is)
+    (led_soundly side h h_after kept kept_after before after r l)
 
 pub reported_of : (r : Result ℕ ToolFault) (side : Side) (h : Holdings) (kept : List Kept) (end : NodeState) (is_left : Bool)
     (written written_after : Option (List ℕ)) → HasRunSoundly side h kept end → IsEnded end.engine.stage

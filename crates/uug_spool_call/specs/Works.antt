@@ -1,12 +1,6 @@
 -- What waits in the C. files of a system, one behind the other (this project's profile).
-use Rattle.std.specs.Prelude.{◌≡◌, ◌+◌, ◌^◌, ◌-◌, ℕ, List, [], ◌∷◌, ◌++◌, map, min}
-use Rattle.uug_mailbox.specs.HeldLines.{held_lines}
-use Rattle.uug_mailbox.specs.OpenLines.{file_lines}
-use Rattle.uug_mailbox.specs.Rewriting.{shown_text}
-use Rattle.uug_spool_call.specs.PublicNames.{named_lines}
-use Rattle.uug_spool_call.specs.declared.work.Unread.{Unread}
+use Rattle.std.specs.Prelude.{◌≡◌, ◌+◌, ◌^◌, ◌-◌, ◌++◌, min}
 use Rattle.uug_spool_call.specs.declared.work.Work.{Work}
-use Rattle.uug_talk.specs.Lines.{lines}
 
 -- Each list of what waits in a further C. file stands behind that of those before, and nothing of it is lost.
 pub record IsAppended {A : Type 0} (before more after : Work A) : Type 0 where

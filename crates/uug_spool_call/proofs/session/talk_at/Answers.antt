@@ -2,15 +2,13 @@ use Rattle.std.proofs.Common.{subst, sym}
 use Rattle.uug_session.specs.Engine.{IsEnded}
 use Rattle.uug_session.specs.Node.{NodeState, node_of}
 use Rattle.uug_spool_call.proofs.ReportedLemmas.{reported_of, runs_on}
-use Rattle.uug_spool_call.specs.Reported.{HasRunSoundly}
 use Rattle.uug_spool_call.proofs.WhyLemmas.{device_is_known}
 use Rattle.uug_spool_call.proofs.session.talk_at.Goals as goal
 
 pub returns-clause-reported : goal.returns-clause-reported
 returns-clause-reported g c =
     reported_of _ c.args.call.now.side _ _ (node_of c.node.result.now) _ _ _
-    (subst (λ (end : NodeState). HasRunSoundly c.args.call.now.side _ _ end) (sym c.node.ensures)
-    (runs_on c.args.call.now.side _ _ _ _ _ _ c.in-Ok.ensures.ran c.run_end-session.ensures.led))
+    (runs_on c.args.call.now.side _ _ _ _ _ _ _ c.in-Ok.ensures.ran c.run_end-session.ensures.led c.node.ensures)
     (subst (λ (end : NodeState). IsEnded end.engine.stage) (sym c.node.ensures) c.run_end-session.ensures.over)
     c.answer_of-answer.ensures.status c.answer_of-answer.ensures.appends
 
