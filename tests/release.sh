@@ -1,6 +1,7 @@
 #!/usr/bin/env bash
 # What tools/release.sh makes: two runs make the same bytes, `lintian` finds no error, the archive runs where it is unpacked,
-# and the package is installed into a root of its own, used there, and removed without a trace.
+# and the package is installed into a root of its own, used there, and removed without a trace. In both all of packaging/ is
+# there, and no link of a document is broken.
 #
 #   tests/release.sh [PROGRAM]
 #
@@ -44,10 +45,23 @@ plays() {
     done
 }
 
+# is_whole FOLDER: the files of packaging/ are in it, and each link of its documents to a file leads to one.
+is_whole() {
+    local link broken=0
+    diff -r "$root/packaging" "$1/packaging" || broken=1
+    while read -r link; do
+        [ -e "${link%/*:*}/${link#*:](}" ] || {
+            echo "$link"
+            broken=1
+        }
+    done < <(find "$1" -name '*.md' -exec grep -Ho ']([^)#]\+' {} + | grep -v '](https\?:')
+    [ "$broken" -eq 0 ]
+}
+
 archive_runs() {
     tar -C "$work" -xzf "$work"/one/*.tar.gz
     [ "$("$work/$name/uucpair" --version)" = "uucpair $version" ] &&
-        [ "$(man -l "$work/$name/uucpair.1" 2>/dev/null | head -n 1 | cut -d ' ' -f 1)" = "UUCPAIR(1)" ] &&
+        [ -z "$(man --warnings -l "$work/$name"/docs/*.[15] 2>&1 >/dev/null)" ] &&
         plays "$work/$name/examples" "$work/$name/uucpair"
 }
 
@@ -96,8 +110,10 @@ version=${name#uucpair-}
 version=${version%%-*}
 part "lintian" no_errors
 part "the archive" archive_runs
+part "its documents" is_whole "$work/$name"
 make_root
 part "installed" dpkg_there -i "$package"
+part "its documents there" is_whole "$clean/usr/share/doc/uucpair"
 part "used" is_used
 part "removed" leaves_no_trace
 [ "$failed" -eq 0 ]

@@ -140,9 +140,8 @@ class Plan:
             self.way[crate] = self.seconds(crate) + max(above, default=0)
 
     def seconds(self, crate):
-        """What the crate takes with one process, by the table: of one that is new there as much as a middling one."""
-        middling = sorted(self.table.values())[len(self.table) // 2] if self.table else 100
-        return self.table.get(crate, middling)
+        """What the crate takes with one process, by the table: a middling time where it is new there."""
+        return self.table.get(crate, 120)
 
     def begin(self, waiting, running):
         """The crates that begin now, each with its number of processes. `running` has those that run, with theirs."""
@@ -190,6 +189,13 @@ def link_or_copy(one, other):
         shutil.copy2(one, other)
 
 
+def stop(process):
+    """Ends it where it runs still."""
+    if process.poll() is None:
+        process.terminate()
+        process.wait()
+
+
 class Lane:
     """A crate that is being built, in a copy of the repository."""
 
@@ -226,12 +232,6 @@ class Lane:
     def has_failed(self):
         return self.process.poll() not in (None, 0)
 
-    def stop(self):
-        """Ends it where it runs still."""
-        if self.process.poll() is None:
-            self.process.terminate()
-            self.process.wait()
-
     def end(self):
         """Hands over what came of it. Whether anything was built."""
         self.log.seek(0)
@@ -255,7 +255,8 @@ class Build:
         at_once = max(min(most, free // MEMORY_OF_CRATE), 1)
         self.plan = Plan(needed, table_of(TABLE), processes, at_once)
         self.waiting, self.lanes = [PROGRAM], {}
-        self.took = self.meant = 0
+        # What the crates took, and were to take by the table. At first as if some had taken twice that: an hour for all.
+        self.took, self.meant = 200, 100
 
     def is_alone(self):
         """Whether who began the build was killed."""
@@ -274,14 +275,15 @@ class Build:
         os.replace(f"{self.folder}/progress.new", f"{self.folder}/progress")
 
     def show(self, running):
-        """Tells it of the crates that run, with their processes and their seconds so far."""
-        pace = self.took / self.meant if self.meant else 1
-        left = self.plan.seconds_left(self.waiting, running, pace)
+        """Tells it of the crates that run, with their processes and seconds so far: the slow ones tell the pace already."""
+        means = {crate: expected(self.plan.seconds(crate), jobs) for crate, (jobs, _) in running.items()}
+        slow = [crate for crate, (_, so_far) in running.items() if so_far * self.meant > self.took * means[crate]]
+        pace = (self.took + sum(running[it][1] for it in slow)) / (self.meant + sum(means[it] for it in slow))
+        minutes = max(round(self.plan.seconds_left(self.waiting, running, pace) / 60), 1)
+        time_left = f"about {minutes} minute{'s' * (minutes > 1)} left"
         done = len(self.needed) - len(self.waiting) - len(running)
-        minutes = round(left / 60)
-        time_left = "1 minute" if minutes < 2 else f"{minutes} minutes"
         others = f" and {len(running) - 1} more" if len(running) > 1 else ""
-        self.tell(f"{done} of {len(self.needed)} crates, about {time_left} left, at {[*running][0]}{others}")
+        self.tell(f"{done} of {len(self.needed)} crates, {time_left}, at {[*running][0]}{others}")
 
     def count(self, crate, jobs, seconds):
         """Keeps what a crate took: how fast this machine is."""
@@ -322,7 +324,7 @@ class Build:
             # What is said last is why the build ended.
             lanes = sorted(self.lanes.values(), key=Lane.has_failed)
             for lane in lanes:
-                lane.stop()
+                stop(lane.process)
             for lane in lanes:
                 lane.end()
 
@@ -336,9 +338,7 @@ class Build:
                 self.show({PROGRAM: (jobs, time.monotonic() - begun)})
                 self.pause()
         finally:
-            if process.poll() is None:
-                process.terminate()
-                process.wait()
+            stop(process)
         self.count(PROGRAM, jobs, time.monotonic() - begun)
         return process.returncode == 0
 

@@ -2,7 +2,7 @@
 """Compares what the documents say with the sources: tools/docs_check.py.
 
 Exits 1, with a line for each thing that is not there. In README.md, CHANGELOG.md, CONTRIBUTING.md, docs/*.md and
-docs/uucpair.1:
+the man pages docs/*.[15]:
 
     - a path in backticks is there, as it is written or as the end of a path;
     - a crate is one of crates.txt, and ARCHITECTURE has a row for each;
@@ -19,10 +19,13 @@ Of single documents:
     - in OPERATING's limits a row has the value of each constant that it names, and a law `limits` names the constant
       where the row says *law*. In PROTOCOL a sentence has the value of each constant that it names in brackets.
 
+Of the sources: at most CLAUSES_MAX comments of items (`///`, `//!`) begin with a noun clause ("What ..", "Whether ..").
+
 It can't see whether a promise in words is what its clauses say, nor check names that are one plain word, numbers without a
 constant beside them, or what was measured.
 """
 import functools
+import glob
 import os
 import re
 import sys
@@ -36,7 +39,10 @@ ARCHITECTURE = "docs/ARCHITECTURE.md"
 OPERATING = "docs/OPERATING.md"
 PROOFS = "docs/PROOFS.md"
 PROTOCOL = "docs/PROTOCOL.md"
+MAN_PAGES = (".1", ".5")
 CODE = re.compile(r"`([^`\n]+)`")
+CLAUSE = re.compile(r"\s*//[/!] (What|Whether|How|Who|Whose|Which|Where|When|Why|So many|Of|As|Behind|Nothing|None)\b")
+CLAUSES_MAX = 20
 OPTION = re.compile(r"(?<![\w-])--[a-z][a-z-]*")
 ENDINGS = tuple(".rt .antt .edit .sh .py .c .md .script .report .ladder .bytes .listing .bash".split())
 FOLDERS = tuple("crates src specs proofs must-fail tests tools interop bench examples docs packaging .ci".split())
@@ -55,12 +61,12 @@ def complain(path, line, text):
 
 
 def documents():
-    docs = [path for path in sources.files() if path.startswith("docs/") and path.endswith((".md", ".1"))]
+    docs = [path for path in sources.files() if path.startswith("docs/") and path.endswith((".md", *MAN_PAGES))]
     return ["README.md", "CHANGELOG.md", "CONTRIBUTING.md", *docs]
 
 
 def from_man(line):
-    """A line of the man page, whose options, paths and literals count as code."""
+    """A line of a man page, whose options, paths and literals count as code."""
     line = re.sub(r"\bFl \\-([a-z][a-z\\-]*)", r"`--\1`", line).replace("\\-", "-")
     return re.sub(r"\b(?:Pa|Ql|Nm|Li) (\S+)", r"`\1`", line)
 
@@ -69,7 +75,7 @@ def from_man(line):
 def lines_of(path):
     """The lines of a document with their numbers."""
     lines = sources.read(path).split("\n")
-    return list(enumerate(map(from_man, lines) if path.endswith(".1") else lines, 1))
+    return list(enumerate(map(from_man, lines) if path.endswith(MAN_PAGES) else lines, 1))
 
 
 def codes_of(path):
@@ -380,6 +386,20 @@ def check_edits(path):
                 complain(path, number, f"there are {count} wrong bodies, not {told}")
 
 
+def check_comments():
+    """Complains of the comments of items that begin with a noun clause, where there are too many."""
+    found = []
+    for path in sorted(glob.glob("crates/*/src/**/*.rt", recursive=True)):
+        before = ""
+        for number, line in lines_of(path):
+            if CLAUSE.match(line) and not before.lstrip().startswith(("///", "//!")):
+                found.append((path, number, "begins with a noun clause"))
+            before = line
+    if len(found) > CLAUSES_MAX:
+        for one in found:
+            complain(*one)
+
+
 def main():
     checks = (check_paths, check_crates, check_links, check_code, check_words, check_options, check_edits)
     for path in documents():
@@ -388,6 +408,7 @@ def main():
     check_table_of_crates()
     check_proofs()
     check_limits()
+    check_comments()
     print("\n".join(complaints), end="\n" if complaints else "")
     sys.exit(1 if complaints else 0)
 

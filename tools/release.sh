@@ -1,6 +1,6 @@
 #!/usr/bin/env bash
 # Makes what is given to others: uucpair-VERSION-x86_64-linux.tar.gz and a Debian package, each with the program, its man
-# page, the documents for who uses it, and the examples.
+# pages, and the documents, examples and files of packaging/ where their links look for each other.
 #
 #     tools/release.sh FOLDER [PROGRAM]
 #
@@ -12,7 +12,7 @@ set -eu
 export LC_ALL=C
 umask 022
 root=$(dirname "$(dirname "$(readlink -f "$0")")")
-documents=(README.md CHANGELOG.md docs/{TUTORIAL,OPERATING,PROTOCOL,PROOFS}.md)
+documents=({README,CHANGELOG,CONTRIBUTING}.md docs examples packaging)
 
 fail() {
     echo "release.sh: $*" >&2
@@ -29,16 +29,14 @@ version_of_sources() {
     sed -n 's/^pub const VERSION: &str = "\(.*\)";$/\1/p' "$root/crates/uug_words/src/tools.rt"
 }
 
-# put FOLDER FILE..: files that anybody may read.
-put() {
-    mkdir -p "$1"
-    install -m 644 "${@:2}" "$1"
-}
-
-# put_documents FOLDER: the documents and the examples.
+# put_documents FOLDER: as they lie in the repository. Anybody may read them, and run what can be run.
 put_documents() {
-    put "$1" "${documents[@]/#/$root/}"
-    put "$1/examples" "$root"/examples/*
+    local file mode
+    while read -r file; do
+        mode=644
+        [ ! -x "$root/$file" ] || mode=755
+        install -Dm "$mode" "$root/$file" "$1/$file"
+    done < <(git -C "$root" ls-files "${documents[@]}")
 }
 
 # as_of_commit FOLDER: everything below it is as old as the commit.
@@ -49,7 +47,6 @@ as_of_commit() {
 make_archive() {
     local top=$work/$name
     put_documents "$top"
-    put "$top" "$root/docs/uucpair.1"
     install -m 755 "$program" "$top/uucpair"
     tar -C "$work" --sort=name --mtime="@$SOURCE_DATE_EPOCH" --owner=0 --group=0 --numeric-owner --format=gnu -c "$name" |
         gzip -9n >"$folder/$name.tar.gz"
@@ -100,12 +97,14 @@ COPYRIGHT
 
 make_package() {
     local top=$work/package
-    local shared=$top/usr/share/doc/uucpair
+    local shared=$top/usr/share/doc/uucpair manual=$top/usr/share/man page
     put_documents "$shared"
-    mkdir -p "$top/usr/bin" "$top/usr/share/man/man1" "$top/DEBIAN"
+    mkdir -p "$top/usr/bin" "$manual"/man{1,5} "$top/DEBIAN"
     install -m 755 "$program" "$top/usr/bin/uucpair"
     strip "$top/usr/bin/uucpair"
-    gzip -9n <"$root/docs/uucpair.1" >"$top/usr/share/man/man1/uucpair.1.gz"
+    for page in "$root"/docs/*.[15]; do
+        gzip -9n <"$page" >"$manual/man${page##*.}/${page##*/}.gz"
+    done
     write_debian_changelog | gzip -9n >"$shared/changelog.gz"
     write_copyright >"$shared/copyright"
     write_control >"$top/DEBIAN/control"

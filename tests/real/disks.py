@@ -5,9 +5,11 @@ import subprocess
 
 from kills import traced
 from lines import Cable, finish, load, wrong
-from suite import Ends, fill_disk, filler, leave_room, names_in, report, said, scene, text_of, write
+from suite import Ends, fill_disk, filler, names_in, report, said, scene, text_of, write
 
 NOBODY = ("setpriv", "--reuid=65534", "--regid=65534", "--clear-groups")
+# Runs a command whose files have at most 8 KiB: the system takes so much of a longer one.
+LIMITED = ("bash", "-c", "trap '' XFSZ; ulimit -f 8; exec \"$@\"", "bash")
 
 
 def broken(one, what, at, break_it, mend_it, told, status=3):
@@ -34,24 +36,25 @@ def full_disks(one):
         broken(one, "a full disk", at, lambda ends, at: fill_disk(ends.at(at, "filler")), lambda ends,
                 at: os.remove(ends.at(at, "filler")), None,
                status=3 if at == "alpha" else 1)
-        one.unmount()
+        subprocess.run(["umount", "-l", one.mounted.pop()], check=True)
+        shutil.rmtree(one.path("alpha"), ignore_errors=True)
+        shutil.rmtree(one.path("beta"), ignore_errors=True)
 
 
-@scene("root")
-def disks_with_little_room(one):
-    """A file for which the disk has room in part is not kept: none is cut, and all come when there is room."""
-    for room in range(0, 4):
-        one.mount(one.path("beta"), "100k")
-        ends = Ends(one)
-        ends.give("alpha", long=filler("long", 9000))
-        ends.jobs("alpha", "send long long me")
-        leave_room(ends.at("beta", "filler"), room * 4096)
-        ends.talk()
-        os.remove(ends.at("beta", "filler"))
-        ends.talk()
-        one.row(f"what has come where {room} pages were free", (ends.state("beta"), text_of(ends.at("alpha", "jobs"))),
-                ({"got/long": filler("long", 9000)}, ""))
-        one.unmount()
+@scene()
+def a_file_that_is_cut_short(one):
+    """A file of which the system takes only a part is not kept: its job waits, and the next session brings it."""
+    ends = Ends(one)
+    ends.give("alpha", long=filler("long", 9000))
+    ends.jobs("alpha", "send long long me")
+    called = ends.answer(one.line, front=LIMITED)
+    caller, called = ends.call(one.line), called.end()
+    one.row("who calls", caller.all(), (1, report("caller", "peerclosed", pending=1), ""))
+    one.row("who is called", (called.status, called.out), (1, report("called", "spoolfault")))
+    one.row("what is there", ends.state("beta"), {})
+    caller, called = ends.talk()
+    one.row("the next session", (caller.all(), called.all(), ends.state("beta")),
+            ((0, report("caller", struck=1), ""), (0, report("called"), ""), {"got/long": filler("long", 9000)}))
 
 
 @scene()

@@ -4,7 +4,7 @@ import os
 import re
 import stat
 
-from suite import fill_disk, filler, files_below, leave_room, listens_at, masked, names_in, report, said, scene, text_of, wait_until, write
+from suite import fill_disk, filler, files_below, listens_at, masked, names_in, report, said, scene, text_of, wait_until, write
 
 NOBODY = 65534
 AS_NOBODY = ("setpriv", f"--reuid={NOBODY}", f"--regid={NOBODY}", "--clear-groups") if os.geteuid() == 0 else ()
@@ -353,43 +353,39 @@ def long_files_over_a_spool(one):
     nodes.mail("alpha", "0003", long["mail"])
     caller, called = nodes.talk()
     one.row("both are well", (caller.all(), called.all()), ((0, report("caller", struck=5), ""), (0, report("called"), "")))
-    come = {**nodes.pub("alpha"), **nodes.pub("beta"), "mail": text_of(nodes.at("beta", "spool/alpha/D./D.alphaN0003"))}
+    come = {**nodes.pub("beta"), **nodes.pub("alpha"), "mail": text_of(nodes.at("beta", "spool/alpha/D./D.alphaN0003"))}
     one.row("what has come", come, long)
 
 
-def small_disk(one):
-    """Returns nodes of which beta is on a small disk, but for its locks, and alpha has a mail and a file for it."""
+@scene()
+def a_file_that_is_cut_short_over_a_spool(one):
+    """A file of which the system takes only a part is not kept: its job waits, and the next session brings it."""
+    from disks import LIMITED
+
+    nodes = Nodes(one)
+    nodes.mail("alpha", "0003", filler("mail", 9000))
+    nodes.known("beta", "alpha")
+    called = nodes.answer("beta", peer="alpha", front=LIMITED)
+    caller, called = nodes.call("alpha", own=False), called.end()
+    one.row("who calls", caller.all(), (1, report("caller", "peerclosed", pending=2), ""))
+    one.row("who is called", (called.status, called.out), (1, report("called", "spoolfault")))
+    caller, called = nodes.talk()
+    one.row("the next session", (caller.all(), called.all(), text_of(nodes.at("beta", "spool/alpha/D./D.alphaN0003"))),
+            ((0, report("caller", struck=2), ""), (0, report("called"), ""), filler("mail", 9000)))
+
+
+@scene("root")
+def spools_on_a_full_disk(one):
+    """Nothing is said to be stored that is not, or is cut; and nothing is given up for it."""
     one.mount(one.path("beta"), "200k")
     nodes = Nodes(one)
+    # the lock has room
     os.mkdir(one.path("locks"))
     os.rmdir(nodes.at("beta", "lock"))
     os.symlink(one.path("locks"), nodes.at("beta", "lock"))
     nodes.mail("alpha", "0003", filler("mail", 9000))
     nodes.queue("alpha", "C.Z1", f"S {nodes.at('alpha', 'src')}/f ~/f u -C D.0001 0644 ", _0001=filler("f", 9000))
     nodes.known("beta", "alpha")
-    return nodes
-
-
-@scene("root")
-def spools_on_a_disk_with_little_room(one):
-    """A file for which the disk has room in part is not kept: none is cut, and all come when there is room."""
-    for room in range(1, 6):
-        nodes = small_disk(one)
-        leave_room(nodes.at("beta", "filler"), room * 4096)
-        called = nodes.answer("beta", peer="alpha")
-        nodes.call("alpha", own=False)
-        called.end()
-        os.remove(nodes.at("beta", "filler"))
-        nodes.talk()
-        one.row(f"what has come where {room} pages were free", (text_of(nodes.at("beta", "spool/alpha/D./D.alphaN0003")),
-                nodes.pub("beta"), nodes.there("alpha")), (filler("mail", 9000), {"f": filler("f", 9000)}, {}))
-        one.unmount()
-
-
-@scene("root")
-def spools_on_a_full_disk(one):
-    """Nothing is said to be stored that is not, or is cut; and nothing is given up for it."""
-    nodes = small_disk(one)
     fill_disk(nodes.at("beta", "filler"))
     called = nodes.answer("beta", peer="alpha")
     caller, called = nodes.call("alpha", own=False), called.end()

@@ -129,12 +129,6 @@ def fill_disk(path):
     os.close(file)
 
 
-def leave_room(path, room):
-    """Fills the disk, but for so many bytes."""
-    fill_disk(path)
-    os.truncate(path, os.path.getsize(path) - room)
-
-
 def free_port():
     with socket.socket() as door:
         door.bind(("127.0.0.1", 0))
@@ -275,13 +269,6 @@ class Scene:
         os.makedirs(path, exist_ok=True)
         subprocess.run(["mount", "-t", "tmpfs", "-o", f"size={size}", "uucpair", path], check=True)
         self.mounted.append(path)
-
-    def unmount(self):
-        """Takes the last disk away, and all that lies on none."""
-        subprocess.run(["umount", "-l", self.mounted.pop()], check=True)
-        for name in names_in(self.work):
-            if not name.startswith("."):
-                shutil.rmtree(self.path(name), ignore_errors=True)
 
     def close(self):
         for running in self.started:

@@ -225,7 +225,7 @@ fn set_aside<A: Allocator + Copy, R: Files<File = File>>(
     Ok(())
 }
 
-/// Why a call of the system on the spool failed.
+/// Returns why a call of the system on the spool failed.
 fn failed<R, A: Allocator>(disk: &SpoolDisk<'_, '_, R, A>) -> RunFault
     ensures { IsFolderFault result }
 {

@@ -17,7 +17,7 @@ use uug_talk::Name;
 /// The grade in the names of this mail.
 const GRADE: u8 = b'M';
 
-/// So many numbers in a row may be in use.
+/// The most numbers in a row that may be in use.
 const NUMBERS_IN_USE_MAX: u32 = 10_000;
 
 /// Mails to each whose job has failed. Where a command and its data have, it is one mail.
@@ -152,7 +152,7 @@ fn saved_words<A: Allocator>(alloc: A, path: Option<&str>) -> Result<String<A>, 
     }
 }
 
-/// What is mailed to somebody, at this moment, of a job that has failed.
+/// Returns the text of a mail, at this moment, about a job that has failed.
 fn mail_text<A: Allocator + Copy>(
     alloc: A,
     moment: &Moment,

@@ -14,10 +14,10 @@ use uug_spool::{Room, spot_of};
 use uug_spool_disk::{PublicListing, SpoolPaths, is_known, list_public, read_public};
 use uug_talk::{FILE_MAX, Name};
 
-/// So many names of the public folder are looked at.
+/// The most names of the public folder that are looked at.
 const PUBLIC_NAMES_MAX: usize = 1024;
 
-/// As everybody may read them.
+/// The mode of the given files: everybody may read them.
 const GIVEN_MODE: u16 = 0o644;
 
 /// Lists what stands in the public folder. Notes where the system fails to read it: nothing is known of it then.
@@ -64,7 +64,7 @@ pub(crate) fn add_public<A: Allocator + Copy, R: Files<File = File>>(
     Ok(())
 }
 
-/// What the public folder is called in the names of jobs.
+/// Returns the name of the public folder in the names of jobs.
 fn public_folder() -> Name {
     let Ok(name) = Name::new(b"~") else {
         unreachable!();
@@ -72,8 +72,8 @@ fn public_folder() -> Name {
     name
 }
 
-/// Whether the file of this name in the public folder may be given. One with the name of a file of the spool is none: that is given
-/// under it.
+/// Returns whether the file of this name in the public folder may be given. A name of a file of the spool is excluded:
+/// it means that file.
 fn is_given(name: &Name) -> bool
     ensures { result ≡ is_given name.now }
 {

@@ -246,8 +246,8 @@ fn refuse_links<A: Allocator + Copy, R: Files + Eprint>(
     Err(RunFault::System(paths.end_dir().failure(Resource::Dir, cause)))
 }
 
-/// What the program answers when the session has ended so, where jobs were put off that could not be read, or were not. The report
-/// goes to the output, except where memory ran out.
+/// Returns the program's answer after a session that ended so. `is_left` says whether jobs were put off that could not be
+/// read. Prints the report, unless memory ran out.
 fn answer_of<S: Spool, A: Allocator + Copy, O: Output>(
     alloc: A,
     side: Side,
@@ -302,7 +302,7 @@ fn print_report<S: Spool, O: Output, A: Allocator + Copy>(
     write_all(output, text.as_bytes())
 }
 
-/// How an end stands, and then the jobs that it has given up.
+/// Returns the report of an end, and the jobs that it has given up.
 fn report<S: Spool, A: Allocator + Copy>(
     alloc: A,
     side: Side,

@@ -1,4 +1,4 @@
-//! What a call over a spool is told, and where its folders are.
+//! The task of a call over a spool, and the paths of its folders.
 ghost use Rattle.std.specs.Path.{rsplit_once, slash};
 ghost use Rattle.std.specs.Prelude.{◌≡◌, IfOk, MatchOption, None, Some, string_bytes};
 ghost use Rattle.uug_spool_call.specs.PublicNames.{folder_of, public_beside, public_path, without_slash};
@@ -10,10 +10,10 @@ use uug_spool_disk::SpoolPaths;
 use uug_talk::Name;
 use uug_transfer::Thinning;
 
-/// What a call over a spool is told.
+/// The task of a call over a spool.
 #[derive(Clone, Copy, Debug, PartialEq, Eq)]
 pub struct SpoolCall<'a> {
-    /// Whether this end calls, or is called.
+    /// The side of this end: it calls, or is called.
     pub side: Side,
     /// The path of the spool.
     pub spool: &'a str,
@@ -23,21 +23,21 @@ pub struct SpoolCall<'a> {
     pub log: Option<&'a str>,
     /// The statistics, where they are named.
     pub stats: Option<&'a str>,
-    /// What its line is called in these.
+    /// The name of its line in these.
     pub port: &'a str,
-    /// Whether it refuses what it can't read, and goes on.
+    /// True if it refuses what it can't read, and goes on.
     pub is_lenient: bool,
-    /// Whether it tells digests of its files, and compares those that it is told.
+    /// True if it announces digests of its files, and compares those that it reads.
     pub tells_digests: bool,
-    /// What it leaves out of what it emits.
+    /// The packets that it leaves out of those it emits.
     pub thinning: Thinning,
-    /// So many bytes at most have the files together of the jobs that it offers in a session.
+    /// The most bytes of all files of the jobs that it offers in a session.
     pub most: u32,
-    /// Whether it says on standard error what it puts off.
+    /// True if it says on standard error what it puts off.
     pub is_loud: bool,
 }
 
-/// Where the folders of a system are.
+/// Returns the paths of the folders of a system.
 pub(crate) fn paths_of<A: Allocator + Copy>(
     alloc: A,
     call: &SpoolCall<'_>,

@@ -40,9 +40,9 @@ pub(crate) struct SpoolEnd<'a, 'p, R: Files<File = File>, A: Allocator + Copy> {
     pub(crate) names: Vec<Name, A>,
     /// The commands that their lines have run.
     pub(crate) executions: Vec<Execution, A>,
-    /// What is put off since it can't be read.
+    /// The jobs that are put off because they can't be read.
     pub(crate) unread: Vec<Unread, A>,
-    /// What is not given since it can't be read.
+    /// The files that are not given because they can't be read.
     pub(crate) ungiven: Vec<Unread, A>,
     /// Names what had come and was set aside.
     pub(crate) aside: Vec<Unread, A>,
@@ -131,7 +131,7 @@ impl<'a, 'p, R: Files<File = File>, A: Allocator + Copy> SpoolEnd<'a, 'p, R, A> 
         }
     }
 
-    /// Which call of the system on the spool failed first: on the files that came, else on its jobs.
+    /// Returns which call of the system on the spool failed first: on the files that arrived, else on its jobs.
     pub(crate) fn failure(&self) -> Option<SystemFailure>
         ensures { 0 < self.now.store.disk.faults.count → IsSome result }
     {

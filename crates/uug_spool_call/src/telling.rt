@@ -1,4 +1,4 @@
-//! What is told of a call with a system: its status, the log, and the statistics. What can't be told is left out.
+//! The status of a call with a system, its log and its statistics. What can't be written is left out.
 
 use crate::spool_call::{SpoolCall, paths_of};
 use crate::spool_end::SpoolEnd;
@@ -391,7 +391,7 @@ fn tell_status<A: Allocator + Copy, R: Files<File = File> + Clock>(
     let _ = write_status_file(alloc, rt, paths, &status);
 }
 
-/// How a call went whose session has ended so.
+/// Returns the state of a call whose session ended so.
 fn state_of(phase: Phase) -> CallState {
     match phase {
         Phase::Ended(End::Done) => CallState::Complete,

@@ -1,4 +1,4 @@
-//! What waits for a system in its spool.
+//! The work that waits for a system in its spool.
 ghost use Rattle.std.specs.Prelude.{◌≡◌, ◌≤◌, ◌++◌, IfErr, IfOk, MatchOption, None, OnOk, Some, codes, false, map, true};
 ghost use Rattle.uug_failure.specs.Faults.{IsFolderFault};
 ghost use Rattle.uug_mailbox.specs.HeldLines.{held_lines};
@@ -55,7 +55,7 @@ struct Budget {
 }
 
 impl Budget {
-    /// That of a session whose files have so many bytes together at most.
+    /// Returns the budget of a session whose files have at most so many bytes together.
     fn of(bytes: u64) -> Self
         ensures { result ≡ record { bytes = bytes; jobs = JOBS_MAX; is_first = true; is_full = false } }
     {
@@ -80,7 +80,7 @@ impl Budget {
     }
 }
 
-/// What waits for a system: the lines of its C. files that are not over, and the files that these send.
+/// The work that waits for a system: the lines of its C. files that are not over, and the files that these send.
 #[derive(Drop)]
 pub(crate) struct Work<A: Allocator> {
     /// The names of the C. files that were read.
@@ -93,16 +93,16 @@ pub(crate) struct Work<A: Allocator> {
     pub(crate) files: Vec<Stored<A>, A>,
     /// The commands that these lines have run.
     pub(crate) executions: Vec<Execution, A>,
-    /// What is put off since it can't be read.
+    /// The jobs that are put off because they can't be read.
     pub(crate) unread: Vec<Unread, A>,
-    /// What is not given since it can't be read.
+    /// The files that are not given because they can't be read.
     pub(crate) ungiven: Vec<Unread, A>,
     /// Names what had come and was set aside.
     pub(crate) aside: Vec<Unread, A>,
 }
 
 impl<A: Allocator + Copy> Work<A> {
-    /// Nothing.
+    /// Returns no work.
     fn none(alloc: A) -> Self {
         Work {
             names: Vec::new(alloc),
@@ -217,7 +217,7 @@ fn add_commands<A: Allocator + Copy, R: Files>(
     }
 }
 
-/// What waits in a C. file, if it is there. One that is too long is a fault.
+/// Reads the work of a C. file, if it is there. One that is too long is a fault.
 fn read_commands<A: Allocator + Copy, R: Files>(
     alloc: A,
     rt: &R,
@@ -402,7 +402,7 @@ fn public_name(name: &Name, public: &[u8]) -> Name
     }
 }
 
-/// What stands behind the path of the public folder in a name, the slash first, if it is one of its names.
+/// Returns the rest of a name after the path of the public folder, the slash first, if the name is in that folder.
 fn behind_public<'a>(name: &'a [u8], public: &[u8]) -> Option<&'a [u8]>
     ensures { MatchOption result (behind_public public.now name.now ≡ None)
         (λ rest. behind_public public.now name.now ≡ Some rest.now) }

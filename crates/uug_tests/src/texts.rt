@@ -6,9 +6,9 @@ use std::alloc::{Allocator, Global};
 use std::process::Abort;
 use uug_refusal::Refusing;
 use uug_talk::{
-    Answer, BadText, Chunks, Gather, Hail, Name, Order, Progress, caller_number, is_command_text,
-    is_hail_text, read_answer, read_number, read_order, write_answer, write_call, write_hail,
-    write_order,
+    Answer, BadText, Chunks, FILE_LIMIT_MAX, Gather, Hail, Name, Order, Progress, caller_number,
+    is_command_text, is_hail_text, read_answer, read_number, read_order, write_answer, write_call,
+    write_hail, write_order,
 };
 
 fn is_order_written_as(order: &Order, text: &[u8]) -> bool {
@@ -179,8 +179,9 @@ fn goes_on(
 ) -> Result<usize, BadText> {
     let bytes = vec![in alloc; b'f'; len].expect(rt, "memory");
     let held = vec![in alloc; b'f'; front].expect(rt, "memory");
-    let mut file = Gather::file_from(held, limit);
-    for message in Chunks::file(&bytes[front..], 4096) {
+    let mut file = Gather::file_from(held, limit.max(1).min(FILE_LIMIT_MAX));
+    let rest = bytes.as_slice().get(front..).unwrap_or(&[]);
+    for message in Chunks::file(rest, 4096) {
         if let Some(Err(fault)) = push(&mut file, message.as_slice()) {
             return Err(fault);
         }
@@ -195,13 +196,13 @@ fn goes_on(
 
 #[test]
 fn a_file_goes_on_behind_held_bytes_up_to_its_limit(rt: HostRuntime) {
-    for limit in [1, 100, 1_048_576] {
+    for limit in [1usize, 100, 1_048_576] {
         for front in [0, 1] {
-            for len in [limit - 1, limit] {
+            for len in [limit.saturating_sub(1), limit] {
                 let front = front.min(len);
                 assert_same(&rt, goes_on(&rt, rt.alloc(), len, front, limit), Ok(len));
             }
-            let beyond = goes_on(&rt, rt.alloc(), limit + 1, front, limit);
+            let beyond = goes_on(&rt, rt.alloc(), limit.saturating_add(1), front, limit);
             assert_same(&rt, beyond, Err(BadText::TooLong));
         }
     }

@@ -1,4 +1,4 @@
-//! What an end may count on over any line, checked on reports of noisy lines.
+//! Checks what an end may count on over any line, in reports of noisy lines.
 ghost use Rattle.std.specs.Prelude.{◌<◌};
 ghost use Rattle.uug_line.specs.Settled.{CanSettle};
 
@@ -11,16 +11,16 @@ use uug_script::read_script;
 use uug_session::{End as SessionEnd, FileView, Job, MemorySpool, Node, Phase, Spool, Stored};
 use uug_talk::Name;
 
-/// How many lists of events there are.
+/// The number of lists of events.
 const LISTS: u32 = 100;
 
-/// How many events are in each.
+/// The number of events in each list.
 const EVENTS: u32 = 240;
 
 /// More bytes than are ever on the line.
 const ALL: u32 = 100_000;
 
-/// So often all that is on the line comes to both ends, once it is clean.
+/// The number of times that all on the line arrives at both ends, once it is clean.
 const TURNS: u32 = 160;
 
 const WINDOWS: [u8; 3] = [1, 2, 7];
@@ -268,7 +268,7 @@ fn is_front(front: &[Vec<u8>], whole: &[Vec<u8>]) -> bool {
             .all(|(ours, theirs)| ours.as_slice() == theirs.as_slice())
 }
 
-/// Whether an end took what the other sent, in order, and never had more on its way than the other had announced.
+/// Returns whether an end took what the other sent, in order, and never had more on its way than the other announced.
 fn is_right(end: &EndReport<Global>, other: &EndReport<Global>, announced: u8) -> bool {
     is_front(end.taken.as_slice(), other.sent.as_slice()) && end.most <= announced as usize
 }
@@ -286,7 +286,7 @@ fn has_entry(stored: &[Stored<Global>], name: &Name, file: Option<FileView<'_>>)
 
 type End = Node<MemorySpool<Global>, Global>;
 
-/// Whether the file of each job that is done was stored, under the job's own target.
+/// Returns whether the file of each job that is done was stored, under the job's own target.
 fn is_stored(end: &End, other: &End) -> bool {
     end.queue().struck().iter().all(|job| match job {
         Job::Send { source, target, .. } => {
@@ -298,7 +298,7 @@ fn is_stored(end: &End, other: &End) -> bool {
     })
 }
 
-/// Whether both ends kept each promise in the report, where the caller and the called end had announced these windows.
+/// Returns whether both ends kept each promise in the report. The caller and the called end announced these windows.
 fn keeps_promises(report: &Report<Global>, caller: u8, called: u8) -> bool {
     let sessions_are_right = report.sessions().iter().all(|session| {
         is_right(&session.caller, &session.called, called)
@@ -319,7 +319,7 @@ fn play_list(alloc: Global, list: u32, settings: Settings) -> Result<(bool, usiz
     Ok((is_right, struck))
 }
 
-/// How many jobs of the caller were done in the list of this number.
+/// Returns how many jobs of the caller were done in the list of this number.
 fn struck_in_list(
     rt: &(impl Abort + AllocGlobal),
     list: u32,
@@ -358,19 +358,19 @@ fn keeps_its_promises_where_nothing_is_set(rt: HostRuntime) -> Result<(), Fail> 
     Ok(())
 }
 
-/// Whether each job of the end is done or given up.
+/// Returns whether each job of the end is done or given up.
 fn has_no_job_left(end: &End) -> bool {
     end.queue().pending().is_empty()
 }
 
-/// Whether both ends kept each promise, and have no job left.
+/// Returns whether both ends kept each promise, and have no job left.
 fn is_over(report: &Report<Global>, caller: u8, called: u8) -> bool {
     keeps_promises(report, caller, called)
         && has_no_job_left(report.caller())
         && has_no_job_left(report.called())
 }
 
-/// Whether all is over, as it should be, where the report is settled.
+/// Returns whether all is over, as it should be, if the report is settled.
 fn settles_well(alloc: Global, report: Report<Global>, list: u32) -> Result<bool, Fail>
     requires { CanSettle report }
 {
@@ -412,7 +412,7 @@ fn settles_after_noise(rt: HostRuntime) -> Result<(), Fail> {
     Ok(())
 }
 
-/// Whether the end talks, holds no part of a packet, and may wait some time more.
+/// Returns whether the end talks, holds no part of a packet, and may wait some time more.
 fn talks(end: &End) -> bool {
     matches!(end.phase(), Phase::Talking) && end.waiting() == 0 && end.timeouts() <= 5
 }
@@ -421,12 +421,12 @@ fn is_done(end: &End) -> bool {
     matches!(end.phase(), Phase::Ended(SessionEnd::Done)) && has_no_job_left(end)
 }
 
-/// Whether both ends talk, and no packet was found that was not sent.
+/// Returns whether both ends talk, and no packet was found that was not sent.
 fn may_finish(report: &Report<Global>) -> bool {
     report.verdict() == LineVerdict::Clean && talks(report.caller()) && talks(report.called())
 }
 
-/// Whether both ends talk where the list of this number ends in silence.
+/// Returns whether both ends talk if the list of this number ends in silence.
 fn may_finish_list(alloc: Global, list: u32, settings: Settings) -> Result<bool, Fail> {
     let report = report_up_to_silence(alloc, list, settings)?;
     let may_finish = may_finish(&report);
@@ -434,7 +434,7 @@ fn may_finish_list(alloc: Global, list: u32, settings: Settings) -> Result<bool,
     Ok(may_finish)
 }
 
-/// Whether both ends are done where the line is clean behind the list of this number.
+/// Returns whether both ends are done if the line is clean after the list of this number.
 fn is_done_behind_list(alloc: Global, list: u32, settings: Settings) -> Result<bool, Fail> {
     let report = report_up_to_the_end(alloc, list, settings)?;
     let is_done = is_done(report.caller()) && is_done(report.called());

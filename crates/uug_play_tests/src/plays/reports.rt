@@ -1,4 +1,4 @@
-//! What is played of whole scripts. What this catches beyond the clauses: a wrong definition of the sessions, and a player
+//! Plays whole scripts. Beyond the clauses this catches a wrong definition of the sessions, and a player
 //! that always says that it is out of memory.
 
 use super::{BROKEN_OFF, SENT_TWICE};
@@ -178,7 +178,7 @@ fn reports_what_was_played(rt: HostRuntime) {
     }
 }
 
-/// As many jobs of the caller as lines.
+/// Adds so many jobs of the caller to the script.
 fn with_jobs(script: &mut String, jobs: usize) -> Result<(), Fail> {
     for _ in 0..jobs {
         script.push_str("send caller x y u\n")?;

@@ -67,13 +67,13 @@ const SCRIPTS: &[(&str, Option<Unsettled>)] = &[
     ),
 ];
 
-/// What is reported of the script.
+/// Returns the report of the script.
 fn report_of<A: Allocator + Copy>(alloc: A, text: &str) -> Result<Report<A>, Fail> {
     let script = read_script(alloc, text.as_bytes())?;
     Ok(run(alloc, script.setup, script.events.as_slice())?)
 }
 
-/// Why the run of the script may not settle, and whether it may.
+/// Returns why the run of the script may not settle, and whether it may.
 fn why_of(alloc: Global, text: &str) -> Result<(Option<Unsettled>, bool), Fail> {
     let report = report_of(alloc, text)?;
     let seen = (why_unsettled(&report), report.can_settle());
@@ -126,7 +126,7 @@ fn writes_what_it_settles_to(rt: HostRuntime) {
     }
 }
 
-/// How many messages an end sent and took, the most that were unacknowledged, and how far it came.
+/// Returns how many messages an end sent and took, the most that were unacknowledged, and its phase.
 fn numbers(end: &EndReport<Global>) -> (usize, usize, usize, Phase) {
     (end.sent.len(), end.taken.len(), end.most, end.phase)
 }
@@ -141,7 +141,7 @@ fn settled_from(alloc: Global, text: &str) -> Result<Report<Global>, Fail> {
     Ok(settle(alloc, report)?)
 }
 
-/// Whether the script settles to what it does on a line that never lost anything.
+/// Returns whether the script settles to what it does on a line that never lost anything.
 fn settles(alloc: Global, text: &str) -> Result<bool, Fail> {
     let report = settled_from(alloc, text)?;
     let has_sent = has_sent(&report);
@@ -149,7 +149,7 @@ fn settles(alloc: Global, text: &str) -> Result<bool, Fail> {
     Ok(has_sent)
 }
 
-/// Whether the caller's file was sent and stored in the one session, as on a line that never lost anything.
+/// Returns whether the caller's file was sent and stored in the one session, as on a line that never lost anything.
 fn has_sent(report: &Report<Global>) -> bool {
     let done = Phase::Ended(End::Done);
     let [session] = report.sessions() else {
