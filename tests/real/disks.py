@@ -49,7 +49,7 @@ def a_file_that_is_cut_short(one):
     ends.jobs("alpha", "send long long me")
     called = ends.answer(one.line, front=LIMITED)
     caller, called = ends.call(one.line), called.end()
-    one.row("who calls", caller.all(), (1, report("caller", "peerclosed", pending=1), ""))
+    one.row("who calls", (caller.status, caller.out), (1, report("caller", "peerclosed", pending=1)))
     one.row("who is called", (called.status, called.out), (1, report("called", "spoolfault")))
     one.row("what is there", ends.state("beta"), {})
     caller, called = ends.talk()
@@ -179,7 +179,7 @@ def a_folder_that_comes_late(one):
     write(ends.at("beta", "got/x/inside"), "inside\n")
     cable.rate = 10_000_000
     caller, called = caller.end(), called.end()
-    one.row("who calls", caller.all(), (1, report("caller", "peerclosed", pending=1, struck=1), ""))
+    one.row("who calls", (caller.status, caller.out), (1, report("caller", "peerclosed", pending=1, struck=1)))
     one.row("who is called", (called.status, called.out), (1, report("called", "spoolfault")))
     one.row("what is there", (text_of(ends.at("alpha", "jobs")), names_in(ends.at("beta", "got")), text_of(ends.at("beta",
             "got/x/inside"))), ("send x x me\n", ["a", "x"], "inside\n"))

@@ -367,7 +367,7 @@ def a_file_that_is_cut_short_over_a_spool(one):
     nodes.known("beta", "alpha")
     called = nodes.answer("beta", peer="alpha", front=LIMITED)
     caller, called = nodes.call("alpha", own=False), called.end()
-    one.row("who calls", caller.all(), (1, report("caller", "peerclosed", pending=2), ""))
+    one.row("who calls", (caller.status, caller.out), (1, report("caller", "peerclosed", pending=2)))
     one.row("who is called", (called.status, called.out), (1, report("called", "spoolfault")))
     caller, called = nodes.talk()
     one.row("the next session", (caller.all(), called.all(), text_of(nodes.at("beta", "spool/alpha/D./D.alphaN0003"))),
