@@ -1,4 +1,4 @@
--- What is printed of an end that has run its session, whichever end that was.
+-- Lemmas on the report of an end that has run its session, whichever end that was.
 use Rattle.std.proofs.Common.{◌≡◌, ℕ, Bool, List, Option, Result, Ok, Err, sym, subst, ◌∙◌}
 use Rattle.std.specs.Prelude.{IfOk, OnOk}
 use Rattle.uug_conversation.specs.Holdings.{Holdings, Kept}

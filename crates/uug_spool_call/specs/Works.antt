@@ -1,4 +1,4 @@
--- What waits in the C. files of a system, one behind the other (this project's profile).
+-- The work that waits in the C. files of a system, one after the other (this project's profile).
 use Rattle.std.specs.Prelude.{◌≡◌, ◌+◌, ◌^◌, ◌-◌, ◌++◌, min}
 use Rattle.uug_spool_call.specs.declared.work.Work.{Work}
 

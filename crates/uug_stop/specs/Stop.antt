@@ -136,8 +136,8 @@ abbrev pub held_by_another : Places → (end : ℕ) → Resource → List ℕ
 held_by_another p end Line = p.line
 held_by_another p end resource = dir_of p.first p.second end
 
--- What another run holds is named, a bad number file is said alone, and of another call of the system that failed it is said on what,
--- and why.
+-- The message names the line or the folder that another run holds. It reports a bad number file alone, and of another failed call
+-- of the system on what and why.
 abbrev pub StopsOnCause : Places → SystemFailure → Cause → Stop → Type 0
 StopsOnCause p failure causes.InUse stop = NamesFolder (held_by_another p failure.end failure.resource) stop
 StopsOnCause p failure causes.NotANumber stop = stop ≡ stops.Number (record {})
@@ -169,8 +169,8 @@ abbrev pub StopsOnPair : PairTask → (why : Option SystemFailure) → ToolFault
 StopsOnPair pair why Usage remark stop = SaysUsage (λ said. said ≡ pair_words pair.drop_every pair.flip_every) stop
 StopsOnPair pair why fault remark stop = StopsOnPairBy pair.is_loud pair why fault remark stop
 
--- Of one end it is said what is wrong with its task, or with a line of its jobs, and where a call of the system failed, if it is known:
--- its folders are its own, and that of the locks.
+-- The message of one end reports bad usage, a bad line of its jobs, or the failed call of the system, if that is known. Its folders
+-- are its own, and that of the locks.
 abbrev pub StopsOnEnd : CallTask → (why : Option SystemFailure) → ToolFault → (remark : List ℕ) → Stop → Type 0
 StopsOnEnd call why Usage remark stop = SaysUsage (IsUsageOf call) stop
 StopsOnEnd call why (Jobs line) remark stop = HasLine (Jobs line) remark stop
