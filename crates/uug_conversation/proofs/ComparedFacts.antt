@@ -1,5 +1,5 @@
 -- What an end does that compares digests, worked out by hand.
-use Rattle.std.proofs.Common.{◌≡◌, ℕ, true, List, [], ◌∷◌, codes, Option, Some, None, refl, ap}
+use Rattle.std.proofs.Common.{◌≡◌, ℕ, true, List, [], ◌∷◌, codes, drop, Option, Some, None, refl, ap}
 use Rattle.uug_digest.specs.Digests.{digest_of, told_by_answer, told_by_order}
 use Rattle.uug_digest.specs.declared.file_digest.FileDigest.{FileDigest}
 use Rattle.uug_talk.specs.declared.answer.Answer.TheVariants as answer
@@ -7,9 +7,9 @@ use Rattle.uug_conversation.specs.declared.awaits.Awaits.TheVariants as awaits
 use Rattle.uug_conversation.specs.Holdings.{Holdings, kept_file}
 use Rattle.uug_conversation.specs.Machine.{replies, keeps, opening, on_text, on_file, on_sent_file}
 use Rattle.uug_conversation.specs.Told.{fits, outcome}
-use Rattle.uug_conversation.specs.Turns.{the_answer, the_giving, the_file, the_order}
+use Rattle.uug_conversation.specs.Turns.{the_answer, the_consent, the_giving, the_file, the_order}
 use Rattle.uug_conversation.specs.declared.side.Side.TheVariants.{Caller}
-use Rattle.uug_conversation.proofs.FactParties.{Exception, fixed, no_exception, send, six_bytes, y}
+use Rattle.uug_conversation.proofs.FactParties.{Exception, fixed, no_exception, q, send, six_bytes, y}
 use Rattle.uug_conversation.proofs.MachineFacts.{ahead, asking, has_x, has_x_but, order_of_first, two}
 use Rattle.uug_conversation.proofs.ToldLemmas.{fits_decides}
 
@@ -27,11 +27,11 @@ telling_answer = codes "RY 0600 \"\" 0x00000003 sha256:ba7816bf8f01cfea414140de5
 
 record IsHeard : Type 0 where
   send : on_text telling_x awaits.Order telling_send (ahead []) ≡
-      replies (ahead []) (awaits.SentFile y 384 (told_by_order telling_send)) (the_answer answer.SendYes ∷ [])
+      replies (ahead []) (awaits.SentFile q y 384 (told_by_order telling_send)) (the_consent 0 ∷ [])
   none_told : on_text telling_x awaits.Order (codes "S q y u - D.0 0600") (ahead []) ≡
-      replies (ahead []) (awaits.SentFile y 384 None) (the_answer answer.SendYes ∷ [])
+      replies (ahead []) (awaits.SentFile q y 384 None) (the_consent 0 ∷ [])
   not_heard : on_text has_x awaits.Order telling_send (ahead []) ≡
-      replies (ahead []) (awaits.SentFile y 384 None) (the_answer answer.SendYes ∷ [])
+      replies (ahead []) (awaits.SentFile q y 384 None) (the_consent 0 ∷ [])
   answer : on_text telling_x awaits.RequestAnswer telling_answer asking ≡
       replies asking (awaits.AskedFile 384 (told_by_answer telling_answer)) []
   size_alone : on_text telling_x awaits.RequestAnswer (codes "RY 0600 0x6") asking ≡ replies asking (awaits.AskedFile 384 None) []
@@ -47,15 +47,15 @@ abbrev of_five : Option FileDigest
 of_five = Some (record { size = 5; hash = [] })
 
 record AreCompared : Type 0 where
-  same : on_file telling_x (awaits.SentFile y 384 of_six) six_bytes two ≡
+  same : on_file telling_x (awaits.SentFile q y 384 of_six) six_bytes two ≡
       keeps (kept_file y 384 six_bytes) (replies two awaits.Order (the_answer answer.DoneYes ∷ []))
-  same_fixed : on_file (comparing (fixed y)) (awaits.SentFile y 384 of_six) six_bytes two ≡
+  same_fixed : on_file (comparing (fixed y)) (awaits.SentFile q y 384 of_six) six_bytes two ≡
       replies two awaits.Order (the_answer answer.DoneNever ∷ [])
-  other : on_file telling_x (awaits.SentFile y 384 of_five) six_bytes two ≡
+  other : on_file telling_x (awaits.SentFile q y 384 of_five) six_bytes two ≡
       replies two awaits.Order (the_answer answer.DoneLater ∷ [])
-  other_fixed : on_file (comparing (fixed y)) (awaits.SentFile y 384 of_five) six_bytes two ≡
+  other_fixed : on_file (comparing (fixed y)) (awaits.SentFile q y 384 of_five) six_bytes two ≡
       replies two awaits.Order (the_answer answer.DoneLater ∷ [])
-  none_told : on_file telling_x (awaits.SentFile y 384 None) six_bytes two ≡
+  none_told : on_file telling_x (awaits.SentFile q y 384 None) six_bytes two ≡
       keeps (kept_file y 384 six_bytes) (replies two awaits.Order (the_answer answer.DoneYes ∷ []))
 
 six_fit : fits of_six six_bytes ≡ true
@@ -78,3 +78,15 @@ record AreTold : Type 0 where
 
 told_so : AreTold
 told_so = record { with_send = refl; with_giving = refl }
+
+-- from which byte on a file is sent
+record AreRests : Type 0 where
+  whole : on_text telling_x awaits.SendAnswer (codes "SY") two ≡ replies two awaits.SentFileDone (the_file six_bytes ∷ [])
+  rest : on_text telling_x awaits.SendAnswer (codes "SY 0x00000002") two ≡ replies two awaits.SentFileDone (the_file (drop 2 six_bytes) ∷ [])
+  end : on_text telling_x awaits.SendAnswer (codes "SY 0x6") two ≡ replies two awaits.SentFileDone (the_file [] ∷ [])
+  beyond : on_text telling_x awaits.SendAnswer (codes "SY 0x7") two ≡ replies two awaits.Bad []
+  no_position : on_text telling_x awaits.SendAnswer (codes "SY 2") two ≡ replies two awaits.SentFileDone (the_file six_bytes ∷ [])
+  untold : on_text has_x awaits.SendAnswer (codes "SY 0x00000002") two ≡ replies two awaits.SentFileDone (the_file six_bytes ∷ [])
+
+rests : AreRests
+rests = record { whole = refl; rest = refl; end = refl; beyond = refl; no_position = refl; untold = refl }

@@ -63,8 +63,8 @@ module _ (told : FileDigest) where
 
   whole_fits : (h : Holdings) (w : Awaits) (bytes : List ℕ) (l : Lists) → told_awaited w ≡ Some told →
       AllFit told (on_whole (kind_awaited w) h w bytes l).keeps
-  whole_fits h (awaits.SentFile target mode told_so) bytes l e =
-      subst (λ z. AllFit told (on_file h (awaits.SentFile target mode z) bytes l).keeps) (sym e)
+  whole_fits h (awaits.SentFile source target mode told_so) bytes l e =
+      subst (λ z. AllFit told (on_file h (awaits.SentFile source target mode z) bytes l).keeps) (sym e)
       (sent_fits (file_verdict h target (Some told) bytes) (record { name = target; mode = mode; bytes = bytes }) l
       (yes_fits h target bytes))
   whole_fits h (awaits.AskedFile mode told_so) bytes l e =
@@ -106,7 +106,7 @@ reply_fits h none_waits s message told e = early_fits (comes_early s.awaits none
 
 -- this end awaits a file of which it has heard that, or none
 abbrev HasHeard : Option FileDigest → Awaits → Type 0
-HasHeard told (awaits.SentFile target mode told_so) = told_so ≡ told
+HasHeard told (awaits.SentFile source target mode told_so) = told_so ≡ told
 HasHeard told (awaits.AskedFile mode told_so) = told_so ≡ told
 HasHeard told _ = Unit {0}
 
@@ -115,11 +115,11 @@ after_command told (order.Send source target user temp mode) = tt
 after_command told (order.Request source target user) = tt
 after_command told order.HangUp = tt
 
-after_send : (verdict : Verdict) (target : List ℕ) (mode : ℕ) (told : Option FileDigest) (l : Lists) →
-    HasHeard told (on_send verdict target mode told l).state.awaits
-after_send Yes target mode told l = refl
-after_send Never target mode told l = tt
-after_send Later target mode told l = tt
+after_send : (verdict : Verdict) (source target : List ℕ) (mode : ℕ) (told : Option FileDigest) (l : Lists) →
+    HasHeard told (on_send verdict source target mode told l).state.awaits
+after_send Yes source target mode told l = refl
+after_send Never source target mode told l = tt
+after_send Later source target mode told l = tt
 
 after_request : (told : Option FileDigest) (digests : Bool) (found : Option File) (delayed : Bool) (l : Lists) →
     HasHeard told (on_request digests found delayed l).state.awaits
@@ -139,7 +139,7 @@ after_unread told _ _ l = tt
 
 after_order : (h : Holdings) (letter : Option ℕ) (told : Option FileDigest) (read : Result Order BadText) (l : Lists) →
     HasHeard told (on_order h letter told read l).state.awaits
-after_order h letter told (Ok (order.Send source target user temp mode)) l = after_send (send_verdict h (h.landing source target) told) (h.landing source target) mode told l
+after_order h letter told (Ok (order.Send source target user temp mode)) l = after_send (send_verdict h (h.landing source target) told) (fetched_by source temp) (h.landing source target) mode told l
 after_order h letter told (Ok (order.Request source target user)) l = after_request told h.digests (to_give h source) (h.delayed source) l
 after_order h letter told (Ok order.HangUp) l =
     after_hang_up told h (choice h l.ahead).next (moved (choice h l.ahead).failing l)
@@ -153,7 +153,7 @@ after_request_answer h told (Ok answer.GiveLater) l = after_command told _
 after_request_answer h told _ l = tt
 
 from_heard : (told : Option FileDigest) (w : Awaits) (digest : FileDigest) → HasHeard told w → told_awaited w ≡ Some digest → told ≡ Some digest
-from_heard told (awaits.SentFile target mode told_so) digest h e = sym h ∙ e
+from_heard told (awaits.SentFile source target mode told_so) digest h e = sym h ∙ e
 from_heard told (awaits.AskedFile mode told_so) digest h e = sym h ∙ e
 from_heard told _ digest h e = absurd cc
 

@@ -26,6 +26,7 @@ use Rattle.uug_conversation.specs.Told.{heard}
 use Rattle.uug_conversation.specs.Turns.{Said, the_answer}
 use Rattle.uug_conversation.specs.declared.side.Side.{Side}
 use Rattle.uug_conversation.specs.declared.side.Side.TheVariants.{Caller, Called}
+use Rattle.uug_conversation.specs.Resuming.{position_heard, rest_from}
 
 pub start_behind : (jobs x y : List Job) → behind x y (at_start jobs [] []) ≡ at_start jobs x y
 start_behind jobs x y = ap₂ (at_start jobs) (append-nil x) (append-nil y)
@@ -64,11 +65,11 @@ goes_on_after x y h move l before =
 
 -- ---- a slave
 
-send_behind : (x y : List Job) (verdict : Verdict) (target : List ℕ) (mode : ℕ) (told : Option FileDigest) (l : Lists) →
-    on_send verdict target mode told (behind x y l) ≡ reply_behind x y (on_send verdict target mode told l)
-send_behind x y Yes target mode told l = refl
-send_behind x y Never target mode told l = refl
-send_behind x y Later target mode told l = refl
+send_behind : (x y : List Job) (verdict : Verdict) (source target : List ℕ) (mode : ℕ) (told : Option FileDigest) (l : Lists) →
+    on_send verdict source target mode told (behind x y l) ≡ reply_behind x y (on_send verdict source target mode told l)
+send_behind x y Yes source target mode told l = refl
+send_behind x y Never source target mode told l = refl
+send_behind x y Later source target mode told l = refl
 
 request_behind : (x y : List Job) (digests : Bool) (offered : Option File) (delayed : Bool) (l : Lists) →
     on_request digests offered delayed (behind x y l) ≡ reply_behind x y (on_request digests offered delayed l)
@@ -88,7 +89,7 @@ unread_behind x y _ _ l = refl
 
 order_behind : (x y : List Job) (h : Holdings) (letter : Option ℕ) (told : Option FileDigest) (read : Result Order BadText)
     (l : Lists) → on_order h letter told read (behind x y l) ≡ reply_behind x y (on_order h letter told read l)
-order_behind x y h letter told (Ok (order.Send source target user temp mode)) l = send_behind x y (send_verdict h (h.landing source target) told) (h.landing source target) mode told l
+order_behind x y h letter told (Ok (order.Send source target user temp mode)) l = send_behind x y (send_verdict h (h.landing source target) told) (fetched_by source temp) (h.landing source target) mode told l
 order_behind x y h letter told (Ok (order.Request source target user)) l = request_behind x y h.digests (to_give h source) (h.delayed source) l
 order_behind x y h letter told (Ok order.HangUp) l =
     ap (on_hang_up h (choice h l.ahead).next) (moved_behind x y (choice h l.ahead).failing l)
@@ -115,18 +116,18 @@ sends_file_behind : (x y : List Job) (offered : Option File) (l : Lists) →
 sends_file_behind x y None l = refl
 sends_file_behind x y (Some file) l = refl
 
-send_yes_behind : (x y : List Job) (h : Holdings) (jobs : List Job) (l : Lists) →
-    on_send_yes h jobs (behind x y l) ≡ reply_behind x y (on_send_yes h jobs l)
-send_yes_behind x y h (job.Send source target user temp ∷ jobs) l =
-    sends_file_behind x y (to_give h (fetched_by source temp)) l
-send_yes_behind x y h _ l = refl
+send_yes_behind : (x y : List Job) (h : Holdings) (position : ℕ) (jobs : List Job) (l : Lists) →
+    on_send_yes h position jobs (behind x y l) ≡ reply_behind x y (on_send_yes h position jobs l)
+send_yes_behind x y h position (job.Send source target user temp ∷ jobs) l =
+    sends_file_behind x y (rest_from position (to_give h (fetched_by source temp))) l
+send_yes_behind x y h position _ l = refl
 
-send_answer_behind : (x y : List Job) (h : Holdings) (held : Bool) (read : Result Answer BadText) (l : Lists) →
-    on_send_answer h held read (behind x y l) ≡ reply_behind x y (on_send_answer h held read l)
-send_answer_behind x y h held (Ok answer.SendYes) l = send_yes_behind x y h l.ahead l
-send_answer_behind x y h held (Ok answer.SendNever) l = goes_on_after x y h fail l []
-send_answer_behind x y h held (Ok answer.SendLater) l = goes_on_after x y h (move_refused held l.ahead) l []
-send_answer_behind x y h held _ l = refl
+send_answer_behind : (x y : List Job) (h : Holdings) (held : Bool) (position : ℕ) (read : Result Answer BadText) (l : Lists) →
+    on_send_answer h held position read (behind x y l) ≡ reply_behind x y (on_send_answer h held position read l)
+send_answer_behind x y h held position (Ok answer.SendYes) l = send_yes_behind x y h position l.ahead l
+send_answer_behind x y h held position (Ok answer.SendNever) l = goes_on_after x y h fail l []
+send_answer_behind x y h held position (Ok answer.SendLater) l = goes_on_after x y h (move_refused held l.ahead) l []
+send_answer_behind x y h held position _ l = refl
 
 sent_file_done_behind : (x y : List Job) (h : Holdings) (read : Result Answer BadText) (l : Lists) →
     on_sent_file_done h read (behind x y l) ≡ reply_behind x y (on_sent_file_done h read l)
@@ -167,7 +168,7 @@ text_behind : (x y : List Job) (h : Holdings) (awaited : Awaits) (text : List �
 text_behind x y h awaits.Order text l = order_behind x y h (refused_letter_of text) (heard h.digests (told_by_order text)) (order_of text) l
 text_behind x y h awaits.GivenFileDone text l = given_file_behind x y (answer_of text) l
 text_behind x y h awaits.LastHangUp text l = last_hang_up_behind x y (answer_of text) l
-text_behind x y h awaits.SendAnswer text l = send_answer_behind x y h (is_held text && h.lenient) (answer_of text) l
+text_behind x y h awaits.SendAnswer text l = send_answer_behind x y h (is_held text && h.lenient) (position_heard h.digests text) (answer_of text) l
 text_behind x y h awaits.SentFileDone text l = sent_job_done_behind x y h l.ahead (answer_of text) l
 text_behind x y h awaits.RequestAnswer text l = request_answer_behind x y h (heard h.digests (told_by_answer text)) (or_wished (answer_of text) h.lenient text) l
 text_behind x y h awaits.HangUpAnswer text l = hang_up_answer_behind x y (answer_of text) l
@@ -194,7 +195,7 @@ file_of_behind x y h _ mode told bytes l = refl
 
 file_behind : (x y : List Job) (h : Holdings) (awaited : Awaits) (bytes : List ℕ) (l : Lists) →
     on_file h awaited bytes (behind x y l) ≡ reply_behind x y (on_file h awaited bytes l)
-file_behind x y h (awaits.SentFile target mode told) bytes l =
+file_behind x y h (awaits.SentFile source target mode told) bytes l =
     sent_file_behind x y (file_verdict h target told bytes) (record { name = target; mode = mode; bytes = bytes }) l
 file_behind x y h (awaits.AskedFile mode told) bytes l = file_of_behind x y h l.ahead mode told bytes l
 file_behind x y h awaits.DroppedAskedFile bytes l = goes_on_after x y h fail l (the_answer answer.DoneNever ∷ [])

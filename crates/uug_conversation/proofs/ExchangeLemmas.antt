@@ -20,11 +20,12 @@ use Rattle.uug_conversation.specs.Jobs.{Lists, Move, pass, strike, fail, moved, 
 use Rattle.uug_talk.specs.Lenient.{or_wished, refused_letter_of}
 use Rattle.uug_conversation.specs.Machine.{State, Reply, between, replies, kind_awaited, on_whole, keeps, chooses, file_verdict, goes_on, on_send, on_request, on_order, sends_file, on_request_answer, on_sent_file, on_asked_file}
 use Rattle.uug_conversation.specs.ReadBack.{IsReadBack, EachTurn}
-use Rattle.uug_conversation.specs.Turns.{other, Said, the_order, the_answer, the_giving, the_file, said_messages, all_messages, Turn}
+use Rattle.uug_conversation.specs.Turns.{other, Said, the_order, the_answer, the_consent, the_giving, the_file, said_messages, all_messages, Turn}
 use Rattle.uug_conversation.specs.declared.side.Side.{Side}
 use Rattle.uug_conversation.specs.Told.{giving_said, heard, is_too_large, order_said, outcome, told_of, unless_too_large}
 use Rattle.uug_conversation.proofs.ToldLemmas.{fits_given, given_is_taken}
 use Rattle.uug_conversation.proofs.TurnLemmas.{Fits, Open, said_kind, said_bytes, own_says, other_says}
+use Rattle.uug_conversation.proofs.ResumingLemmas.{whole_sent}
 
 module _ (measure_of : Side → Measure) (positive : (side : Side) → 0 < (measure_of side).size) (me : Side) (h : Holdings) where
   -- what an end replies accords with these turns
@@ -87,7 +88,7 @@ module _ (measure_of : Side → Measure) (positive : (side : Side) → 0 < (meas
       say back.0
       (hear_text {r = replies l awaits.SentFileDone (the_file file.bytes ∷ [])} back.1.0 refl
       (record { not_over = refl; not_bad = refl; not_parted = refl })
-      (ap (λ f. sends_file f l) e) refl refl
+      (ap (λ f. sends_file f l) (whole_sent h.digests (to_give h (fetched_by source temp)) file e)) refl refl
       (say back.1.1.0
       (hear_text {r = goes_on h (moved_once strike l) []} back.1.1.1.0 refl (record { not_over = refl; not_bad = refl; not_parted = refl })
       refl refl refl
@@ -97,7 +98,7 @@ module _ (measure_of : Side → Measure) (positive : (side : Side) → 0 < (meas
       say back.0
       (hear_text {r = replies l awaits.SentFileDone (the_file file.bytes ∷ [])} back.1.0 refl
       (record { not_over = refl; not_bad = refl; not_parted = refl })
-      (ap (λ f. sends_file f l) e) refl refl
+      (ap (λ f. sends_file f l) (whole_sent h.digests (to_give h (fetched_by source temp)) file e)) refl refl
       (say back.1.1.0
       (hear_text {r = goes_on h (moved_once fail l) []} back.1.1.1.0 refl (record { not_over = refl; not_bad = refl; not_parted = refl })
       refl refl refl
@@ -239,21 +240,21 @@ module _ (measure_of : Side → Measure) (positive : (side : Side) → 0 < (meas
       hear_text {r = replies l awaits.Order (the_answer answer.SendNever ∷ [])} back.0 refl
       (record { not_over = refl; not_bad = refl; not_parted = refl })
       (order_heard (order.Send source target user temp file.mode) (told_of digests (Some file)) l back.0
-      ∙ ap (λ z. on_send (unless_too_large (h.lenient && is_too_large (heard h.digests (told_of digests (Some file)))) z) (h.landing source target)
+      ∙ ap (λ z. on_send (unless_too_large (h.lenient && is_too_large (heard h.digests (told_of digests (Some file)))) z) (fetched_by source temp) (h.landing source target)
       file.mode (heard h.digests (told_of digests (Some file))) l) v) refl refl
       (say back.1.0 rest)
   send_as_slave digests source target user temp (Some file) Later v immovable i next l ts back rest =
       hear_text {r = replies l awaits.Order (the_answer answer.SendLater ∷ [])} back.0 refl
       (record { not_over = refl; not_bad = refl; not_parted = refl })
       (order_heard (order.Send source target user temp file.mode) (told_of digests (Some file)) l back.0
-      ∙ ap (λ z. on_send (unless_too_large (h.lenient && is_too_large (heard h.digests (told_of digests (Some file)))) z) (h.landing source target)
+      ∙ ap (λ z. on_send (unless_too_large (h.lenient && is_too_large (heard h.digests (told_of digests (Some file)))) z) (fetched_by source temp) (h.landing source target)
       file.mode (heard h.digests (told_of digests (Some file))) l) v) refl refl
       (say back.1.0 rest)
   send_as_slave digests source target user temp (Some file) Yes v false i next l ts back rest =
-      hear_text {r = replies l (awaits.SentFile (h.landing source target) file.mode (heard h.digests (told_of digests (Some file)))) (the_answer answer.SendYes ∷ [])} back.0 refl
+      hear_text {r = replies l (awaits.SentFile (fetched_by source temp) (h.landing source target) file.mode (heard h.digests (told_of digests (Some file)))) (the_consent 0 ∷ [])} back.0 refl
       (record { not_over = refl; not_bad = refl; not_parted = refl })
       (order_heard (order.Send source target user temp file.mode) (told_of digests (Some file)) l back.0
-      ∙ ap₂ (λ b z. on_send (unless_too_large b z) (h.landing source target) file.mode (heard h.digests (told_of digests (Some file))) l)
+      ∙ ap₂ (λ b z. on_send (unless_too_large b z) (fetched_by source temp) (h.landing source target) file.mode (heard h.digests (told_of digests (Some file))) l)
       (given_is_taken h.lenient h.digests digests file back.1.1.0) v) refl refl
       (say back.1.0
       (hear_text {r = keeps (kept_as (h.landing source target) file) (replies l awaits.Order (the_answer answer.DoneYes ∷ []))} back.1.1.0 refl
@@ -261,10 +262,10 @@ module _ (measure_of : Side → Measure) (positive : (side : Side) → 0 < (meas
       (ap (λ z. on_sent_file z (kept_as (h.landing source target) file) l) (verdict_is digests (h.landing source target) file false i)) refl refl
       (say back.1.1.1.0 rest)))
   send_as_slave digests source target user temp (Some file) Yes v true i next l ts back rest =
-      hear_text {r = replies l (awaits.SentFile (h.landing source target) file.mode (heard h.digests (told_of digests (Some file)))) (the_answer answer.SendYes ∷ [])} back.0 refl
+      hear_text {r = replies l (awaits.SentFile (fetched_by source temp) (h.landing source target) file.mode (heard h.digests (told_of digests (Some file)))) (the_consent 0 ∷ [])} back.0 refl
       (record { not_over = refl; not_bad = refl; not_parted = refl })
       (order_heard (order.Send source target user temp file.mode) (told_of digests (Some file)) l back.0
-      ∙ ap₂ (λ b z. on_send (unless_too_large b z) (h.landing source target) file.mode (heard h.digests (told_of digests (Some file))) l)
+      ∙ ap₂ (λ b z. on_send (unless_too_large b z) (fetched_by source temp) (h.landing source target) file.mode (heard h.digests (told_of digests (Some file))) l)
       (given_is_taken h.lenient h.digests digests file back.1.1.0) v) refl refl
       (say back.1.0
       (hear_text {r = replies l awaits.Order (the_answer answer.DoneNever ∷ [])} back.1.1.0 refl

@@ -10,11 +10,12 @@ use Rattle.uug_conversation.specs.Holdings.{Kept}
 use Rattle.uug_conversation.specs.Jobs.{Move}
 use Rattle.uug_conversation.specs.Messages.{Message, turn_messages, messages, measures}
 use Rattle.uug_conversation.specs.Party.{Party}
-use Rattle.uug_conversation.specs.Turns.{Said, the_order, the_answer, the_giving, the_file, the_refusal, said_messages, Turn}
+use Rattle.uug_conversation.specs.Turns.{Said, the_order, the_answer, the_consent, the_giving, the_file, the_refusal, said_messages, Turn}
 use Rattle.uug_conversation.specs.declared.side.Side.{Side}
 use Rattle.uug_conversation.specs.declared.side.Side.TheVariants.{Caller, Called}
 use Rattle.uug_conversation.specs.View.{view, conversation_view, own_messages, party}
 use Rattle.uug_talk.proofs.ChunkLemmas.{command_fits, file_fits}
+use Rattle.uug_digest.specs.Positions.{consent_text}
 
 abbrev Fits : ℕ → List ℕ → Type 0
 Fits size message = length message ≤ size
@@ -22,6 +23,7 @@ Fits size message = length message ≤ size
 pub said_fit : (measure : Measure) (said : Said) → All (Fits measure.size) (said_messages measure said)
 said_fit measure (the_order order told) = command_fits measure (order_said order told)
 said_fit measure (the_answer answer) = command_fits measure (answer_text answer)
+said_fit measure (the_consent position) = command_fits measure (consent_text position)
 said_fit measure (the_giving mode told) = command_fits measure (giving_said mode told)
 said_fit measure (the_file bytes) = file_fits measure.size bytes
 said_fit measure (the_refusal letter) = command_fits measure (refusal_text letter)

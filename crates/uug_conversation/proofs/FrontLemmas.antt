@@ -10,10 +10,11 @@ use Rattle.uug_conversation.specs.Told.{giving_said, order_said}
 use Rattle.uug_conversation.specs.Holdings.{Kept}
 use Rattle.uug_conversation.specs.Jobs.{Move}
 use Rattle.uug_conversation.specs.Messages.{Message, turn_messages, messages}
-use Rattle.uug_conversation.specs.Turns.{other, Said, the_order, the_answer, the_giving, the_file, the_refusal, said_messages, Turn}
+use Rattle.uug_conversation.specs.Turns.{other, Said, the_order, the_answer, the_consent, the_giving, the_file, the_refusal, said_messages, Turn}
 use Rattle.uug_conversation.specs.declared.side.Side.{Side}
 use Rattle.uug_conversation.specs.declared.side.Side.TheVariants.{Caller, Called}
 use Rattle.uug_conversation.specs.View.{Seen, says, hears, view, floor, moves_after, kept_after}
+use Rattle.uug_digest.specs.Positions.{consent_text}
 
 -- ---- nothing of the other's was taken
 
@@ -104,6 +105,7 @@ some_of_command measure text =
 some_message : (measure : Measure) (said : Said) → 0 < length (said_messages measure said)
 some_message measure (the_order order told) = some_of_command measure (order_said order told)
 some_message measure (the_answer answer) = some_of_command measure (answer_text answer)
+some_message measure (the_consent position) = some_of_command measure (consent_text position)
 some_message measure (the_giving mode told) = some_of_command measure (giving_said mode told)
 some_message measure (the_file bytes) = omega (arith, length-append (cut measure.size bytes) ([] ∷ []))
 some_message measure (the_refusal letter) = some_of_command measure (refusal_text letter)

@@ -9,7 +9,7 @@ use Rattle.uug_conversation.specs.Jobs.{at_start}
 use Rattle.uug_conversation.specs.Machine.{replies, keeps, on_text, on_file}
 use Rattle.uug_conversation.specs.OwnEntries.{brought, by_giver, by_receiver}
 use Rattle.uug_conversation.specs.Party.{Party}
-use Rattle.uug_conversation.specs.Turns.{the_order, the_answer}
+use Rattle.uug_conversation.specs.Turns.{the_order, the_answer, the_consent}
 use Rattle.uug_conversation.specs.declared.side.Side.TheVariants.{Caller, Called}
 use Rattle.uug_conversation.proofs.ConversationFacts.{said_by, lists_at_end, kept_at_end, nothing_done, sender, taker, asker, giver}
 use Rattle.uug_conversation.proofs.FactParties.{Exception, no_exception, denied, put_off, fixed, q, x, y, six_bytes, send, send_copy, request, text}
@@ -35,13 +35,13 @@ yq = codes "yq"
 
 pub record AreLanded : Type 0 where
   pub sent : on_text (lands no_exception) awaits.Order (codes "S q y u - D.0 0600") (ahead []) ≡
-      replies (ahead []) (awaits.SentFile yq 384 None) (the_answer answer.SendYes ∷ [])
+      replies (ahead []) (awaits.SentFile q yq 384 None) (the_consent 0 ∷ [])
   pub denied_there : on_text (lands (denied yq)) awaits.Order (codes "S q y u - D.0 0600") (ahead []) ≡
       replies (ahead []) awaits.Order (the_answer answer.SendNever ∷ [])
   pub later_there : on_text (lands (put_off yq)) awaits.Order (codes "S q y u - D.0 0600") (ahead []) ≡
       replies (ahead []) awaits.Order (the_answer answer.SendLater ∷ [])
   pub folder_denied : on_text (lands (denied y)) awaits.Order (codes "S q y u - D.0 0600") (ahead []) ≡
-      replies (ahead []) (awaits.SentFile yq 384 None) (the_answer answer.SendYes ∷ [])
+      replies (ahead []) (awaits.SentFile q yq 384 None) (the_consent 0 ∷ [])
   pub asked : on_file (lands no_exception) (awaits.AskedFile 384 None) six_bytes (ahead (request ∷ [])) ≡
       keeps (record { name = yq; mode = 384; bytes = six_bytes })
       (replies (at_start [] (request ∷ []) []) awaits.HangUpAnswer (the_answer answer.DoneYes ∷ the_order order.HangUp None ∷ []))

@@ -11,8 +11,8 @@ use Rattle.uug_talk.specs.Gathering.{OfCommand, OfFile}
 use Rattle.uug_conversation.specs.declared.awaits.Awaits.TheVariants as awaits
 use Rattle.uug_conversation.specs.Holdings.{Holdings}
 use Rattle.uug_conversation.specs.Machine.{between, replies, on_order, on_text, on_file, on_past_limit, reply_to}
-use Rattle.uug_conversation.specs.Turns.{the_order, the_answer, the_refusal}
-use Rattle.uug_conversation.proofs.FactParties.{y, six_bytes, send, send_nothing, request}
+use Rattle.uug_conversation.specs.Turns.{the_order, the_answer, the_consent, the_refusal}
+use Rattle.uug_conversation.proofs.FactParties.{x, y, six_bytes, send, send_nothing, request}
 use Rattle.uug_conversation.proofs.MachineFacts.{ahead, asking, first_passed, first_struck, has_x, order_of_first, order_of_second, two}
 
 -- has one file, x, and is lenient
@@ -33,7 +33,7 @@ record AreUnread : Type 0 where
   nothing : on_text lenient_x awaits.Order [] two ≡ replies two awaits.Bad []
   an_answer : on_text lenient_x awaits.SendAnswer (codes "X a") two ≡ replies two awaits.Bad []
   good : on_text lenient_x awaits.Order (codes "S x y u - D.0 0600") (ahead []) ≡
-      replies (ahead []) (awaits.SentFile y 384 None) (the_answer answer.SendYes ∷ [])
+      replies (ahead []) (awaits.SentFile x y 384 None) (the_consent 0 ∷ [])
   strict : on_text has_x awaits.Order (codes "X a/* y u -") two ≡ replies two awaits.Bad []
   strict_send : on_text has_x awaits.Order (codes "S x y u") two ≡ replies two awaits.Bad []
 
@@ -65,9 +65,9 @@ order_of_y = order.Send (codes "x") y (codes "u") None 384
 record AreLarge : Type 0 where
   larger : on_order lenient_x None (Some (told_size 1048577)) (Ok order_of_y) two ≡ replies two awaits.Order (the_answer answer.SendNever ∷ [])
   largest : on_order lenient_x None (Some (told_size 1048576)) (Ok order_of_y) two ≡
-      replies two (awaits.SentFile y 384 (Some (told_size 1048576))) (the_answer answer.SendYes ∷ [])
+      replies two (awaits.SentFile x y 384 (Some (told_size 1048576))) (the_consent 0 ∷ [])
   strict : on_order has_x None (Some (told_size 1048577)) (Ok order_of_y) two ≡
-      replies two (awaits.SentFile y 384 (Some (told_size 1048577))) (the_answer answer.SendYes ∷ [])
+      replies two (awaits.SentFile x y 384 (Some (told_size 1048577))) (the_consent 0 ∷ [])
 
 large : AreLarge
 large = record { larger = refl; largest = refl; strict = refl }
@@ -114,11 +114,11 @@ delayed = record { later = refl; never = refl; there = refl }
 -- ---- a file past its limit
 
 record AreDropped : Type 0 where
-  sent : on_past_limit true (OfFile FILE_MAX) (awaits.SentFile y 384 None) two ≡ replies two awaits.DroppedSentFile []
+  sent : on_past_limit true (OfFile FILE_MAX) (awaits.SentFile x y 384 None) two ≡ replies two awaits.DroppedSentFile []
   sent_on : on_past_limit true (OfFile FILE_MAX) awaits.DroppedSentFile two ≡ replies two awaits.DroppedSentFile []
   asked : on_past_limit true (OfFile FILE_MAX) (awaits.AskedFile 384 None) two ≡ replies two awaits.DroppedAskedFile []
   text : on_past_limit true OfCommand awaits.Order two ≡ replies two awaits.Bad []
-  strict : on_past_limit false (OfFile FILE_MAX) (awaits.SentFile y 384 None) two ≡ replies two awaits.Bad []
+  strict : on_past_limit false (OfFile FILE_MAX) (awaits.SentFile x y 384 None) two ≡ replies two awaits.Bad []
   sent_end : on_file lenient_x awaits.DroppedSentFile six_bytes two ≡ replies two awaits.Order (the_answer answer.DoneNever ∷ [])
   asked_end : on_file lenient_x awaits.DroppedAskedFile six_bytes asking ≡
       replies (record { passed = []; ahead = send ∷ []; struck = []; failed = request ∷ send_nothing ∷ [] })

@@ -26,9 +26,11 @@ pub mod OneEndLemmas
 pub mod OutgoingLemmas
 pub mod OwnEntryLemmas
 mod PartLemmas
+pub mod PartialLemmas
 mod PlainLemmas
 mod QueueLemmas
 pub mod ReadBackLemmas
+pub mod ResumingLemmas
 pub mod SaidByteLemmas
 mod SayableLemmas
 pub mod SharingLemmas

@@ -12,7 +12,7 @@ use Rattle.uug_conversation.specs.Holdings.{Holdings}
 use Rattle.uug_conversation.specs.Jobs.{Lists, at_start}
 use Rattle.uug_conversation.specs.Machine.{State, Reply, between, replies, keeps, on_text, on_file, step, opening}
 use Rattle.uug_conversation.specs.Runs.{progress_after}
-use Rattle.uug_conversation.specs.Turns.{the_order, the_answer, the_giving, the_file}
+use Rattle.uug_conversation.specs.Turns.{the_order, the_answer, the_consent, the_giving, the_file}
 use Rattle.uug_conversation.specs.declared.side.Side.TheVariants.{Caller, Called}
 use Rattle.uug_conversation.proofs.FactParties.{Exception, no_exception, denied, put_off, fixed, holdings, end_with, q, x, y, z, u, six_bytes, small_file, send, send_again, send_nothing, request, text}
 
@@ -126,13 +126,13 @@ has_x_but exception = holdings x small_file exception
 
 pub record AreOrders : Type 0 where
   pub send_yes : on_text has_x awaits.Order (codes "S q y u - D.0 0600") (ahead []) ≡
-      replies (ahead []) (awaits.SentFile y 384 None) (the_answer answer.SendYes ∷ [])
+      replies (ahead []) (awaits.SentFile q y 384 None) (the_consent 0 ∷ [])
   pub send_never : on_text (has_x_but (denied y)) awaits.Order (codes "S q y u - D.0 0600") (ahead []) ≡
       replies (ahead []) awaits.Order (the_answer answer.SendNever ∷ [])
   pub send_later : on_text (has_x_but (put_off y)) awaits.Order (codes "S q y u - D.0 0600") (ahead []) ≡
       replies (ahead []) awaits.Order (the_answer answer.SendLater ∷ [])
   pub source_denied : on_text (has_x_but (denied q)) awaits.Order (codes "S q y u - D.0 0600") (ahead []) ≡
-      replies (ahead []) (awaits.SentFile y 384 None) (the_answer answer.SendYes ∷ [])
+      replies (ahead []) (awaits.SentFile q y 384 None) (the_consent 0 ∷ [])
   pub request_yes : on_text has_x awaits.Order (codes "R x y u -") (ahead []) ≡
       replies (ahead []) awaits.GivenFileDone (the_giving 420 None ∷ the_file six_bytes ∷ [])
   pub request_never : on_text has_x awaits.Order (codes "R y x u -") (ahead []) ≡
@@ -187,9 +187,9 @@ last_answers = record {
 -- ---- files
 
 pub record AreFiles : Type 0 where
-  pub sent : on_file has_x (awaits.SentFile y 384 None) six_bytes two ≡
+  pub sent : on_file has_x (awaits.SentFile q y 384 None) six_bytes two ≡
       keeps (record { name = y; mode = 384; bytes = six_bytes }) (replies two awaits.Order (the_answer answer.DoneYes ∷ []))
-  pub sent_fixed : on_file (has_x_but (fixed y)) (awaits.SentFile y 384 None) six_bytes two ≡
+  pub sent_fixed : on_file (has_x_but (fixed y)) (awaits.SentFile q y 384 None) six_bytes two ≡
       replies two awaits.Order (the_answer answer.DoneNever ∷ [])
   pub asked : on_file has_x (awaits.AskedFile 384 None) six_bytes asking ≡
       keeps (record { name = y; mode = 384; bytes = six_bytes })
@@ -221,9 +221,9 @@ pub record AreMessages : Type 0 where
   pub longest : step has_x (gathering awaits.Order (72 ∷ replicate (COMMAND_MAX - 1) 32)) (0 ∷ []) ≡
       replies (ahead []) awaits.LastHangUp (the_answer answer.HangYes ∷ [])
   pub one_more : step has_x (gathering awaits.Order (72 ∷ replicate (COMMAND_MAX - 1) 32)) (32 ∷ 0 ∷ []) ≡ replies (ahead []) awaits.Bad []
-  pub first_piece : step has_x (gathering (awaits.SentFile y 384 None) []) six_bytes ≡
-      still (gathering (awaits.SentFile y 384 None) six_bytes)
-  pub last_piece : step has_x (gathering (awaits.SentFile y 384 None) six_bytes) [] ≡
+  pub first_piece : step has_x (gathering (awaits.SentFile q y 384 None) []) six_bytes ≡
+      still (gathering (awaits.SentFile q y 384 None) six_bytes)
+  pub last_piece : step has_x (gathering (awaits.SentFile q y 384 None) six_bytes) [] ≡
       keeps (record { name = y; mode = 384; bytes = six_bytes })
       (replies (ahead []) awaits.Order (the_answer answer.DoneYes ∷ []))
 

@@ -27,6 +27,7 @@ use Rattle.uug_conversation.specs.Turns.{Said, the_answer}
 use Rattle.uug_conversation.specs.declared.side.Side.{Side}
 use Rattle.uug_conversation.specs.declared.side.Side.TheVariants.{Caller, Called}
 use Rattle.uug_conversation.proofs.SharingLemmas.{moved-append}
+use Rattle.uug_conversation.specs.Resuming.{position_heard, rest_from}
 
 pub stays : (l : Lists) → OnlyMoves l l
 stays l = record { moves = []; are = refl }
@@ -42,10 +43,10 @@ moves_and_chooses move h l before = record { moves = move ∷ (choice h (moved_o
 
 -- ---- commands
 
-after_send : (v : Verdict) (target : List ℕ) (mode : ℕ) (told : Option FileDigest) (l : Lists) → OnlyMoves l (on_send v target mode told l).state.lists
-after_send Yes target mode told l = stays l
-after_send Never target mode told l = stays l
-after_send Later target mode told l = stays l
+after_send : (v : Verdict) (source target : List ℕ) (mode : ℕ) (told : Option FileDigest) (l : Lists) → OnlyMoves l (on_send v source target mode told l).state.lists
+after_send Yes source target mode told l = stays l
+after_send Never source target mode told l = stays l
+after_send Later source target mode told l = stays l
 
 after_request : (digests : Bool) (file : Option File) (delayed : Bool) (l : Lists) → OnlyMoves l (on_request digests file delayed l).state.lists
 after_request digests None false l = stays l
@@ -61,7 +62,7 @@ after_unread lenient letter l = grind (arith, stays)
 
 after_order : (h : Holdings) (letter : Option ℕ) (told : Option FileDigest) (r : Result Order BadText) (l : Lists)
     → OnlyMoves l (on_order h letter told r l).state.lists
-after_order h letter told (Ok (order.Send source target user temp mode)) l = after_send (send_verdict h (h.landing source target) told) (h.landing source target) mode told l
+after_order h letter told (Ok (order.Send source target user temp mode)) l = after_send (send_verdict h (h.landing source target) told) (fetched_by source temp) (h.landing source target) mode told l
 after_order h letter told (Ok (order.Request source target user)) l = after_request h.digests (to_give h source) (h.delayed source) l
 after_order h letter told (Ok order.HangUp) l = after_hang_up h (choice h l.ahead).next (choice h l.ahead).failing l
 after_order h letter told (Err fault) l = after_unread h.lenient letter l
@@ -77,25 +78,25 @@ after_last_hang_up r l = grind (arith, stays)
 after_sends_file : (file : Option File) (l : Lists) → OnlyMoves l (sends_file file l).state.lists
 after_sends_file file l = grind (arith, stays)
 
-after_send_yes : (h : Holdings) (jobs : List Job) (l : Lists) → OnlyMoves l (on_send_yes h jobs l).state.lists
-after_send_yes h [] l = stays l
-after_send_yes h (job.Send source target user temp ∷ jobs) l = after_sends_file (to_give h (fetched_by source temp)) l
-after_send_yes h (job.Request source target user ∷ jobs) l = stays l
+after_send_yes : (h : Holdings) (position : ℕ) (jobs : List Job) (l : Lists) → OnlyMoves l (on_send_yes h position jobs l).state.lists
+after_send_yes h position [] l = stays l
+after_send_yes h position (job.Send source target user temp ∷ jobs) l = after_sends_file (rest_from position (to_give h (fetched_by source temp))) l
+after_send_yes h position (job.Request source target user ∷ jobs) l = stays l
 
-after_send_answer : (h : Holdings) (held : Bool) (r : Result Answer BadText) (l : Lists) → OnlyMoves l (on_send_answer h held r l).state.lists
-after_send_answer h held (Ok answer.SendYes) l = after_send_yes h l.ahead l
-after_send_answer h held (Ok answer.SendNever) l = moves_and_chooses fail h l []
-after_send_answer h held (Ok answer.SendLater) l = moves_and_chooses (move_refused held l.ahead) h l []
-after_send_answer h held (Ok (answer.GiveYes mode)) l = stays l
-after_send_answer h held (Ok answer.GiveNever) l = stays l
-after_send_answer h held (Ok answer.GiveLater) l = stays l
-after_send_answer h held (Ok answer.DoneYes) l = stays l
-after_send_answer h held (Ok answer.DoneYesMaster) l = stays l
-after_send_answer h held (Ok answer.DoneNever) l = stays l
-after_send_answer h held (Ok answer.DoneLater) l = stays l
-after_send_answer h held (Ok answer.HangYes) l = stays l
-after_send_answer h held (Ok answer.HangNo) l = stays l
-after_send_answer h held (Err fault) l = stays l
+after_send_answer : (h : Holdings) (held : Bool) (position : ℕ) (r : Result Answer BadText) (l : Lists) → OnlyMoves l (on_send_answer h held position r l).state.lists
+after_send_answer h held position (Ok answer.SendYes) l = after_send_yes h position l.ahead l
+after_send_answer h held position (Ok answer.SendNever) l = moves_and_chooses fail h l []
+after_send_answer h held position (Ok answer.SendLater) l = moves_and_chooses (move_refused held l.ahead) h l []
+after_send_answer h held position (Ok (answer.GiveYes mode)) l = stays l
+after_send_answer h held position (Ok answer.GiveNever) l = stays l
+after_send_answer h held position (Ok answer.GiveLater) l = stays l
+after_send_answer h held position (Ok answer.DoneYes) l = stays l
+after_send_answer h held position (Ok answer.DoneYesMaster) l = stays l
+after_send_answer h held position (Ok answer.DoneNever) l = stays l
+after_send_answer h held position (Ok answer.DoneLater) l = stays l
+after_send_answer h held position (Ok answer.HangYes) l = stays l
+after_send_answer h held position (Ok answer.HangNo) l = stays l
+after_send_answer h held position (Err fault) l = stays l
 
 after_sent_file : (h : Holdings) (r : Result Answer BadText) (l : Lists) → OnlyMoves l (on_sent_file_done h r l).state.lists
 after_sent_file h (Ok answer.SendYes) l = stays l
@@ -142,12 +143,12 @@ after_text : (h : Holdings) (a : Awaits) (text : List ℕ) (l : Lists) → OnlyM
 after_text h awaits.Order text l = after_order h (refused_letter_of text) (heard h.digests (told_by_order text)) (order_of text) l
 after_text h awaits.GivenFileDone text l = after_given_file (answer_of text) l
 after_text h awaits.LastHangUp text l = after_last_hang_up (answer_of text) l
-after_text h awaits.SendAnswer text l = after_send_answer h (is_held text && h.lenient) (answer_of text) l
+after_text h awaits.SendAnswer text l = after_send_answer h (is_held text && h.lenient) (position_heard h.digests text) (answer_of text) l
 after_text h awaits.SentFileDone text l = after_sent_job h l.ahead (answer_of text) l
 after_text h awaits.RequestAnswer text l = after_request_answer h (heard h.digests (told_by_answer text)) (or_wished (answer_of text) h.lenient text) l
 after_text h awaits.HangUpAnswer text l = after_hang_up_answer (answer_of text) l
 after_text h awaits.NothingMore text l = after_nothing_more (answer_of text) l
-after_text h (awaits.SentFile target mode told) text l = stays l
+after_text h (awaits.SentFile source target mode told) text l = stays l
 after_text h (awaits.AskedFile mode told) text l = stays l
 after_text h awaits.DroppedSentFile text l = stays l
 after_text h awaits.DroppedAskedFile text l = stays l
@@ -173,7 +174,7 @@ after_file_of h (job.Request source target user ∷ jobs) mode told bytes l =
     after_asked h (file_verdict h (h.landing source target) told bytes) (record { name = h.landing source target; mode = mode; bytes = bytes }) l
 
 after_file : (h : Holdings) (a : Awaits) (bytes : List ℕ) (l : Lists) → OnlyMoves l (on_file h a bytes l).state.lists
-after_file h (awaits.SentFile target mode told) bytes l =
+after_file h (awaits.SentFile source target mode told) bytes l =
     after_kept (file_verdict h target told bytes) (record { name = target; mode = mode; bytes = bytes }) l
 after_file h (awaits.AskedFile mode told) bytes l = after_file_of h l.ahead mode told bytes l
 after_file h awaits.DroppedSentFile bytes l = stays l

@@ -14,7 +14,8 @@ use Rattle.uug_conversation.specs.Holdings.{Holdings}
 use Rattle.uug_conversation.specs.Outgoing.{Outgoing, IsSayable, IsWithin, is_silent, messages_from, messages_of, outgoing_messages, sayings_of}
 use Rattle.uug_conversation.specs.Reactions.{all_said, said_by}
 use Rattle.uug_conversation.specs.DialogueState.{is_empty}
-use Rattle.uug_conversation.specs.Turns.{Said, the_order, the_answer, the_giving, the_file, the_refusal, said_messages, all_messages}
+use Rattle.uug_conversation.specs.Turns.{Said, the_order, the_answer, the_consent, the_giving, the_file, the_refusal, said_messages, all_messages}
+use Rattle.uug_digest.specs.Positions.{consent_text}
 
 -- ---- from any offset on there is a message
 
@@ -29,6 +30,7 @@ file_has_one (message ∷ messages) = refl
 said_has_one : (measure : Measure) (offset : ℕ) (said : Said) → is_empty (messages_from measure offset said) ≡ false
 said_has_one measure offset (the_order order told) = command_has_one measure (drop offset (order_said order told))
 said_has_one measure offset (the_answer answer) = command_has_one measure (drop offset (answer_text answer))
+said_has_one measure offset (the_consent position) = command_has_one measure (drop offset (consent_text position))
 said_has_one measure offset (the_giving mode told) = command_has_one measure (drop offset (giving_said mode told))
 said_has_one measure offset (the_file bytes) = file_has_one (cut measure.size (drop offset bytes))
 said_has_one measure offset (the_refusal letter) = command_has_one measure (drop offset (refusal_text letter))
@@ -52,6 +54,7 @@ silent_is_empty h measure out = silent_by h measure out.offset out.sayings
 said_from_start : (measure : Measure) (said : Said) → messages_from measure 0 said ≡ said_messages measure said
 said_from_start measure (the_order order told) = refl
 said_from_start measure (the_answer answer) = refl
+said_from_start measure (the_consent position) = refl
 said_from_start measure (the_giving mode told) = refl
 said_from_start measure (the_file bytes) = refl
 said_from_start measure (the_refusal letter) = refl
@@ -105,16 +108,18 @@ within_at_start : (sayings : List Saying) → IsWithin sayings 0
 within_at_start [] = refl
 within_at_start (saying.Order order told ∷ more) = omega arith
 within_at_start (saying.Answer answer ∷ more) = omega arith
+within_at_start (saying.Consent position ∷ more) = omega arith
 within_at_start (saying.Giving mode told ∷ more) = omega arith
-within_at_start (saying.File name ∷ more) = tt
+within_at_start (saying.File name position ∷ more) = tt
 within_at_start (saying.Refusal letter ∷ more) = omega arith
 
 within_behind : (sayings more : List Saying) (offset : ℕ) → IsWithin sayings offset → IsWithin (sayings ++ more) offset
 within_behind [] more offset w = subst (λ z. IsWithin more z) (sym w) (within_at_start more)
 within_behind (saying.Order order told ∷ sayings) more offset w = w
 within_behind (saying.Answer answer ∷ sayings) more offset w = w
+within_behind (saying.Consent position ∷ sayings) more offset w = w
 within_behind (saying.Giving mode told ∷ sayings) more offset w = w
-within_behind (saying.File name ∷ sayings) more offset w = w
+within_behind (saying.File name position ∷ sayings) more offset w = w
 within_behind (saying.Refusal letter ∷ sayings) more offset w = w
 
 pub holds_more : (said len len_after offset : ℕ) (items more items_after : List Saying) → len ≡ length items →

@@ -24,11 +24,13 @@ use Rattle.uug_conversation.specs.Holdings.{File, Kept, Holdings, to_give}
 use Rattle.uug_conversation.specs.Jobs.{Lists, pass, strike, fail, moved, moved_once}
 use Rattle.uug_conversation.specs.Machine.{State, Reply, awaits_answer_to, comes_early, commands, gathered_with, goes_on, keeps, move_refused, on_asked_file, on_file, on_file_of, on_gathered, on_given_file_done, on_hang_up, on_hang_up_answer, on_last_hang_up, on_nothing_more, on_order, on_part, on_past_limit, on_request, on_request_answer, on_send, on_send_answer, on_send_yes, on_sent_file, on_sent_file_done, on_sent_job_done, on_text, on_unread, on_whole, opening, order_or_hang_up, out_of_turn, replies, reply_to, sends_file, step, unless_early}
 use Rattle.uug_conversation.specs.PlainMachine.{AreOff, awaits_plainly, plain_opening, plain_reply_to, plain_step}
-use Rattle.uug_conversation.specs.PlainMachine.{commands as plain_commands, goes_on as plain_goes_on, on_asked_file as plain_asked_file, on_file as plain_file, on_file_of as plain_file_of, on_gathered as plain_gathered, on_hang_up as plain_hang_up, on_order as plain_order, on_part as plain_part, on_request as plain_request, on_request_answer as plain_request_answer, on_send_answer as plain_send_answer, on_sent_file as plain_sent_file, on_sent_file_done as plain_sent_file_done, on_sent_job_done as plain_sent_job_done, on_text as plain_text, on_whole as plain_whole, unless_early as plain_unless_early}
+use Rattle.uug_conversation.specs.PlainMachine.{commands as plain_commands, goes_on as plain_goes_on, on_asked_file as plain_asked_file, on_file as plain_file, on_file_of as plain_file_of, on_gathered as plain_gathered, on_hang_up as plain_hang_up, on_order as plain_order, on_part as plain_part, on_request as plain_request, on_request_answer as plain_request_answer, on_send_answer as plain_send_answer, on_send_yes as plain_send_yes, on_sent_file as plain_sent_file, on_sent_file_done as plain_sent_file_done, on_sent_job_done as plain_sent_job_done, on_text as plain_text, on_whole as plain_whole, unless_early as plain_unless_early}
 use Rattle.uug_conversation.specs.Told.{heard, outcome}
 use Rattle.uug_conversation.specs.Turns.{Said, the_answer, the_order}
 use Rattle.uug_conversation.proofs.ComparingLemmas.{none_told}
 use Rattle.uug_conversation.proofs.StrictLemmas.{spool_decides, strict_read}
+use Rattle.uug_conversation.specs.Resuming.{position_heard}
+use Rattle.uug_conversation.proofs.ResumingLemmas.{off_hears_none, whole_from_first}
 
 -- ---- by a setting that is off
 
@@ -84,19 +86,24 @@ module _ (h : Holdings) (untold : h.digests ≡ false) where
 
   order_so : AreOff h → (letter : Option ℕ) (read : Result Order BadText) (l : Lists) → on_order h letter None read l ≡ plain_order h read l
   order_so off letter (Ok (order.Send source target user temp mode)) l =
-      ap (λ verdict. on_send verdict (h.landing source target) mode None l) (spool_decides h (h.landing source target) None off.strict)
+      ap (λ verdict. on_send verdict (fetched_by source temp) (h.landing source target) mode None l) (spool_decides h (h.landing source target) None off.strict)
   order_so off letter (Ok (order.Request source target user)) l =
       request_so h.digests (to_give h source) (h.delayed source) l untold (off.prompt source)
   order_so off letter (Ok order.HangUp) l = hang_up_so (choice h l.ahead).next (moved (choice h l.ahead).failing l)
   order_so off letter (Err fault) l = unread_so h.lenient letter l off.strict
 
-  send_answer_so : AreOff h → (held : Bool) (read : Result Answer BadText) (l : Lists) →
-      on_send_answer h (held && h.lenient) read l ≡ plain_send_answer h read l
-  send_answer_so off held (Ok answer.SendYes) l = refl
-  send_answer_so off held (Ok answer.SendNever) l = going_on_so (moved_once fail l) []
-  send_answer_so off held (Ok answer.SendLater) l =
+  send_yes_so : (jobs : List Job) (l : Lists) → on_send_yes h 0 jobs l ≡ plain_send_yes h jobs l
+  send_yes_so (job.Send source target user temp ∷ jobs) l = ap (λ found. sends_file found l) (whole_from_first (to_give h (fetched_by source temp)))
+  send_yes_so _ l = refl
+
+  send_answer_so : AreOff h → (held : Bool) (text : List ℕ) (read : Result Answer BadText) (l : Lists) →
+      on_send_answer h (held && h.lenient) (position_heard h.digests text) read l ≡ plain_send_answer h read l
+  send_answer_so off held text (Ok answer.SendYes) l =
+      ap (λ position. on_send_yes h position l.ahead l) (off_hears_none h.digests text untold) ∙ send_yes_so l.ahead l
+  send_answer_so off held text (Ok answer.SendNever) l = going_on_so (moved_once fail l) []
+  send_answer_so off held text (Ok answer.SendLater) l =
       ap (λ move. goes_on h (moved_once move l) []) (held_so held h.lenient l.ahead off.strict) ∙ going_on_so (moved_once pass l) []
-  send_answer_so off held _ l = refl
+  send_answer_so off held text _ l = refl
 
   sent_file_done_so : (read : Result Answer BadText) (l : Lists) → on_sent_file_done h read l ≡ plain_sent_file_done h read l
   sent_file_done_so (Ok answer.DoneYes) l = going_on_so (moved_once strike l) []
@@ -120,7 +127,7 @@ module _ (h : Holdings) (untold : h.digests ≡ false) where
   text_so off awaits.Order text l =
       ap (λ told. on_order h (refused_letter_of text) told (order_of text) l) (none_heard h.digests (told_by_order text) untold)
       ∙ order_so off (refused_letter_of text) (order_of text) l
-  text_so off awaits.SendAnswer text l = send_answer_so off (is_held text) (answer_of text) l
+  text_so off awaits.SendAnswer text l = send_answer_so off (is_held text) text (answer_of text) l
   text_so off awaits.SentFileDone text l = sent_job_done_so l.ahead (answer_of text) l
   text_so off awaits.RequestAnswer text l =
       ap (λ told. on_request_answer h told (or_wished (answer_of text) h.lenient text) l) (none_heard h.digests (told_by_answer text) untold)
@@ -141,9 +148,9 @@ module _ (h : Holdings) (untold : h.digests ≡ false) where
   file_of_so _ mode bytes l = refl
 
   file_so : (awaited : Awaits) (bytes : List ℕ) (l : Lists) → awaits_plainly awaited ≡ true → on_file h awaited bytes l ≡ plain_file h awaited bytes l
-  file_so (awaits.SentFile target mode None) bytes l plain =
+  file_so (awaits.SentFile source target mode None) bytes l plain =
       sent_file_so (h.immovable target) (record { name = target; mode = mode; bytes = bytes }) l
-  file_so (awaits.SentFile target mode (Some told)) bytes l plain = absurd cc
+  file_so (awaits.SentFile source target mode (Some told)) bytes l plain = absurd cc
   file_so (awaits.AskedFile mode None) bytes l plain = file_of_so l.ahead mode bytes l
   file_so (awaits.AskedFile mode (Some told)) bytes l plain = absurd cc
   file_so awaits.DroppedSentFile bytes l plain = absurd cc
@@ -193,10 +200,10 @@ answer_plainly order.HangUp = refl
 going_on : (h : Holdings) (l : Lists) (before : List Said) → StaysPlain (plain_goes_on h l before)
 going_on h l before = answer_plainly (order_or_hang_up (choice h l.ahead).next)
 
-send : (verdict : Verdict) (target : List ℕ) (mode : ℕ) (l : Lists) → StaysPlain (on_send verdict target mode None l)
-send Yes target mode l = refl
-send Never target mode l = refl
-send Later target mode l = refl
+send : (verdict : Verdict) (source target : List ℕ) (mode : ℕ) (l : Lists) → StaysPlain (on_send verdict source target mode None l)
+send Yes source target mode l = refl
+send Never source target mode l = refl
+send Later source target mode l = refl
 
 request : (found : Option File) (l : Lists) → StaysPlain (plain_request found l)
 request None l = refl
@@ -207,7 +214,7 @@ hang_up None l = refl
 hang_up (Some next) l = answer_plainly next
 
 an_order : (h : Holdings) (read : Result Order BadText) (l : Lists) → StaysPlain (plain_order h read l)
-an_order h (Ok (order.Send source target user temp mode)) l = send (h.verdict (h.landing source target)) (h.landing source target) mode l
+an_order h (Ok (order.Send source target user temp mode)) l = send (h.verdict (h.landing source target)) (fetched_by source temp) (h.landing source target) mode l
 an_order h (Ok (order.Request source target user)) l = request (to_give h source) l
 an_order h (Ok order.HangUp) l = hang_up (choice h l.ahead).next (moved (choice h l.ahead).failing l)
 an_order h (Err fault) l = refl
@@ -227,7 +234,7 @@ file_sent : (found : Option File) (l : Lists) → StaysPlain (sends_file found l
 file_sent None l = refl
 file_sent (Some file) l = refl
 
-send_yes : (h : Holdings) (jobs : List Job) (l : Lists) → StaysPlain (on_send_yes h jobs l)
+send_yes : (h : Holdings) (jobs : List Job) (l : Lists) → StaysPlain (plain_send_yes h jobs l)
 send_yes h (job.Send source target user temp ∷ jobs) l = file_sent (to_give h (fetched_by source temp)) l
 send_yes h _ l = refl
 
@@ -288,7 +295,7 @@ file_of h (job.Request source target user ∷ jobs) mode bytes l =
 file_of h _ mode bytes l = refl
 
 a_file : (h : Holdings) (awaited : Awaits) (bytes : List ℕ) (l : Lists) → StaysPlain (plain_file h awaited bytes l)
-a_file h (awaits.SentFile target mode told) bytes l = sent_file (h.immovable target) (record { name = target; mode = mode; bytes = bytes }) l
+a_file h (awaits.SentFile source target mode told) bytes l = sent_file (h.immovable target) (record { name = target; mode = mode; bytes = bytes }) l
 a_file h (awaits.AskedFile mode told) bytes l = file_of h l.ahead mode bytes l
 a_file h _ bytes l = refl
 

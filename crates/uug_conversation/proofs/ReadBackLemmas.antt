@@ -1,5 +1,5 @@
 -- Every text of a conversation of sound parties is a command text, and is read back as itself.
-use Rattle.std.proofs.Common.{◌≡◌, ℕ, ◌≤◌, Bool, true, false, List, [], ◌∷◌, length, Option, Some, None, refl, arith}
+use Rattle.std.proofs.Common.{◌≡◌, ℕ, ◌<◌, ◌≤◌, ◌^◌, Bool, true, false, List, [], ◌∷◌, length, Option, Some, None, refl, arith}
 use Rattle.std.proofs.lemmas.List.Elements.{All-head, All-tail}
 use Rattle.std.specs.List.{All}
 use Rattle.uug_digest.specs.Digests.{IsSend, give_telling_text, order_telling_text}
@@ -26,13 +26,15 @@ use Rattle.uug_conversation.specs.Jobs.{Move}
 use Rattle.uug_conversation.specs.Party.{Party, HasNames, IsSound}
 use Rattle.uug_conversation.specs.ReadBack.{IsReadBack, EachTurn}
 use Rattle.uug_conversation.specs.Told.{told_of}
-use Rattle.uug_conversation.specs.Turns.{the_order, the_answer, the_giving, Turn}
+use Rattle.uug_conversation.specs.Turns.{the_order, the_answer, the_consent, the_giving, Turn}
 use Rattle.uug_conversation.specs.declared.side.Side.{Side}
 use Rattle.uug_conversation.specs.declared.side.Side.TheVariants.{Caller, Called}
 use Rattle.uug_conversation.proofs.LimitLemmas.{given_file}
 use Rattle.uug_talk.proofs.OrderLemmas.{order_of-spelled}
 use Rattle.uug_talk.proofs.AnswerLemmas.{answer_of-spelled}
 use Rattle.uug_talk.proofs.WriteLemmas.{IsCommandText-order, IsCommandText-answer, ReadsOrder-written, ReadsAnswer-written}
+use Rattle.uug_digest.specs.Positions.{consent_text}
+use Rattle.uug_digest.proofs.PositionLemmas.{consent_command, consent_reads, consent_tells}
 
 -- ---- a file that is given is there, and not too large
 
@@ -76,6 +78,10 @@ answer_back answer w = (
   answer_of-spelled (answer_text answer) answer (ReadsAnswer-written (answer_text answer) answer w refl),
 )
 
+consent_back : (position : ℕ) → position < 2 ^ 32 → IsReadBack (the_consent position)
+consent_back position h =
+    (consent_command position, answer_of-spelled (consent_text position) answer.SendYes (consent_reads position), consent_tells position h)
+
 giving_back : (mode : ℕ) (told : Option FileDigest) → mode ≤ MODE_MAX → IsSizedTold told → IsReadBack (the_giving mode told)
 giving_back mode None m sized =
     let text = answer_text (answer.GiveYes mode) in (
@@ -110,12 +116,12 @@ send_back master slave digests source target user temp own (Some file) e m n nam
 send_back master slave digests source target user temp own (Some file) e m n name Yes false next rest r = (
   telling_back (order.Send source target user temp file.mode) (told_of digests (Some file)) n
       (given_mode own (fetched_by source temp) file m e) tt (told_is_sized digests file (given_fits own (fetched_by source temp) file e)),
-  (answer_back answer.SendYes tt, (given_fits own (fetched_by source temp) file e, (answer_back answer.DoneYes tt, r))),
+  (consent_back 0 (omega arith), (given_fits own (fetched_by source temp) file e, (answer_back answer.DoneYes tt, r))),
 )
 send_back master slave digests source target user temp own (Some file) e m n name Yes true next rest r = (
   telling_back (order.Send source target user temp file.mode) (told_of digests (Some file)) n
       (given_mode own (fetched_by source temp) file m e) tt (told_is_sized digests file (given_fits own (fetched_by source temp) file e)),
-  (answer_back answer.SendYes tt, (given_fits own (fetched_by source temp) file e, (answer_back answer.DoneNever tt, r))),
+  (consent_back 0 (omega arith), (given_fits own (fetched_by source temp) file e, (answer_back answer.DoneNever tt, r))),
 )
 
 request_back : (master slave : Side) (digests : Bool) (source target user : List ℕ) (others : Holdings)

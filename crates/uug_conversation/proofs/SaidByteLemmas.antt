@@ -36,11 +36,12 @@ use Rattle.uug_conversation.specs.Messages.{Message, messages, measures, turn_me
 use Rattle.uug_conversation.specs.Party.{HasNames, Party}
 use Rattle.uug_conversation.specs.ReadBack.{EachTurn}
 use Rattle.uug_conversation.specs.Told.{giving_said, order_said, told_of}
-use Rattle.uug_conversation.specs.Turns.{Said, Turn, said_messages, the_answer, the_file, the_giving, the_order, the_refusal}
+use Rattle.uug_conversation.specs.Turns.{Said, Turn, said_messages, the_answer, the_consent, the_file, the_giving, the_order, the_refusal}
 use Rattle.uug_conversation.specs.declared.side.Side.{Side}
 use Rattle.uug_conversation.specs.declared.side.Side.TheVariants.{Caller, Called}
 use Rattle.uug_conversation.specs.View.{conversation_view, own_messages, view}
 use Rattle.uug_conversation.proofs.LimitLemmas.{given_file}
+use Rattle.uug_digest.specs.Positions.{consent_text}
 
 abbrev IsByte : ℕ → Type 0
 IsByte b = b < 256
@@ -225,6 +226,7 @@ giving_said_bytes mode (Some told) h =
 abbrev SaysBytes : Said → Type 0
 SaysBytes (the_order order told) = AllBytes (order_said order told)
 SaysBytes (the_answer said) = AllBytes (answer_text said)
+SaysBytes (the_consent position) = AllBytes (consent_text position)
 SaysBytes (the_giving mode told) = AllBytes (giving_said mode told)
 SaysBytes (the_file bytes) = AllBytes bytes
 SaysBytes (the_refusal letter) = AllBytes (refusal_text letter)
@@ -232,6 +234,7 @@ SaysBytes (the_refusal letter) = AllBytes (refusal_text letter)
 said_bytes : (measure : Measure) (said : Said) → SaysBytes said → All AreBytes (said_messages measure said)
 said_bytes measure (the_order order told) all = command_bytes measure (order_said order told) all
 said_bytes measure (the_answer said) all = command_bytes measure (answer_text said) all
+said_bytes measure (the_consent position) all = command_bytes measure (consent_text position) all
 said_bytes measure (the_giving mode told) all = command_bytes measure (giving_said mode told) all
 said_bytes measure (the_file bytes) all = file_bytes measure.size bytes all
 said_bytes measure (the_refusal letter) all = command_bytes measure (refusal_text letter) all

@@ -31,12 +31,14 @@ use Rattle.uug_conversation.specs.Machine.{Reply, goes_on, order_or_hang_up, on_
 use Rattle.uug_conversation.specs.Outgoing.{IsSayable, sayings_of}
 use Rattle.uug_conversation.specs.Reactions.{all_said, reply_of, said_before, said_by}
 use Rattle.uug_conversation.specs.Told.{heard, told_with}
-use Rattle.uug_conversation.specs.Turns.{Said, the_order, the_answer, the_giving, the_file, the_refusal}
+use Rattle.uug_conversation.specs.Turns.{Said, the_order, the_answer, the_consent, the_giving, the_file, the_refusal}
 use Rattle.uug_conversation.proofs.ReadBackLemmas.{given_mode}
+use Rattle.uug_conversation.specs.Resuming.{position_heard, rest_from}
 
 abbrev CanBeSaid : Said → Type 0
 CanBeSaid (the_order order told) = HasMode order
 CanBeSaid (the_answer answer) = IsWritten answer
+CanBeSaid (the_consent position) = Unit {0}
 CanBeSaid (the_giving mode told) = mode ≤ MODE_MAX
 CanBeSaid (the_file bytes) = Unit {0}
 CanBeSaid (the_refusal letter) = is_refusable letter ≡ true
@@ -99,10 +101,10 @@ module _ (h : Holdings) (modes : AreModes h) where
       commanded before (order_or_hang_up (choice h l.ahead).next) (told_with h (order_or_hang_up (choice h l.ahead).next)) b
       (hang_up_has (choice h l.ahead).next (choice_has l.ahead))
 
-  taking_send : (verdict : Verdict) (target : List ℕ) (mode : ℕ) (told : Option FileDigest) (l : Lists) → CanAllBeSaid (on_send verdict target mode told l).says
-  taking_send Yes target mode told l = (tt, tt)
-  taking_send Never target mode told l = (tt, tt)
-  taking_send Later target mode told l = (tt, tt)
+  taking_send : (verdict : Verdict) (source target : List ℕ) (mode : ℕ) (told : Option FileDigest) (l : Lists) → CanAllBeSaid (on_send verdict source target mode told l).says
+  taking_send Yes source target mode told l = (tt, tt)
+  taking_send Never source target mode told l = (tt, tt)
+  taking_send Later source target mode told l = (tt, tt)
 
   taking_request : (source : List ℕ) (found : Option File) (delayed : Bool) (l : Lists) → to_give h source ≡ found →
       CanAllBeSaid (on_request h.digests found delayed l).says
@@ -121,7 +123,7 @@ module _ (h : Holdings) (modes : AreModes h) where
 
   taking_order : (letter : Option ℕ) (told : Option FileDigest) (read : Result Order BadText) (l : Lists) → IsRefusableSo letter →
       CanAllBeSaid (on_order h letter told read l).says
-  taking_order letter told (Ok (order.Send source target user temp mode)) l w = taking_send (send_verdict h (h.landing source target) told) (h.landing source target) mode told l
+  taking_order letter told (Ok (order.Send source target user temp mode)) l w = taking_send (send_verdict h (h.landing source target) told) (fetched_by source temp) (h.landing source target) mode told l
   taking_order letter told (Ok (order.Request source target user)) l w = taking_request source (to_give h source) (h.delayed source) l refl
   taking_order letter told (Ok order.HangUp) l w =
       taking_hang_up (choice h l.ahead).next (moved (choice h l.ahead).failing l) (choice_has l.ahead)
@@ -142,15 +144,15 @@ module _ (h : Holdings) (modes : AreModes h) where
   file_sent None l = tt
   file_sent (Some file) l = (tt, tt)
 
-  send_yes : (jobs : List Job) (l : Lists) → CanAllBeSaid (on_send_yes h jobs l).says
-  send_yes (job.Send source target user temp ∷ jobs) l = file_sent (to_give h (fetched_by source temp)) l
-  send_yes _ l = tt
+  send_yes : (position : ℕ) (jobs : List Job) (l : Lists) → CanAllBeSaid (on_send_yes h position jobs l).says
+  send_yes position (job.Send source target user temp ∷ jobs) l = file_sent (rest_from position (to_give h (fetched_by source temp))) l
+  send_yes position _ l = tt
 
-  send_answer : (held : Bool) (read : Result Answer BadText) (l : Lists) → CanAllBeSaid (on_send_answer h held read l).says
-  send_answer held (Ok answer.SendYes) l = send_yes l.ahead l
-  send_answer held (Ok answer.SendNever) l = going_on (moved_once fail l) [] tt
-  send_answer held (Ok answer.SendLater) l = going_on (moved_once (move_refused held l.ahead) l) [] tt
-  send_answer held _ l = tt
+  send_answer : (held : Bool) (position : ℕ) (read : Result Answer BadText) (l : Lists) → CanAllBeSaid (on_send_answer h held position read l).says
+  send_answer held position (Ok answer.SendYes) l = send_yes position l.ahead l
+  send_answer held position (Ok answer.SendNever) l = going_on (moved_once fail l) [] tt
+  send_answer held position (Ok answer.SendLater) l = going_on (moved_once (move_refused held l.ahead) l) [] tt
+  send_answer held position _ l = tt
 
   sent_file_done : (read : Result Answer BadText) (l : Lists) → CanAllBeSaid (on_sent_file_done h read l).says
   sent_file_done (Ok answer.DoneYes) l = going_on (moved_once strike l) [] tt
@@ -182,7 +184,7 @@ module _ (h : Holdings) (modes : AreModes h) where
   taking_text awaits.Order text l = taking_order (refused_letter_of text) (heard h.digests (told_by_order text)) (order_of text) l (refusable text)
   taking_text awaits.GivenFileDone text l = given_file_done (answer_of text) l
   taking_text awaits.LastHangUp text l = last_hang_up (answer_of text) l
-  taking_text awaits.SendAnswer text l = send_answer (is_held text && h.lenient) (answer_of text) l
+  taking_text awaits.SendAnswer text l = send_answer (is_held text && h.lenient) (position_heard h.digests text) (answer_of text) l
   taking_text awaits.SentFileDone text l = sent_job_done l.ahead (answer_of text) l
   taking_text awaits.RequestAnswer text l = request_answer (heard h.digests (told_by_answer text)) (or_wished (answer_of text) h.lenient text) l
   taking_text awaits.HangUpAnswer text l = hang_up_answer (answer_of text) l
@@ -205,7 +207,7 @@ module _ (h : Holdings) (modes : AreModes h) where
   file_of _ mode told bytes l = tt
 
   taking_file : (awaited : Awaits) (bytes : List ℕ) (l : Lists) → CanAllBeSaid (on_file h awaited bytes l).says
-  taking_file (awaits.SentFile target mode told) bytes l =
+  taking_file (awaits.SentFile source target mode told) bytes l =
       sent_file (file_verdict h target told bytes) (record { name = target; mode = mode; bytes = bytes }) l
   taking_file (awaits.AskedFile mode told) bytes l = file_of l.ahead mode told bytes l
   taking_file awaits.DroppedSentFile bytes l = (tt, tt)
@@ -217,8 +219,9 @@ module _ (h : Holdings) (modes : AreModes h) where
 of_said : (h : Holdings) (s : Saying) → CanBeSaid (said_by h s) → IsSayable s
 of_said h (saying.Order order told) m = m
 of_said h (saying.Answer answer) w = w
+of_said h (saying.Consent position) u = tt
 of_said h (saying.Giving mode told) m = m
-of_said h (saying.File name) u = tt
+of_said h (saying.File name position) u = tt
 of_said h (saying.Refusal letter) e = e
 
 of_all_said : (h : Holdings) (says : Says) → CanAllBeSaid (all_said h says) → All IsSayable (sayings_of says)

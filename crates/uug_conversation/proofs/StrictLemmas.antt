@@ -26,6 +26,7 @@ use Rattle.uug_conversation.specs.Jobs.{Lists, pass, strike, fail, moved, moved_
 use Rattle.uug_conversation.specs.Machine.{State, Reply, awaits_answer_to, order_or_hang_up, goes_on, on_send, send_verdict, on_request, on_hang_up, on_unread, on_order, on_given_file_done, on_last_hang_up, sends_file, on_send_yes, move_refused, on_send_answer, on_sent_file_done, on_sent_job_done, on_request_answer, on_hang_up_answer, on_nothing_more, on_text, file_verdict, on_sent_file, on_asked_file, on_file_of, on_file, on_whole, on_gathered, is_dropped, on_past_limit, on_part, gathered_with, opening, out_of_turn, step}
 use Rattle.uug_conversation.specs.Told.{heard, is_too_large, unless_too_large}
 use Rattle.uug_conversation.specs.Turns.{Said, the_answer}
+use Rattle.uug_conversation.specs.Resuming.{position_heard, rest_from}
 
 -- ---- what it can't read, and SN8
 
@@ -47,7 +48,7 @@ strict_held false jobs = refl
 pub held_stays : (h : Holdings) (text : List ℕ) (l : Lists) → h.lenient ≡ false → answer_of text ≡ Ok answer.SendLater →
     on_text h awaits.SendAnswer text l ≡ goes_on h (moved_once pass l) []
 held_stays h text l strict e =
-    ap (λ read. on_send_answer h (is_held text && h.lenient) read l) e
+    ap (λ read. on_send_answer h (is_held text && h.lenient) (position_heard h.digests text) read l) e
     ∙ ap (λ (b : Bool). goes_on h (moved_once (move_refused (is_held text && b) l.ahead) l) []) strict
     ∙ ap (λ move. goes_on h (moved_once move l) []) (strict_held (is_held text) l.ahead)
 
@@ -87,10 +88,10 @@ order_drops_none order.HangUp = refl
 going_on : (h : Holdings) (l : Lists) (before : List Said) → DropsNone (goes_on h l before)
 going_on h l before = order_drops_none (order_or_hang_up (choice h l.ahead).next)
 
-send : (verdict : Verdict) (target : List ℕ) (mode : ℕ) (told : Option FileDigest) (l : Lists) → DropsNone (on_send verdict target mode told l)
-send Yes target mode told l = refl
-send Never target mode told l = refl
-send Later target mode told l = refl
+send : (verdict : Verdict) (source target : List ℕ) (mode : ℕ) (told : Option FileDigest) (l : Lists) → DropsNone (on_send verdict source target mode told l)
+send Yes source target mode told l = refl
+send Never source target mode told l = refl
+send Later source target mode told l = refl
 
 request : (digests : Bool) (found : Option File) (delayed : Bool) (l : Lists) → DropsNone (on_request digests found delayed l)
 request digests None false l = refl
@@ -107,7 +108,7 @@ unread _ _ l = refl
 
 an_order : (h : Holdings) (letter : Option ℕ) (told : Option FileDigest) (read : Result Order BadText) (l : Lists)
     → DropsNone (on_order h letter told read l)
-an_order h letter told (Ok (order.Send source target user temp mode)) l = send (send_verdict h (h.landing source target) told) (h.landing source target) mode told l
+an_order h letter told (Ok (order.Send source target user temp mode)) l = send (send_verdict h (h.landing source target) told) (fetched_by source temp) (h.landing source target) mode told l
 an_order h letter told (Ok (order.Request source target user)) l = request h.digests (to_give h source) (h.delayed source) l
 an_order h letter told (Ok order.HangUp) l = hang_up h (choice h l.ahead).next (moved (choice h l.ahead).failing l)
 an_order h letter told (Err fault) l = unread h.lenient letter l
@@ -127,15 +128,15 @@ file_sent : (found : Option File) (l : Lists) → DropsNone (sends_file found l)
 file_sent None l = refl
 file_sent (Some file) l = refl
 
-send_yes : (h : Holdings) (jobs : List Job) (l : Lists) → DropsNone (on_send_yes h jobs l)
-send_yes h (job.Send source target user temp ∷ jobs) l = file_sent (to_give h (fetched_by source temp)) l
-send_yes h _ l = refl
+send_yes : (h : Holdings) (position : ℕ) (jobs : List Job) (l : Lists) → DropsNone (on_send_yes h position jobs l)
+send_yes h position (job.Send source target user temp ∷ jobs) l = file_sent (rest_from position (to_give h (fetched_by source temp))) l
+send_yes h position _ l = refl
 
-send_answer : (h : Holdings) (held : Bool) (read : Result Answer BadText) (l : Lists) → DropsNone (on_send_answer h held read l)
-send_answer h held (Ok answer.SendYes) l = send_yes h l.ahead l
-send_answer h held (Ok answer.SendNever) l = going_on h (moved_once fail l) []
-send_answer h held (Ok answer.SendLater) l = going_on h (moved_once (move_refused held l.ahead) l) []
-send_answer h held _ l = refl
+send_answer : (h : Holdings) (held : Bool) (position : ℕ) (read : Result Answer BadText) (l : Lists) → DropsNone (on_send_answer h held position read l)
+send_answer h held position (Ok answer.SendYes) l = send_yes h position l.ahead l
+send_answer h held position (Ok answer.SendNever) l = going_on h (moved_once fail l) []
+send_answer h held position (Ok answer.SendLater) l = going_on h (moved_once (move_refused held l.ahead) l) []
+send_answer h held position _ l = refl
 
 sent_file_done : (h : Holdings) (read : Result Answer BadText) (l : Lists) → DropsNone (on_sent_file_done h read l)
 sent_file_done h (Ok answer.DoneYes) l = going_on h (moved_once strike l) []
@@ -167,7 +168,7 @@ a_text : (h : Holdings) (awaited : Awaits) (text : List ℕ) (l : Lists) → Dro
 a_text h awaits.Order text l = an_order h (refused_letter_of text) (heard h.digests (told_by_order text)) (order_of text) l
 a_text h awaits.GivenFileDone text l = given_file_done (answer_of text) l
 a_text h awaits.LastHangUp text l = last_hang_up (answer_of text) l
-a_text h awaits.SendAnswer text l = send_answer h (is_held text && h.lenient) (answer_of text) l
+a_text h awaits.SendAnswer text l = send_answer h (is_held text && h.lenient) (position_heard h.digests text) (answer_of text) l
 a_text h awaits.SentFileDone text l = sent_job_done h l.ahead (answer_of text) l
 a_text h awaits.RequestAnswer text l = request_answer h (heard h.digests (told_by_answer text)) (or_wished (answer_of text) h.lenient text) l
 a_text h awaits.HangUpAnswer text l = hang_up_answer (answer_of text) l
@@ -190,7 +191,7 @@ file_of h (job.Request source target user ∷ jobs) mode told bytes l =
 file_of h _ mode told bytes l = refl
 
 a_file : (h : Holdings) (awaited : Awaits) (bytes : List ℕ) (l : Lists) → DropsNone (on_file h awaited bytes l)
-a_file h (awaits.SentFile target mode told) bytes l =
+a_file h (awaits.SentFile source target mode told) bytes l =
     sent_file (file_verdict h target told bytes) (record { name = target; mode = mode; bytes = bytes }) l
 a_file h (awaits.AskedFile mode told) bytes l = file_of h l.ahead mode told bytes l
 a_file h awaits.DroppedSentFile bytes l = refl

@@ -12,7 +12,7 @@ use Rattle.uug_conversation.specs.Told.{fits, heard, is_same, is_too_large, told
 from_parts : (a b : FileDigest) → a.size ≡ b.size → a.hash ≡ b.hash → a ≡ b
 from_parts a b s h = ap₂ (λ size hash. record { size = size; hash = hash }) s h
 
-same_decides : (a b : FileDigest) → Decides (is_same a b) (a ≡ b)
+pub same_decides : (a b : FileDigest) → Decides (is_same a b) (a ≡ b)
 same_decides a b =
     Decides-like (is_same a b) (λ h. from_parts a b h.0 h.1) (λ e. (ap (λ (d : FileDigest). d.size) e, ap (λ (d : FileDigest). d.hash) e))
     (Decides-and (a.size == b.size) (bytes_eq a.hash b.hash) (Decides-eqb a.size b.size) (bytes_decides a.hash b.hash))

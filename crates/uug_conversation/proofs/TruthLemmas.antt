@@ -25,15 +25,16 @@ use Rattle.uug_conversation.specs.Holdings.{File, Kept, Holdings, to_give}
 use Rattle.uug_conversation.specs.Jobs.{Lists, moved}
 use Rattle.uug_conversation.specs.Machine.{State, Reply, comes_early, file_verdict, on_send, send_verdict, on_request, on_hang_up, on_unread, on_order, on_given_file_done, on_last_hang_up, sends_file, on_send_yes, on_send_answer, on_sent_file_done, on_sent_job_done, on_request_answer, on_hang_up_answer, on_nothing_more, on_text, on_sent_file, on_asked_file, on_file_of, on_file, on_whole, on_gathered, on_past_limit, on_part, gathered_with, opening, reply_to, step, unless_early}
 use Rattle.uug_conversation.specs.Told.{heard}
+use Rattle.uug_conversation.specs.Resuming.{position_heard, rest_from}
 
 module _ (h : Holdings) where
   abbrev IsTrue : Reply → Type 0
   IsTrue r = TellsTruly h r.says
 
-  send : (verdict : Verdict) (target : List ℕ) (mode : ℕ) (told : Option FileDigest) (l : Lists) → IsTrue (on_send verdict target mode told l)
-  send Yes target mode told l = tt
-  send Never target mode told l = tt
-  send Later target mode told l = tt
+  send : (verdict : Verdict) (source target : List ℕ) (mode : ℕ) (told : Option FileDigest) (l : Lists) → IsTrue (on_send verdict source target mode told l)
+  send Yes source target mode told l = tt
+  send Never source target mode told l = tt
+  send Later source target mode told l = tt
 
   request : (found : Option File) (delayed : Bool) (l : Lists) → IsTrue (on_request h.digests found delayed l)
   request None false l = tt
@@ -50,7 +51,7 @@ module _ (h : Holdings) where
 
   an_order : (letter : Option ℕ) (told : Option FileDigest) (read : Result Order BadText) (l : Lists) →
       IsTrue (on_order h letter told read l)
-  an_order letter told (Ok (order.Send source target user temp mode)) l = send (send_verdict h (h.landing source target) told) (h.landing source target) mode told l
+  an_order letter told (Ok (order.Send source target user temp mode)) l = send (send_verdict h (h.landing source target) told) (fetched_by source temp) (h.landing source target) mode told l
   an_order letter told (Ok (order.Request source target user)) l = request (to_give h source) (h.delayed source) l
   an_order letter told (Ok order.HangUp) l = hang_up (choice h l.ahead).next (moved (choice h l.ahead).failing l)
   an_order letter told (Err fault) l = unread h.lenient letter l
@@ -70,15 +71,15 @@ module _ (h : Holdings) where
   file_sent None l = tt
   file_sent (Some file) l = tt
 
-  send_yes : (jobs : List Job) (l : Lists) → IsTrue (on_send_yes h jobs l)
-  send_yes (job.Send source target user temp ∷ jobs) l = file_sent (to_give h (fetched_by source temp)) l
-  send_yes _ l = tt
+  send_yes : (position : ℕ) (jobs : List Job) (l : Lists) → IsTrue (on_send_yes h position jobs l)
+  send_yes position (job.Send source target user temp ∷ jobs) l = file_sent (rest_from position (to_give h (fetched_by source temp))) l
+  send_yes position _ l = tt
 
-  send_answer : (held : Bool) (read : Result Answer BadText) (l : Lists) → IsTrue (on_send_answer h held read l)
-  send_answer held (Ok answer.SendYes) l = send_yes l.ahead l
-  send_answer held (Ok answer.SendNever) l = (refl, tt)
-  send_answer held (Ok answer.SendLater) l = (refl, tt)
-  send_answer held _ l = tt
+  send_answer : (held : Bool) (position : ℕ) (read : Result Answer BadText) (l : Lists) → IsTrue (on_send_answer h held position read l)
+  send_answer held position (Ok answer.SendYes) l = send_yes position l.ahead l
+  send_answer held position (Ok answer.SendNever) l = (refl, tt)
+  send_answer held position (Ok answer.SendLater) l = (refl, tt)
+  send_answer held position _ l = tt
 
   sent_file_done : (read : Result Answer BadText) (l : Lists) → IsTrue (on_sent_file_done h read l)
   sent_file_done (Ok answer.DoneYes) l = (refl, tt)
@@ -110,7 +111,7 @@ module _ (h : Holdings) where
   a_text awaits.Order text l = an_order (refused_letter_of text) (heard h.digests (told_by_order text)) (order_of text) l
   a_text awaits.GivenFileDone text l = given_file_done (answer_of text) l
   a_text awaits.LastHangUp text l = last_hang_up (answer_of text) l
-  a_text awaits.SendAnswer text l = send_answer (is_held text && h.lenient) (answer_of text) l
+  a_text awaits.SendAnswer text l = send_answer (is_held text && h.lenient) (position_heard h.digests text) (answer_of text) l
   a_text awaits.SentFileDone text l = sent_job_done l.ahead (answer_of text) l
   a_text awaits.RequestAnswer text l = request_answer (heard h.digests (told_by_answer text)) (or_wished (answer_of text) h.lenient text) l
   a_text awaits.HangUpAnswer text l = hang_up_answer (answer_of text) l
@@ -133,7 +134,7 @@ module _ (h : Holdings) where
   file_of _ mode told bytes l = tt
 
   a_file : (awaited : Awaits) (bytes : List ℕ) (l : Lists) → IsTrue (on_file h awaited bytes l)
-  a_file (awaits.SentFile target mode told) bytes l =
+  a_file (awaits.SentFile source target mode told) bytes l =
       sent_file (file_verdict h target told bytes) (record { name = target; mode = mode; bytes = bytes }) l
   a_file (awaits.AskedFile mode told) bytes l = file_of l.ahead mode told bytes l
   a_file awaits.DroppedSentFile bytes l = tt

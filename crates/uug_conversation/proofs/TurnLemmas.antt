@@ -15,13 +15,14 @@ use Rattle.uug_conversation.specs.Machine.{State, Reply, between, kind_awaited, 
 use Rattle.uug_conversation.specs.Messages.{Message, turn_messages, messages}
 use Rattle.uug_conversation.specs.ReadBack.{IsReadBack}
 use Rattle.uug_conversation.specs.Runs.{has_said_all, is_over, is_bad}
-use Rattle.uug_conversation.specs.Turns.{other, Said, the_order, the_answer, the_giving, the_file, the_refusal, said_messages, all_messages, Turn}
+use Rattle.uug_conversation.specs.Turns.{other, Said, the_order, the_answer, the_consent, the_giving, the_file, the_refusal, said_messages, all_messages, Turn}
 use Rattle.uug_conversation.specs.declared.side.Side.{Side}
 use Rattle.uug_conversation.specs.declared.side.Side.TheVariants.{Caller, Called}
 use Rattle.uug_conversation.specs.View.{Seen, says, hears, seen, view, own_messages}
 use Rattle.uug_conversation.proofs.Accord.{none_left, Listens, Does, Accords}
 use Rattle.uug_talk.proofs.GatherLemmas.{gathered_push}
 use Rattle.uug_talk.proofs.GathersBackLemmas.{command_back, file_back}
+use Rattle.uug_digest.specs.Positions.{consent_text}
 
 seen-own : (me : Side) (bytes : List ℕ) (moves : List Move) (keeps : List Kept) → seen me me bytes moves keeps ≡ says bytes
 seen-own Caller bytes moves keeps = refl
@@ -184,6 +185,7 @@ module _ (me : Side) (h : Holdings) (measure : Measure) (l : Lists) (w : Awaits)
 abbrev pub said_kind : Said → Kind
 said_kind (the_order order told) = OfCommand
 said_kind (the_answer answer) = OfCommand
+said_kind (the_consent position) = OfCommand
 said_kind (the_giving mode told) = OfCommand
 said_kind (the_file bytes) = OfFile FILE_MAX
 said_kind (the_refusal letter) = OfCommand
@@ -191,6 +193,7 @@ said_kind (the_refusal letter) = OfCommand
 abbrev pub said_bytes : Said → List ℕ
 said_bytes (the_order order told) = order_said order told
 said_bytes (the_answer answer) = answer_text answer
+said_bytes (the_consent position) = consent_text position
 said_bytes (the_giving mode told) = giving_said mode told
 said_bytes (the_file bytes) = bytes
 said_bytes (the_refusal letter) = refusal_text letter
@@ -199,6 +202,7 @@ said_back : (measure : Measure) → 0 < measure.size → (said : Said) → IsRea
     GathersBack (said_kind said) (said_messages measure said) (said_bytes said)
 said_back measure p (the_order order told) r = command_back measure (order_said order told) p r.0
 said_back measure p (the_answer answer) r = command_back measure (answer_text answer) p r.0
+said_back measure p (the_consent position) r = command_back measure (consent_text position) p r.0
 said_back measure p (the_giving mode told) r = command_back measure (giving_said mode told) p r.0
 said_back measure p (the_file bytes) r = file_back measure.size FILE_MAX bytes p
 said_back measure p (the_refusal letter) r = absurd r
@@ -206,6 +210,7 @@ said_back measure p (the_refusal letter) r = absurd r
 said_fits : (said : Said) → IsReadBack said → length (said_bytes said) ≤ limit_of (said_kind said)
 said_fits (the_order order told) r = r.0.short
 said_fits (the_answer answer) r = r.0.short
+said_fits (the_consent position) r = r.0.short
 said_fits (the_giving mode told) r = r.0.short
 said_fits (the_file bytes) r = r
 said_fits (the_refusal letter) r = absurd r

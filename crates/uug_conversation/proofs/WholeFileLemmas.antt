@@ -17,11 +17,11 @@ use Rattle.uug_conversation.specs.Reactions.{FileAwaited, IsKept, awaited_verdic
 abbrev pub keeping : List Kept → Reply → Reply
 keeping files r = record { state = r.state; says = r.says; keeps = files }
 
-sent_is : (h : Holdings) (target : List ℕ) (mode : ℕ) (told : Option FileDigest) (verdict : Verdict) (file : Kept) (l : Lists) →
-    on_sent_file verdict file l ≡ keeping (kept_on verdict file) (on_kept h (awaits.SentFile target mode told) verdict l)
-sent_is h target mode told Yes file l = refl
-sent_is h target mode told Never file l = refl
-sent_is h target mode told Later file l = refl
+sent_is : (h : Holdings) (source target : List ℕ) (mode : ℕ) (told : Option FileDigest) (verdict : Verdict) (file : Kept) (l : Lists) →
+    on_sent_file verdict file l ≡ keeping (kept_on verdict file) (on_kept h (awaits.SentFile source target mode told) verdict l)
+sent_is h source target mode told Yes file l = refl
+sent_is h source target mode told Never file l = refl
+sent_is h source target mode told Later file l = refl
 
 asked_is : (h : Holdings) (mode : ℕ) (told : Option FileDigest) (verdict : Verdict) (file : Kept) (l : Lists) →
     on_asked_file h verdict file l ≡ keeping (kept_on verdict file) (on_kept h (awaits.AskedFile mode told) verdict l)
@@ -48,12 +48,12 @@ asked_of h (job.Request source target user ∷ jobs) mode told bytes l file e =
 
 on_file_is : (h : Holdings) (w : Awaits) (bytes : List ℕ) (l : Lists) (file : FileAwaited) → file_awaited h w l.ahead ≡ Some file →
     on_file h w bytes l ≡ done_with h w bytes l file
-on_file_is h (awaits.SentFile target mode told) bytes l file e =
+on_file_is h (awaits.SentFile source target mode told) bytes l file e =
     let made : FileAwaited = record { name = target; mode = mode; told = told } in
     let same : made ≡ file = cc in
     subst (λ f. on_sent_file (file_verdict h target told bytes) (kept_file target mode bytes) l
-    ≡ done_with h (awaits.SentFile target mode told) bytes l f)
-    same (sent_is h target mode told (file_verdict h target told bytes) (kept_file target mode bytes) l)
+    ≡ done_with h (awaits.SentFile source target mode told) bytes l f)
+    same (sent_is h source target mode told (file_verdict h target told bytes) (kept_file target mode bytes) l)
 on_file_is h (awaits.AskedFile mode told) bytes l file e = asked_of h l.ahead mode told bytes l file e
 on_file_is h _ bytes l file e = absurd cc
 
@@ -103,7 +103,7 @@ none_of_first h (job.Request source target user ∷ jobs) mode told bytes l e = 
 
 none_is : (h : Holdings) (w : Awaits) (bytes : List ℕ) (l : Lists) → file_awaited h w l.ahead ≡ None →
     on_file h w bytes l ≡ on_none_kept h w l
-none_is h (awaits.SentFile target mode told) bytes l e = absurd cc
+none_is h (awaits.SentFile source target mode told) bytes l e = absurd cc
 none_is h (awaits.AskedFile mode told) bytes l e = none_of_first h l.ahead mode told bytes l e
 none_is h awaits.DroppedSentFile bytes l e = refl
 none_is h awaits.DroppedAskedFile bytes l e = refl

@@ -6,11 +6,11 @@ use Rattle.uug_conversation.specs.declared.awaits.Awaits.{Awaits}
 use Rattle.uug_conversation.specs.declared.awaits.Awaits.TheVariants as awaits
 use Rattle.uug_conversation.specs.Holdings.{Holdings, Kept}
 use Rattle.uug_conversation.specs.Told.{told_of, told_with}
-use Rattle.uug_conversation.specs.Turns.{Said, the_order, the_answer, the_giving, the_file, the_refusal}
+use Rattle.uug_conversation.specs.Turns.{Said, the_order, the_answer, the_consent, the_giving, the_file, the_refusal}
 
 -- what was told of the file that is awaited
 abbrev pub told_awaited : Awaits → Option FileDigest
-told_awaited (awaits.SentFile target mode told) = told
+told_awaited (awaits.SentFile source target mode told) = told
 told_awaited (awaits.AskedFile mode told) = told
 told_awaited _ = None
 
@@ -23,6 +23,7 @@ abbrev pub TellsTruly : Holdings → List Said → Type 0
 TellsTruly h [] = Unit {0}
 TellsTruly h (the_order order told ∷ more) = (told ≡ told_with h order) × TellsTruly h more
 TellsTruly h (the_answer answer ∷ more) = TellsTruly h more
+TellsTruly h (the_consent position ∷ more) = TellsTruly h more
 TellsTruly h (the_giving mode told ∷ the_file bytes ∷ more) =
     (told ≡ told_of h.digests (Some (record { mode = mode; bytes = bytes }))) × TellsTruly h more
 TellsTruly h (the_giving mode told ∷ more) = ⊥

@@ -11,7 +11,7 @@ use Rattle.uug_conversation.specs.Choice.{fetched_by}
 use Rattle.uug_conversation.specs.Holdings.{File, Holdings, to_give, kept_as}
 use Rattle.uug_conversation.specs.Jobs.{Move, pass, strike, fail}
 use Rattle.uug_conversation.specs.Told.{told_of}
-use Rattle.uug_conversation.specs.Turns.{the_order, the_answer, the_giving, the_file, Turn, plain, moving}
+use Rattle.uug_conversation.specs.Turns.{the_order, the_answer, the_consent, the_giving, the_file, Turn, plain, moving}
 use Rattle.uug_conversation.specs.declared.side.Side.{Side}
 
 -- the hearer keeps the file that it was given, under this name
@@ -37,13 +37,13 @@ send_exchange master slave digests source target user temp (Some file) name Late
 -- S; SY; file; CY: struck
 send_exchange master slave digests source target user temp (Some file) name Yes false next rest =
     plain master (the_order (order.Send source target user temp file.mode) (told_of digests (Some file))) ∷
-    plain slave (the_answer answer.SendYes) ∷
+    plain slave (the_consent 0) ∷
     keeping master name file [] ∷
     moving slave (the_answer answer.DoneYes) (strike ∷ next) ∷ rest
 -- S; SY; file; CN5: failed
 send_exchange master slave digests source target user temp (Some file) name Yes true next rest =
     plain master (the_order (order.Send source target user temp file.mode) (told_of digests (Some file))) ∷
-    plain slave (the_answer answer.SendYes) ∷
+    plain slave (the_consent 0) ∷
     plain master (the_file file.bytes) ∷
     moving slave (the_answer answer.DoneNever) (fail ∷ next) ∷ rest
 

@@ -23,10 +23,13 @@ pub mod OneEnd
 pub mod Outgoing
 pub mod OwnEntries
 pub mod OwnRequests
+pub mod PartialView
+pub mod Partials
 pub mod Party
 pub mod PlainMachine
 pub mod Reactions
 pub mod ReadBack
+pub mod Resuming
 pub mod Runs
 pub mod Sharing
 pub mod Sides

@@ -24,9 +24,10 @@ use Rattle.uug_conversation.specs.Choice.{Choice, choice, fetched_by}
 use Rattle.uug_conversation.specs.Holdings.{File, Kept, Holdings, to_give}
 use Rattle.uug_conversation.specs.Jobs.{Lists, Move, pass, strike, fail, moved, moved_once}
 use Rattle.uug_conversation.specs.Told.{fits, heard, is_too_large, outcome, told_of, told_with, unless_too_large}
-use Rattle.uug_conversation.specs.Turns.{Said, the_order, the_answer, the_giving, the_file, the_refusal}
+use Rattle.uug_conversation.specs.Turns.{Said, the_order, the_answer, the_consent, the_giving, the_file, the_refusal}
 use Rattle.uug_conversation.specs.declared.side.Side.{Side}
 use Rattle.uug_conversation.specs.declared.side.Side.TheVariants.{Caller, Called}
+use Rattle.uug_conversation.specs.Resuming.{position_heard, rest_from}
 
 pub record State : Type 0 where
   pub lists : Lists
@@ -75,11 +76,11 @@ goes_on h l before = chooses h (choice h l.ahead) l before
 
 -- ---- a slave takes a command
 
--- S, by the name under which its file is kept, and the verdict on that
-abbrev pub on_send : Verdict → (target : List ℕ) → (mode : ℕ) → (told : Option FileDigest) → Lists → Reply
-on_send Yes target mode told l = replies l (awaits.SentFile target mode told) (the_answer answer.SendYes ∷ [])
-on_send Never target mode told l = replies l awaits.Order (the_answer answer.SendNever ∷ [])
-on_send Later target mode told l = replies l awaits.Order (the_answer answer.SendLater ∷ [])
+-- S, by the name by which its file is fetched, that under which it is kept, and the verdict on that
+abbrev pub on_send : Verdict → (source target : List ℕ) → (mode : ℕ) → (told : Option FileDigest) → Lists → Reply
+on_send Yes source target mode told l = replies l (awaits.SentFile source target mode told) (the_consent 0 ∷ [])
+on_send Never source target mode told l = replies l awaits.Order (the_answer answer.SendNever ∷ [])
+on_send Later source target mode told l = replies l awaits.Order (the_answer answer.SendLater ∷ [])
 
 -- a lenient end refuses a file that it is told to be too large
 abbrev pub send_verdict : Holdings → (target : List ℕ) → (told : Option FileDigest) → Verdict
@@ -108,7 +109,7 @@ on_unread _ _ l = out_of_turn l
 -- a command, by the letter in which it can be refused and what it tells of its file
 abbrev pub on_order : Holdings → (letter : Option ℕ) → (told : Option FileDigest) → Result Order BadText → Lists → Reply
 on_order h letter told (Ok (order.Send source target user temp mode)) l =
-    on_send (send_verdict h (h.landing source target) told) (h.landing source target) mode told l
+    on_send (send_verdict h (h.landing source target) told) (fetched_by source temp) (h.landing source target) mode told l
 on_order h letter told (Ok (order.Request source target user)) l = on_request h.digests (to_give h source) (h.delayed source) l
 on_order h letter told (Ok order.HangUp) l = on_choice h (choice h l.ahead) l
 on_order h letter told (Err fault) l = on_unread h.lenient letter l
@@ -129,25 +130,25 @@ on_last_hang_up _ l = out_of_turn l
 
 -- ---- a master takes an answer
 
--- SY, by the job in front: its file goes out
+-- SY, by the job in front: its file goes out, from that position on
 abbrev pub sends_file : Option File → Lists → Reply
 sends_file None l = out_of_turn l
 sends_file (Some file) l = replies l awaits.SentFileDone (the_file file.bytes ∷ [])
 
-abbrev pub on_send_yes : Holdings → List Job → Lists → Reply
-on_send_yes h (job.Send source target user temp ∷ jobs) l = sends_file (to_give h (fetched_by source temp)) l
-on_send_yes h _ l = out_of_turn l
+abbrev pub on_send_yes : Holdings → (position : ℕ) → List Job → Lists → Reply
+on_send_yes h position (job.Send source target user temp ∷ jobs) l = sends_file (rest_from position (to_give h (fetched_by source temp))) l
+on_send_yes h position _ l = out_of_turn l
 
 -- a refusal for now: where it is SN8, by which the other end has the file already, a lenient end takes its Send job as done
 abbrev pub move_refused : (held : Bool) → List Job → Move
 move_refused true (job.Send source target user temp ∷ jobs) = strike
 move_refused _ jobs = pass
 
-abbrev pub on_send_answer : Holdings → (held : Bool) → Result Answer BadText → Lists → Reply
-on_send_answer h held (Ok answer.SendYes) l = on_send_yes h l.ahead l
-on_send_answer h held (Ok answer.SendNever) l = goes_on h (moved_once fail l) []
-on_send_answer h held (Ok answer.SendLater) l = goes_on h (moved_once (move_refused held l.ahead) l) []
-on_send_answer h held _ l = out_of_turn l
+abbrev pub on_send_answer : Holdings → (held : Bool) → (position : ℕ) → Result Answer BadText → Lists → Reply
+on_send_answer h held position (Ok answer.SendYes) l = on_send_yes h position l.ahead l
+on_send_answer h held position (Ok answer.SendNever) l = goes_on h (moved_once fail l) []
+on_send_answer h held position (Ok answer.SendLater) l = goes_on h (moved_once (move_refused held l.ahead) l) []
+on_send_answer h held position _ l = out_of_turn l
 
 -- What became of the file that it sent. With CYM the other end wants to be master: no further job is chosen.
 abbrev pub on_sent_file_done : Holdings → Result Answer BadText → Lists → Reply
@@ -187,7 +188,7 @@ abbrev pub on_text : Holdings → Awaits → List ℕ → Lists → Reply
 on_text h awaits.Order text l = on_order h (refused_letter_of text) (heard h.digests (told_by_order text)) (order_of text) l
 on_text h awaits.GivenFileDone text l = on_given_file_done (answer_of text) l
 on_text h awaits.LastHangUp text l = on_last_hang_up (answer_of text) l
-on_text h awaits.SendAnswer text l = on_send_answer h (is_held text && h.lenient) (answer_of text) l
+on_text h awaits.SendAnswer text l = on_send_answer h (is_held text && h.lenient) (position_heard h.digests text) (answer_of text) l
 on_text h awaits.SentFileDone text l = on_sent_job_done h l.ahead (answer_of text) l
 on_text h awaits.RequestAnswer text l = on_request_answer h (heard h.digests (told_by_answer text)) (or_wished (answer_of text) h.lenient text) l
 on_text h awaits.HangUpAnswer text l = on_hang_up_answer (answer_of text) l
@@ -223,7 +224,7 @@ on_file_of h (job.Request source target user ∷ jobs) mode told bytes l =
 on_file_of h _ mode told bytes l = out_of_turn l
 
 abbrev pub on_file : Holdings → Awaits → List ℕ → Lists → Reply
-on_file h (awaits.SentFile target mode told) bytes l =
+on_file h (awaits.SentFile source target mode told) bytes l =
     on_sent_file (file_verdict h target told bytes) (record { name = target; mode = mode; bytes = bytes }) l
 on_file h (awaits.AskedFile mode told) bytes l = on_file_of h l.ahead mode told bytes l
 on_file h awaits.DroppedSentFile bytes l = replies l awaits.Order (the_answer answer.DoneNever ∷ [])
@@ -234,7 +235,7 @@ on_file h _ bytes l = out_of_turn l
 
 -- whether a text or a file is awaited
 abbrev pub kind_awaited : Awaits → Kind
-kind_awaited (awaits.SentFile target mode told) = OfFile FILE_MAX
+kind_awaited (awaits.SentFile source target mode told) = OfFile FILE_MAX
 kind_awaited (awaits.AskedFile mode told) = OfFile FILE_MAX
 kind_awaited awaits.DroppedSentFile = OfFile FILE_MAX
 kind_awaited awaits.DroppedAskedFile = OfFile FILE_MAX
@@ -252,7 +253,7 @@ on_gathered true kind h s bytes = on_whole kind h s.awaits bytes s.lists
 
 -- the rest of a file that is past its limit, of which nothing is kept
 abbrev pub dropped : Awaits → Awaits
-dropped (awaits.SentFile target mode told) = awaits.DroppedSentFile
+dropped (awaits.SentFile source target mode told) = awaits.DroppedSentFile
 dropped (awaits.AskedFile mode told) = awaits.DroppedAskedFile
 dropped awaited = awaited
 

@@ -8,7 +8,7 @@ use Rattle.uug_talk.specs.declared.order.Order.{Order}
 use Rattle.uug_talk.specs.declared.order.Order.TheVariants as order
 use Rattle.uug_conversation.specs.Choice.{fetched_by}
 use Rattle.uug_conversation.specs.Holdings.{File, Holdings, to_give}
-use Rattle.uug_conversation.specs.Turns.{Said, the_order, the_answer, the_giving, the_file, the_refusal, Turn}
+use Rattle.uug_conversation.specs.Turns.{Said, the_order, the_answer, the_consent, the_giving, the_file, the_refusal, Turn}
 use Rattle.uug_conversation.specs.declared.side.Side.{Side}
 use Rattle.uug_conversation.specs.declared.side.Side.TheVariants.{Caller, Called}
 
@@ -41,6 +41,7 @@ if_spoken Called Called said = said
 abbrev pub command_of : Said → List Order
 command_of (the_order order told) = order ∷ []
 command_of (the_answer answer) = []
+command_of (the_consent position) = []
 command_of (the_giving mode told) = []
 command_of (the_file bytes) = []
 command_of (the_refusal letter) = []
@@ -68,6 +69,7 @@ hang_up_answer_of speaker _ = []
 abbrev pub hang_up_answers_in : Side → Said → List HangUpAnswer
 hang_up_answers_in speaker (the_answer answer) = hang_up_answer_of speaker answer
 hang_up_answers_in speaker (the_order order told) = []
+hang_up_answers_in speaker (the_consent position) = []
 hang_up_answers_in speaker (the_giving mode told) = []
 hang_up_answers_in speaker (the_file bytes) = []
 hang_up_answers_in speaker (the_refusal letter) = []

@@ -13,7 +13,8 @@ use Rattle.uug_conversation.specs.declared.reaction.Says.TheVariants.{Nothing, O
 use Rattle.uug_conversation.specs.Holdings.{Holdings}
 use Rattle.uug_conversation.specs.Reactions.{said_by}
 use Rattle.uug_conversation.specs.Told.{giving_said, order_said}
-use Rattle.uug_conversation.specs.Turns.{Said, the_order, the_answer, the_giving, the_file, the_refusal, all_messages}
+use Rattle.uug_conversation.specs.Turns.{Said, the_order, the_answer, the_consent, the_giving, the_file, the_refusal, all_messages}
+use Rattle.uug_digest.specs.Positions.{consent_text}
 
 pub record Outgoing : Type 0 where
   -- what is to be said, in order
@@ -27,6 +28,7 @@ pub record Outgoing : Type 0 where
 abbrev pub messages_from : Measure → (offset : ℕ) → Said → List (List ℕ)
 messages_from measure offset (the_order order told) = command_messages measure (drop offset (order_said order told))
 messages_from measure offset (the_answer answer) = command_messages measure (drop offset (answer_text answer))
+messages_from measure offset (the_consent position) = command_messages measure (drop offset (consent_text position))
 messages_from measure offset (the_giving mode told) = command_messages measure (drop offset (giving_said mode told))
 messages_from measure offset (the_file bytes) = file_messages measure.size (drop offset bytes)
 messages_from measure offset (the_refusal letter) = command_messages measure (drop offset (refusal_text letter))
@@ -61,8 +63,9 @@ is_silent (first ∷ more) = false
 abbrev pub IsSayable : Saying → Type 0
 IsSayable (saying.Order order told) = HasMode order
 IsSayable (saying.Answer answer) = IsWritten answer
+IsSayable (saying.Consent position) = Unit {0}
 IsSayable (saying.Giving mode told) = mode ≤ MODE_MAX
-IsSayable (saying.File name) = Unit {0}
+IsSayable (saying.File name position) = Unit {0}
 IsSayable (saying.Refusal letter) = is_refusable letter ≡ true
 
 -- the offset lies in the first text; where nothing is to be said, nothing of it was sent
@@ -70,6 +73,7 @@ abbrev pub IsWithin : List Saying → (offset : ℕ) → Type 0
 IsWithin [] offset = offset ≡ 0
 IsWithin (saying.Order order told ∷ more) offset = offset ≤ length (order_said order told)
 IsWithin (saying.Answer answer ∷ more) offset = offset ≤ length (answer_text answer)
+IsWithin (saying.Consent position ∷ more) offset = offset ≤ length (consent_text position)
 IsWithin (saying.Giving mode told ∷ more) offset = offset ≤ length (giving_said mode told)
-IsWithin (saying.File name ∷ more) offset = Unit {0}
+IsWithin (saying.File name position ∷ more) offset = Unit {0}
 IsWithin (saying.Refusal letter ∷ more) offset = offset ≤ length (refusal_text letter)

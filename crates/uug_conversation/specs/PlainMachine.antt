@@ -13,10 +13,10 @@ use Rattle.uug_conversation.specs.declared.awaits.Awaits.{Awaits}
 use Rattle.uug_conversation.specs.declared.awaits.Awaits.TheVariants as awaits
 use Rattle.uug_conversation.specs.declared.job.Job.{Job}
 use Rattle.uug_conversation.specs.declared.job.Job.TheVariants as job
-use Rattle.uug_conversation.specs.Choice.{Choice, choice}
+use Rattle.uug_conversation.specs.Choice.{Choice, choice, fetched_by}
 use Rattle.uug_conversation.specs.Holdings.{File, Kept, Holdings, to_give}
 use Rattle.uug_conversation.specs.Jobs.{Lists, pass, strike, fail, moved, moved_once}
-use Rattle.uug_conversation.specs.Machine.{State, Reply, awaits_answer_to, comes_early, gathered_with, keeps, on_given_file_done, on_hang_up_answer, on_last_hang_up, on_nothing_more, on_send, on_send_yes, order_or_hang_up, out_of_turn, replies}
+use Rattle.uug_conversation.specs.Machine.{State, Reply, awaits_answer_to, comes_early, gathered_with, keeps, on_given_file_done, on_hang_up_answer, on_last_hang_up, on_nothing_more, on_send, order_or_hang_up, out_of_turn, replies, sends_file}
 use Rattle.uug_conversation.specs.Turns.{Said, the_order, the_answer, the_giving, the_file}
 use Rattle.uug_conversation.specs.declared.side.Side.{Side}
 use Rattle.uug_conversation.specs.declared.side.Side.TheVariants.{Caller, Called}
@@ -28,7 +28,7 @@ pub record AreOff (h : Holdings) : Type 0 where
 
 -- nothing was told of the file that is awaited, and it is not the rest of one past its limit
 abbrev pub awaits_plainly : Awaits → Bool
-awaits_plainly (awaits.SentFile target mode (Some told)) = false
+awaits_plainly (awaits.SentFile source target mode (Some told)) = false
 awaits_plainly (awaits.AskedFile mode (Some told)) = false
 awaits_plainly awaits.DroppedSentFile = false
 awaits_plainly awaits.DroppedAskedFile = false
@@ -62,12 +62,17 @@ on_choice c l = on_hang_up c.next (moved c.failing l)
 
 abbrev pub on_order : Holdings → Result Order BadText → Lists → Reply
 on_order h (Ok (order.Send source target user temp mode)) l =
-    on_send (h.verdict (h.landing source target)) (h.landing source target) mode None l
+    on_send (h.verdict (h.landing source target)) (fetched_by source temp) (h.landing source target) mode None l
 on_order h (Ok (order.Request source target user)) l = on_request (to_give h source) l
 on_order h (Ok order.HangUp) l = on_choice (choice h l.ahead) l
 on_order h (Err fault) l = out_of_turn l
 
 -- ---- a master takes an answer
+
+-- SY, by the job in front: its file goes out
+abbrev pub on_send_yes : Holdings → List Job → Lists → Reply
+on_send_yes h (job.Send source target user temp ∷ jobs) l = sends_file (to_give h (fetched_by source temp)) l
+on_send_yes h _ l = out_of_turn l
 
 abbrev pub on_send_answer : Holdings → Result Answer BadText → Lists → Reply
 on_send_answer h (Ok answer.SendYes) l = on_send_yes h l.ahead l
@@ -126,7 +131,7 @@ on_file_of h (job.Request source target user ∷ jobs) mode bytes l =
 on_file_of h _ mode bytes l = out_of_turn l
 
 abbrev pub on_file : Holdings → Awaits → List ℕ → Lists → Reply
-on_file h (awaits.SentFile target mode told) bytes l =
+on_file h (awaits.SentFile source target mode told) bytes l =
     on_sent_file (h.immovable target) (record { name = target; mode = mode; bytes = bytes }) l
 on_file h (awaits.AskedFile mode told) bytes l = on_file_of h l.ahead mode bytes l
 on_file h _ bytes l = out_of_turn l

@@ -1,5 +1,5 @@
 -- What the code of one end's machine answers, as what the end says.
-use Rattle.std.specs.Prelude.{◌≡◌, ℕ, ◌≤◌, ◌++◌, List, [], ◌∷◌, Option, Some, None}
+use Rattle.std.specs.Prelude.{◌≡◌, ℕ, ◌≤◌, ◌++◌, List, [], ◌∷◌, drop, Option, Some, None}
 use Rattle.uug_digest.specs.declared.file_digest.FileDigest.{FileDigest}
 use Rattle.uug_talk.specs.declared.answer.Answer.{Answer}
 use Rattle.uug_talk.specs.declared.answer.Answer.TheVariants as answer
@@ -21,19 +21,20 @@ use Rattle.uug_conversation.specs.Choice.{fetched_by}
 use Rattle.uug_conversation.specs.Holdings.{File, Kept, Holdings, to_give, kept_file}
 use Rattle.uug_conversation.specs.Jobs.{Lists, Move, pass, strike, fail, moved_once}
 use Rattle.uug_conversation.specs.Machine.{Reply, between, replies, out_of_turn, goes_on, awaits_answer_to, file_verdict}
-use Rattle.uug_conversation.specs.Turns.{Said, the_order, the_answer, the_giving, the_file, the_refusal}
+use Rattle.uug_conversation.specs.Turns.{Said, the_order, the_answer, the_consent, the_giving, the_file, the_refusal}
 
 -- what is in a file, or nothing
 abbrev pub bytes_given : Option File → List ℕ
 bytes_given None = []
 bytes_given (Some file) = file.bytes
 
--- a file is known by its name
+-- a file is known by its name, and said from a position on
 abbrev pub said_by : Holdings → Saying → Said
 said_by h (saying.Order order told) = the_order order told
 said_by h (saying.Answer answer) = the_answer answer
+said_by h (saying.Consent position) = the_consent position
 said_by h (saying.Giving mode told) = the_giving mode told
-said_by h (saying.File name) = the_file (bytes_given (to_give h name))
+said_by h (saying.File name position) = the_file (drop position (bytes_given (to_give h name)))
 said_by h (saying.Refusal letter) = the_refusal letter
 
 abbrev pub all_said : Holdings → Says → List Said
@@ -45,7 +46,7 @@ all_said h (Two said next) = said_by h said ∷ said_by h next ∷ []
 abbrev pub reply_of : Holdings → Lists → Reaction → (keeps : List Kept) → Reply
 reply_of h l r keeps = record { state = between l r.awaits; says = all_said h r.says; keeps = keeps }
 
--- nothing is said; nothing, as what came fitted no turn; an answer; a refusal; a command, behind an answer where there is one
+-- nothing is said; nothing, as what came fitted no turn; an answer; SY; a refusal; a command, behind an answer where there is one
 abbrev pub says_nothing : Awaits → Reaction
 says_nothing awaited = record { awaits = awaited; says = Nothing }
 
@@ -54,6 +55,9 @@ fits_no_turn = says_nothing awaits.Bad
 
 abbrev pub gives_answer : Awaits → Answer → Reaction
 gives_answer awaited answer = record { awaits = awaited; says = One (saying.Answer answer) }
+
+abbrev pub gives_consent : Awaits → (position : ℕ) → Reaction
+gives_consent awaited position = record { awaits = awaited; says = One (saying.Consent position) }
 
 abbrev pub gives_refusal : (letter : ℕ) → Reaction
 gives_refusal letter = record { awaits = awaits.Order; says = One (saying.Refusal letter) }
@@ -91,7 +95,7 @@ file_of_first h (job.Request source target user ∷ jobs) mode told =
 file_of_first h _ mode told = None
 
 abbrev pub file_awaited : Holdings → Awaits → List Job → Option FileAwaited
-file_awaited h (awaits.SentFile target mode told) jobs = Some (record { name = target; mode = mode; told = told })
+file_awaited h (awaits.SentFile source target mode told) jobs = Some (record { name = target; mode = mode; told = told })
 file_awaited h (awaits.AskedFile mode told) jobs = file_of_first h jobs mode told
 file_awaited h _ jobs = None
 
@@ -115,7 +119,7 @@ done_move Never = fail
 done_move Later = pass
 
 abbrev pub on_kept : Holdings → Awaits → Verdict → Lists → Reply
-on_kept h (awaits.SentFile target mode told) verdict l =
+on_kept h (awaits.SentFile source target mode told) verdict l =
     replies l awaits.Order (the_answer (done_answer verdict) ∷ [])
 on_kept h (awaits.AskedFile mode told) verdict l =
     goes_on h (moved_once (done_move verdict) l) (the_answer (done_answer verdict) ∷ [])
@@ -140,7 +144,7 @@ IsKept h _ bytes _ before after = ⊥
 
 -- a file's mode is one that can be kept
 abbrev pub HasModeInRange : Awaits → Type 0
-HasModeInRange (awaits.SentFile target mode told) = mode ≤ MODE_MAX
+HasModeInRange (awaits.SentFile source target mode told) = mode ≤ MODE_MAX
 HasModeInRange (awaits.AskedFile mode told) = mode ≤ MODE_MAX
 HasModeInRange _ = Unit {0}
 

@@ -6,14 +6,17 @@ use Rattle.uug_talk.specs.declared.gather.TheConstants.{FILE_MAX}
 use Rattle.uug_talk.specs.Answer.{answer_of, answer_text}
 use Rattle.uug_talk.specs.Chunks.{IsCommandText}
 use Rattle.uug_talk.specs.Order.{order_of}
-use Rattle.uug_talk.specs.declared.answer.Answer.TheVariants.{GiveYes}
+use Rattle.uug_talk.specs.declared.answer.Answer.TheVariants.{GiveYes, SendYes}
 use Rattle.uug_conversation.specs.Told.{giving_said, order_said}
-use Rattle.uug_conversation.specs.Turns.{Said, the_order, the_answer, the_giving, the_file, the_refusal, Turn}
+use Rattle.uug_conversation.specs.Turns.{Said, the_order, the_answer, the_consent, the_giving, the_file, the_refusal, Turn}
+use Rattle.uug_digest.specs.Positions.{consent_text, position_told}
 
 abbrev pub IsReadBack : Said → Type 0
 IsReadBack (the_order order told) = IsCommandText (order_said order told) × (order_of (order_said order told) ≡ Ok order)
     × (told_by_order (order_said order told) ≡ told)
 IsReadBack (the_answer answer) = IsCommandText (answer_text answer) × (answer_of (answer_text answer) ≡ Ok answer)
+IsReadBack (the_consent position) = IsCommandText (consent_text position) × (answer_of (consent_text position) ≡ Ok SendYes)
+    × (position_told (consent_text position) ≡ position)
 IsReadBack (the_giving mode told) = IsCommandText (giving_said mode told) × (answer_of (giving_said mode told) ≡ Ok (GiveYes mode))
     × (told_by_answer (giving_said mode told) ≡ told)
 IsReadBack (the_file bytes) = length bytes ≤ FILE_MAX

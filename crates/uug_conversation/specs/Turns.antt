@@ -11,17 +11,19 @@ use Rattle.uug_talk.specs.Lenient.{refusal_text}
 use Rattle.uug_conversation.specs.Holdings.{Kept}
 use Rattle.uug_conversation.specs.Jobs.{Move}
 use Rattle.uug_conversation.specs.Told.{giving_said, order_said}
+use Rattle.uug_digest.specs.Positions.{consent_text}
 
 -- the other end of a session
 abbrev pub other : Side → Side
 other Caller = Called
 other Called = Caller
 
--- what is said in one turn: a command, with what is told of its file; an answer; RY, with the file's mode and what is told of the
--- file; a file; a refusal of a command that can't be read, in its letter
+-- what is said in one turn: a command, with what is told of its file; an answer; SY, with the position from which on the file is to
+-- be sent; RY, with the file's mode and what is told of the file; a file, or the rest of one; a refusal of a command that can't be read, in its letter
 pub data Said : Type 0 where
   the_order : Order → (told : Option FileDigest) → Said
   the_answer : Answer → Said
+  the_consent : (position : ℕ) → Said
   the_giving : (mode : ℕ) → (told : Option FileDigest) → Said
   the_file : (bytes : List ℕ) → Said
   the_refusal : (letter : ℕ) → Said
@@ -30,6 +32,7 @@ pub data Said : Type 0 where
 abbrev pub said_messages : Measure → Said → List (List ℕ)
 said_messages measure (the_order order told) = command_messages measure (order_said order told)
 said_messages measure (the_answer answer) = command_messages measure (answer_text answer)
+said_messages measure (the_consent position) = command_messages measure (consent_text position)
 said_messages measure (the_giving mode told) = command_messages measure (giving_said mode told)
 said_messages measure (the_file bytes) = file_messages measure.size bytes
 said_messages measure (the_refusal letter) = command_messages measure (refusal_text letter)

@@ -13,6 +13,8 @@ pub enum Awaits {
     Order,
     /// The file that the master sends. This end has answered SY.
     SentFile {
+        /// The name by which the master fetches it.
+        source: Name,
         /// The file's name here.
         target: Name,
         /// The file's mode.

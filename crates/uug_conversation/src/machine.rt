@@ -5,6 +5,7 @@ ghost use Rattle.uug_conversation.specs.Holdings.{Holdings};
 ghost use Rattle.uug_conversation.specs.Machine.{goes_on, on_send, send_verdict, on_request, on_hang_up, on_choice, on_unread, on_order, on_given_file_done, on_last_hang_up, sends_file, on_send_yes, move_refused, on_send_answer, on_sent_file_done, on_sent_job_done, on_request_answer, on_hang_up_answer, on_nothing_more, on_text};
 ghost use Rattle.uug_conversation.specs.Holdings.{to_give};
 ghost use Rattle.uug_conversation.specs.Reactions.{reply_of, said_before, gives_order, HasModeInRange, HasModeAnswered};
+ghost use Rattle.uug_conversation.specs.Resuming.{position_heard, rest_from};
 ghost use Rattle.uug_conversation.specs.Told.{heard, is_too_large, told_with};
 ghost use Rattle.uug_digest.specs.Digests.{told_by_answer, told_by_order};
 ghost use Rattle.uug_talk.specs.Answer.{answer_of};
@@ -20,7 +21,7 @@ use crate::reaction::{Reaction, Saying, Says};
 use crate::spool::Spool;
 use crate::verdict::Verdict;
 use std::alloc::Allocator;
-use uug_digest::{FileDigest, told_by_answer, told_by_order};
+use uug_digest::{FileDigest, position_told, told_by_answer, told_by_order};
 use uug_talk::{
     Answer, BadText, FILE_MAX, Name, Order, is_held, read_answer, read_order, read_wished,
     refused_letter,
@@ -68,7 +69,13 @@ pub(crate) fn on_text<A: Allocator, S: Spool>(
         Awaits::LastHangUp => on_last_hang_up(read_answer(text)),
         Awaits::SendAnswer => {
             let held = is_held(text) && spool.is_lenient();
-            on_send_answer(queue, spool, held, read_answer(text))
+            on_send_answer(
+                queue,
+                spool,
+                held,
+                heard_position(spool, text),
+                read_answer(text),
+            )
         }
         Awaits::SentFileDone => on_sent_job_done(queue, spool, read_answer(text)),
         Awaits::RequestAnswer => {
@@ -134,10 +141,14 @@ fn on_order<A: Allocator, S: Spool>(
             Order::Send {
                 source,
                 target,
+                temp,
                 mode,
                 ..
             },
-        ) => on_send(spool, spool.landing(source, target), *mode, told),
+        ) => {
+            let target = spool.landing(source, target);
+            on_send(spool, *fetched_by(source, temp), target, *mode, told)
+        }
         Ok(Order::Request { source, .. }) => on_request(spool, *source),
         Ok(Order::HangUp) => on_hang_up(spool, choose(queue, spool)),
         Err(_) => on_unread(spool, letter),
@@ -156,15 +167,27 @@ fn on_unread<S: Spool>(spool: &S, letter: Option<u8>) -> Reaction
     }
 }
 
-fn on_send<S: Spool>(spool: &S, target: Name, mode: u16, told: Option<FileDigest>) -> Reaction
+fn on_send<S: Spool>(
+    spool: &S,
+    source: Name,
+    target: Name,
+    mode: u16,
+    told: Option<FileDigest>,
+) -> Reaction
     ensures reply { (l : Lists)
-        → on_send (send_verdict (S.holdings spool.now) target told) target mode told l
+        → on_send (send_verdict (S.holdings spool.now) target told) source target mode told l
         ≡ reply_of (S.holdings spool.now) l result [] }
     ensures mode { mode ≤ MODE_MAX → HasModeInRange result.awaits }
 {
     match send_verdict(spool, &target, &told) {
         Verdict::Yes => {
-            Reaction::answers(Awaits::SentFile { target, mode, told }, Answer::SendYes)
+            let awaits = Awaits::SentFile {
+                source,
+                target,
+                mode,
+                told,
+            };
+            Reaction::consents(awaits, 0)
         }
         Verdict::Never => Reaction::answers(Awaits::Order, Answer::SendNever),
         Verdict::Later => Reaction::answers(Awaits::Order, Answer::SendLater),
@@ -201,7 +224,7 @@ fn on_request<S: Spool>(spool: &S, source: Name) -> Reaction
             awaits: Awaits::GivenFileDone,
             says: Says::Two(
                 Saying::Giving(file.mode, told_of(spool, &source)),
-                Saying::File(source),
+                Saying::File(source, 0),
             ),
         },
         None if spool.is_delayed(&source) => Reaction::answers(Awaits::Order, Answer::GiveLater),
@@ -248,14 +271,15 @@ fn on_send_answer<A: Allocator, S: Spool>(
     queue: &mut Queue<A>,
     spool: &S,
     held: bool,
+    position: usize,
     answer: Result<Answer, BadText>,
 ) -> Reaction
-    ensures reply { on_send_answer (S.holdings spool.now) held answer queue.old
+    ensures reply { on_send_answer (S.holdings spool.now) held position answer queue.old
         ≡ reply_of (S.holdings spool.now) queue.new result [] }
     ensures mode { HasModeInRange result.awaits }
 {
     match answer {
-        Ok(Answer::SendYes) => on_send_yes(queue, spool),
+        Ok(Answer::SendYes) => on_send_yes(queue, spool, position),
         Ok(Answer::SendNever) => {
             queue.fail_first();
             go_on(queue, spool, None)
@@ -265,6 +289,17 @@ fn on_send_answer<A: Allocator, S: Spool>(
             go_on(queue, spool, None)
         }
         _ => Reaction::out_of_turn(),
+    }
+}
+
+// Reads from which byte on the file is asked for. An end that tells no digests reads past it.
+fn heard_position<S: Spool>(spool: &S, text: &[u8]) -> usize
+    ensures { result ≡ position_heard (S.holdings spool.now).digests text.now }
+{
+    if spool.tells_digests() {
+        position_told(text) as usize
+    } else {
+        0
     }
 }
 
@@ -278,29 +313,34 @@ fn move_refused<A: Allocator>(queue: &mut Queue<A>, held: bool)
     }
 }
 
-// Sends the file of the first job.
-fn on_send_yes<A: Allocator, S: Spool>(queue: &Queue<A>, spool: &S) -> Reaction
-    ensures reply { on_send_yes (S.holdings spool.now) queue.now.ahead queue.now
+// Sends the file of the first job, from that position on.
+fn on_send_yes<A: Allocator, S: Spool>(queue: &Queue<A>, spool: &S, position: usize) -> Reaction
+    ensures reply { on_send_yes (S.holdings spool.now) position queue.now.ahead queue.now
         ≡ reply_of (S.holdings spool.now) queue.now result [] }
     ensures mode { HasModeInRange result.awaits }
 {
     match queue.first() {
-        Some(Job::Send { source, temp, .. }) => send_file(spool, fetched_by(source, temp)),
+        Some(Job::Send { source, temp, .. }) => send_file(
+            spool,
+            fetched_by(source, temp),
+            position,
+        ),
         _ => Reaction::out_of_turn(),
     }
 }
 
-fn send_file<S: Spool>(spool: &S, name: &Name) -> Reaction
-    ensures reply { (l : Lists) → sends_file (to_give (S.holdings spool.now) name.now) l
+fn send_file<S: Spool>(spool: &S, name: &Name, position: usize) -> Reaction
+    ensures reply { (l : Lists)
+        → sends_file (rest_from position (to_give (S.holdings spool.now) name.now)) l
         ≡ reply_of (S.holdings spool.now) l result [] }
     ensures mode { HasModeInRange result.awaits }
 {
     match to_give(spool, name) {
-        Some(_) => Reaction {
+        Some(file) if position <= file.bytes.len() => Reaction {
             awaits: Awaits::SentFileDone,
-            says: Says::One(Saying::File(*name)),
+            says: Says::One(Saying::File(*name, position)),
         },
-        None => Reaction::out_of_turn(),
+        _ => Reaction::out_of_turn(),
     }
 }
 

@@ -1,4 +1,5 @@
 ghost use Rattle.std.specs.Prelude.{◌≡◌, ◌≢◌, ◌+◌, ◌<◌, ◌≤◌, [], ◌∷◌, true, false, length, drop};
+ghost use Rattle.uug_digest.specs.Positions.{consent_text};
 ghost use Rattle.uug_talk.specs.Answer.{IsWritten, answer_text};
 ghost use Rattle.uug_talk.specs.Lenient.{is_refusable, refusal_text};
 ghost use Rattle.uug_talk.specs.Order.{HasMode};
@@ -12,7 +13,7 @@ ghost use Rattle.uug_conversation.specs.Told.{giving_said, order_said};
 use crate::choice::to_give;
 use crate::reaction::Saying;
 use crate::spool::Spool;
-use uug_digest::{FileDigest, give_telling, order_telling};
+use uug_digest::{FileDigest, give_telling, order_telling, write_consent};
 use uug_talk::laws::{file_goes_on, messages_fit};
 use uug_talk::{
     Answer, Chunks, FILE_MAX, MESSAGE_MAX, Message, Order, refusal_text, write_answer, write_order,
@@ -44,10 +45,11 @@ pub(crate) fn part_of<S: Spool>(
     match saying {
         Saying::Order(order, told) => part_of_order(order, told, size, short, offset, message),
         Saying::Answer(answer) => part_of_answer(answer, size, short, offset, message),
+        Saying::Consent(position) => part_of_consent(*position, size, short, offset, message),
         Saying::Giving(mode, told) => part_of_giving(*mode, told, size, short, offset, message),
         Saying::Refusal(letter) => part_of_refusal(*letter, size, short, offset, message),
-        Saying::File(name) => match to_give(spool, name) {
-            Some(file) => part_of_file(file.bytes, size, offset, message),
+        Saying::File(name, position) => match to_give(spool, name) {
+            Some(file) => part_of_file(behind(file.bytes, *position), size, offset, message),
             None => part_of_file(&[], size, offset, message),
         },
     }
@@ -106,6 +108,30 @@ fn part_of_answer(
     ensures limit { result ≡ false → offset < FILE_MAX }
 {
     part_of_text(&write_answer(answer), size, short, offset, message)
+}
+
+/// Cuts a message from the answer SY, as `part_of_order` does from a command.
+#[inline(never)]
+fn part_of_consent(
+    position: u32,
+    size: usize,
+    short: bool,
+    offset: usize,
+    message: &mut Message,
+) -> bool
+    requires within { offset ≤ length (consent_text position) }
+    requires some { 0 < size }
+    requires fits { size ≤ MESSAGE_MAX }
+    ensures messages { command_messages (record { size = size; short = short })
+        (drop offset (consent_text position))
+        ≡ message.new.items ∷ unless_last result
+        (command_messages (record { size = size; short = short })
+        (drop (offset + size) (consent_text position))) }
+    ensures size { length message.new.items ≤ size }
+    ensures next { result ≡ false → offset + size ≤ length (consent_text position) }
+    ensures limit { result ≡ false → offset < FILE_MAX }
+{
+    part_of_text(&write_consent(position), size, short, offset, message)
 }
 
 /// Cuts a message from a refusal, as `part_of_order` does from a command.

@@ -1,20 +1,21 @@
 ghost use Rattle.std.specs.Prelude.{◌≡◌};
 ghost use Rattle.uug_conversation.specs.Machine.{awaits_answer_to};
-ghost use Rattle.uug_conversation.specs.Reactions.{says_nothing, fits_no_turn, gives_answer, gives_order, gives_refusal};
+ghost use Rattle.uug_conversation.specs.Reactions.{says_nothing, fits_no_turn, gives_answer, gives_consent, gives_order, gives_refusal};
 
 use crate::awaits::Awaits;
 use uug_digest::FileDigest;
 use uug_talk::{Answer, Name, Order};
 
-/// An item said in one turn. It is a command with its file's announced digest, an answer, RY with the file's mode and
-/// announced digest, a file, known by the name under which the spool gives it, or the refusal of a command by its
-/// letter.
+/// An item said in one turn. It is a command with its file's announced digest, an answer, SY with the position from
+/// which its file is to be sent, RY with the file's mode and announced digest, a file, known by the name under which the
+/// spool gives it, from a position on, or the refusal of a command by its letter.
 #[derive(Clone, Copy)]
 pub(crate) enum Saying {
     Order(Order, Option<FileDigest>),
     Answer(Answer),
+    Consent(u32),
     Giving(u16, Option<FileDigest>),
-    File(Name),
+    File(Name, usize),
     Refusal(u8),
 }
 
@@ -55,6 +56,16 @@ impl Reaction {
         Reaction {
             awaits,
             says: Says::One(Saying::Answer(answer)),
+        }
+    }
+
+    /// Consents to a file, which is to be sent from this position on.
+    pub(crate) fn consents(awaits: Awaits, position: u32) -> Self
+        ensures { result ≡ gives_consent awaits position }
+    {
+        Reaction {
+            awaits,
+            says: Says::One(Saying::Consent(position)),
         }
     }
 

@@ -94,9 +94,12 @@ fn keep_awaited<A: Allocator, S: Spool>(
     ensures count { S.faults spool.old ≤ S.faults spool.new }
 {
     match awaits {
-        Awaits::SentFile { target, mode, told } => {
-            Ok(Some(keep(spool, target, *mode, told, bytes)?))
-        }
+        Awaits::SentFile {
+            target,
+            mode,
+            told,
+            ..
+        } => { Ok(Some(keep(spool, target, *mode, told, bytes)?)) }
         Awaits::AskedFile { mode, told } => match queue.first() {
             Some(Job::Request { source, target, .. }) => {
                 let name = spool.landing(source, target);

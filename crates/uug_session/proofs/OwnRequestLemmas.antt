@@ -35,6 +35,7 @@ use Rattle.uug_conversation.specs.Turns.{Said, the_answer}
 use Rattle.uug_conversation.specs.declared.side.Side.{Side}
 use Rattle.uug_conversation.specs.declared.side.Side.TheVariants.{Caller, Called}
 use Rattle.uug_session.proofs.KeeperLemmas.{piece_keeps, step_keeps, talk_in}
+use Rattle.uug_conversation.specs.Resuming.{position_heard, rest_from}
 
 -- ---- from one time to a later one
 
@@ -120,10 +121,10 @@ fails h l before = subst (λ s. KeepsIn h s (goes_on h (moved_once fail l) befor
 
 -- ---- commands
 
-after_send : (h : Holdings) (v : Verdict) (target : List ℕ) (mode : ℕ) (told : Option FileDigest) (l : Lists) → KeepsIn h l.struck (on_send v target mode told l)
-after_send h Yes target mode told l = quiet h l.struck
-after_send h Never target mode told l = quiet h l.struck
-after_send h Later target mode told l = quiet h l.struck
+after_send : (h : Holdings) (v : Verdict) (source target : List ℕ) (mode : ℕ) (told : Option FileDigest) (l : Lists) → KeepsIn h l.struck (on_send v source target mode told l)
+after_send h Yes source target mode told l = quiet h l.struck
+after_send h Never source target mode told l = quiet h l.struck
+after_send h Later source target mode told l = quiet h l.struck
 
 after_request : (h : Holdings) (digests : Bool) (file : Option File) (delayed : Bool) (l : Lists) → KeepsIn h l.struck (on_request digests file delayed l)
 after_request h digests None false l = quiet h l.struck
@@ -140,7 +141,7 @@ after_unread h _ _ l = quiet h l.struck
 
 after_order : (h : Holdings) (letter : Option ℕ) (told : Option FileDigest) (r : Result Order BadText) (l : Lists)
     → KeepsIn h l.struck (on_order h letter told r l)
-after_order h letter told (Ok (order.Send source target user temp mode)) l = after_send h (send_verdict h (h.landing source target) told) (h.landing source target) mode told l
+after_order h letter told (Ok (order.Send source target user temp mode)) l = after_send h (send_verdict h (h.landing source target) told) (fetched_by source temp) (h.landing source target) mode told l
 after_order h letter told (Ok (order.Request source target user)) l = after_request h h.digests (to_give h source) (h.delayed source) l
 after_order h letter told (Ok order.HangUp) l = after_hang_up h (choice h l.ahead).next l (moved (choice h l.ahead).failing l) (chosen h l)
 after_order h letter told (Err fault) l = after_unread h h.lenient letter l
@@ -162,9 +163,9 @@ after_sends_file : (h : Holdings) (file : Option File) (l : Lists) → KeepsIn h
 after_sends_file h None l = quiet h l.struck
 after_sends_file h (Some file) l = quiet h l.struck
 
-after_send_yes : (h : Holdings) (jobs : List Job) (l : Lists) → KeepsIn h l.struck (on_send_yes h jobs l)
-after_send_yes h (job.Send source target user temp ∷ jobs) l = after_sends_file h (to_give h (fetched_by source temp)) l
-after_send_yes h _ l = quiet h l.struck
+after_send_yes : (h : Holdings) (position : ℕ) (jobs : List Job) (l : Lists) → KeepsIn h l.struck (on_send_yes h position jobs l)
+after_send_yes h position (job.Send source target user temp ∷ jobs) l = after_sends_file h (rest_from position (to_give h (fetched_by source temp))) l
+after_send_yes h position _ l = quiet h l.struck
 
 -- a Send job is struck, and nothing was kept
 one_sent : (h : Holdings) (source target user : List ℕ) (temp : Option (List ℕ)) (s after : List Job) → after ≡ s ++ job.Send source target user temp ∷ []
@@ -184,11 +185,11 @@ after_held true h (job.Send source target user temp ∷ jobs) p s f =
     one_sent h source target user temp s (moved (choice h jobs).failing (lists p jobs struck f)).struck (choice_strikes_nothing h jobs p struck f)
 after_held _ h jobs p s f = passes h (lists p jobs s f) []
 
-after_send_answer : (h : Holdings) (held : Bool) (r : Result Answer BadText) (l : Lists) → KeepsIn h l.struck (on_send_answer h held r l)
-after_send_answer h held (Ok answer.SendYes) l = after_send_yes h l.ahead l
-after_send_answer h held (Ok answer.SendNever) l = fails h l []
-after_send_answer h held (Ok answer.SendLater) l = after_held held h l.ahead l.passed l.struck l.failed
-after_send_answer h held _ l = quiet h l.struck
+after_send_answer : (h : Holdings) (held : Bool) (position : ℕ) (r : Result Answer BadText) (l : Lists) → KeepsIn h l.struck (on_send_answer h held position r l)
+after_send_answer h held position (Ok answer.SendYes) l = after_send_yes h position l.ahead l
+after_send_answer h held position (Ok answer.SendNever) l = fails h l []
+after_send_answer h held position (Ok answer.SendLater) l = after_held held h l.ahead l.passed l.struck l.failed
+after_send_answer h held position _ l = quiet h l.struck
 
 after_sent_job : (h : Holdings) (jobs p s f : List Job) (r : Result Answer BadText) → KeepsIn h s (on_sent_job_done h jobs r (lists p jobs s f))
 after_sent_job h (job.Send source target user temp ∷ jobs) p s f (Ok answer.DoneYes) =
@@ -221,7 +222,7 @@ after_text : (h : Holdings) (a : Awaits) (text : List ℕ) (l : Lists) → Keeps
 after_text h awaits.Order text l = after_order h (refused_letter_of text) (heard h.digests (told_by_order text)) (order_of text) l
 after_text h awaits.GivenFileDone text l = after_given_file h (answer_of text) l
 after_text h awaits.LastHangUp text l = after_last_hang_up h (answer_of text) l
-after_text h awaits.SendAnswer text l = after_send_answer h (is_held text && h.lenient) (answer_of text) l
+after_text h awaits.SendAnswer text l = after_send_answer h (is_held text && h.lenient) (position_heard h.digests text) (answer_of text) l
 after_text h awaits.SentFileDone text l = after_sent_job h l.ahead l.passed l.struck l.failed (answer_of text)
 after_text h awaits.RequestAnswer text l = after_request_answer h (heard h.digests (told_by_answer text)) (or_wished (answer_of text) h.lenient text) l
 after_text h awaits.HangUpAnswer text l = after_hang_up_answer h (answer_of text) l
@@ -260,7 +261,7 @@ after_file_of h (job.Request source target user ∷ jobs) p s f mode told bytes 
 after_file_of h _ p s f mode told bytes = quiet h s
 
 after_file : (h : Holdings) (a : Awaits) (bytes : List ℕ) (l : Lists) → KeepsIn h l.struck (on_file h a bytes l)
-after_file h (awaits.SentFile target mode told) bytes l = after_kept h (file_verdict h target told bytes) (record { name = target; mode = mode; bytes = bytes }) l
+after_file h (awaits.SentFile source target mode told) bytes l = after_kept h (file_verdict h target told bytes) (record { name = target; mode = mode; bytes = bytes }) l
 after_file h (awaits.AskedFile mode told) bytes l = after_file_of h l.ahead l.passed l.struck l.failed mode told bytes
 after_file h awaits.DroppedSentFile bytes l = quiet h l.struck
 after_file h awaits.DroppedAskedFile bytes l = fails h l (the_answer answer.DoneNever ∷ [])

@@ -126,12 +126,12 @@ line_is_lost_after_that = record { out = refl; stands = refl }
 
 -- ---- the spool's device
 
-pub device_fails : Leads (after no_exception Called (link_of Called) (dialogue (awaits.SentFile y 420 None) [] []) (device_fails_at []))
+pub device_fails : Leads (after no_exception Called (link_of Called) (dialogue (awaits.SentFile q y 420 None) [] []) (device_fails_at []))
     (puts (rr 1) ∷ puts close ∷ []) (ended ends.SpoolFault)
 device_fails = record { out = refl; stands = refl }
 
 -- the spool is not asked where the file can't be put in its place, or where no file ends
-pub device_is_not_asked : Leads (after (fixed y) Called (link_of Called) (dialogue (awaits.SentFile y 420 None) [] []) (device_fails_at []))
+pub device_is_not_asked : Leads (after (fixed y) Called (link_of Called) (dialogue (awaits.SentFile q y 420 None) [] []) (device_fails_at []))
     (puts (rr 1) ∷ says (text (codes "CN5")) ∷ []) linked
 unfolding smallest_code
 device_is_not_asked = record { out = refl; stands = refl }
