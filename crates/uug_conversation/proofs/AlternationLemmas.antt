@@ -16,6 +16,7 @@ use Rattle.uug_conversation.specs.Holdings.{File, Holdings, to_give}
 use Rattle.uug_conversation.specs.Jobs.{Move, pass, strike, fail}
 use Rattle.uug_conversation.specs.Party.{Party}
 use Rattle.uug_conversation.specs.Told.{told_of}
+use Rattle.uug_conversation.specs.Resuming.{front_held}
 use Rattle.uug_conversation.specs.Turns.{other, Said, the_order, the_answer, Turn, plain, moving}
 use Rattle.uug_conversation.specs.declared.side.Side.{Side}
 use Rattle.uug_conversation.specs.declared.side.Side.TheVariants.{Caller, Called}
@@ -40,23 +41,23 @@ record AreSides (master slave : Side) : Type 0 where
   to_master : master ≡ other slave
 
 send_alternates : (master slave : Side) (digests : Bool) (source target user : List ℕ) (temp : Option (List ℕ))
-    (file : Option File) (name : List ℕ) (verdict : Verdict) (immovable : Bool) (next : List Move) (rest : List Turn)
+    (file : Option File) (name front : List ℕ) (verdict : Verdict) (immovable : Bool) (next : List Move) (rest : List Turn)
     → AreSides master slave → AreMasters master rest
-    → AreMasters master (send_exchange master slave digests source target user temp file name verdict immovable next rest)
-send_alternates master slave digests source target user temp None name verdict immovable next rest s h = h
-send_alternates master slave digests source target user temp (Some file) name Never immovable next rest s h = record {
+    → AreMasters master (send_exchange master slave digests source target user temp file name front verdict immovable next rest)
+send_alternates master slave digests source target user temp None name front verdict immovable next rest s h = h
+send_alternates master slave digests source target user temp (Some file) name front Never immovable next rest s h = record {
   begins = (refl, order.Send source target user temp file.mode, told_of digests (Some file), refl);
   alternate = (inl s.to_slave, (by_other (moving slave (the_answer answer.SendNever) (fail ∷ next)) master rest s.to_master h.begins, h.alternate));
 }
-send_alternates master slave digests source target user temp (Some file) name Later immovable next rest s h = record {
+send_alternates master slave digests source target user temp (Some file) name front Later immovable next rest s h = record {
   begins = (refl, order.Send source target user temp file.mode, told_of digests (Some file), refl);
   alternate = (inl s.to_slave, (by_other (moving slave (the_answer answer.SendLater) (pass ∷ next)) master rest s.to_master h.begins, h.alternate));
 }
-send_alternates master slave digests source target user temp (Some file) name Yes false next rest s h = record {
+send_alternates master slave digests source target user temp (Some file) name front Yes false next rest s h = record {
   begins = (refl, order.Send source target user temp file.mode, told_of digests (Some file), refl);
   alternate = (inl s.to_slave, (inl s.to_master, (inl s.to_slave, (by_other (moving slave (the_answer answer.DoneYes) (strike ∷ next)) master rest s.to_master h.begins, h.alternate))));
 }
-send_alternates master slave digests source target user temp (Some file) name Yes true next rest s h = record {
+send_alternates master slave digests source target user temp (Some file) name front Yes true next rest s h = record {
   begins = (refl, order.Send source target user temp file.mode, told_of digests (Some file), refl);
   alternate = (inl s.to_slave, (inl s.to_master, (inl s.to_slave, (by_other (moving slave (the_answer answer.DoneNever) (fail ∷ next)) master rest s.to_master h.begins, h.alternate))));
 }
@@ -86,7 +87,8 @@ exchanges_alternate : (master slave : Side) (own others : Holdings) (jobs : List
     → AreSides master slave → AreMasters master rest → AreMasters master (exchanges master slave own others jobs rest)
 exchanges_alternate master slave own others [] rest s h = h
 exchanges_alternate master slave own others (job.Send source target user temp ∷ jobs) rest s h =
-    send_alternates master slave own.digests source target user temp (to_give own (fetched_by source temp)) (others.landing source target) (others.verdict (others.landing source target))
+    send_alternates master slave own.digests source target user temp (to_give own (fetched_by source temp)) (others.landing source target)
+    (front_held others own.digests (fetched_by source temp) (to_give own (fetched_by source temp))) (others.verdict (others.landing source target))
     (others.immovable (others.landing source target)) (choice own jobs).failing (exchanges master slave own others jobs rest) s
     (exchanges_alternate master slave own others jobs rest s h)
 exchanges_alternate master slave own others (job.Request source target user ∷ jobs) rest s h =

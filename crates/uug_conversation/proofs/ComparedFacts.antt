@@ -1,5 +1,6 @@
 -- What an end does that compares digests, worked out by hand.
 use Rattle.std.proofs.Common.{◌≡◌, ℕ, true, List, [], ◌∷◌, codes, drop, Option, Some, None, refl, ap}
+use Rattle.hex.proofs.OnLiterals.{hex_on_literals}
 use Rattle.uug_digest.specs.Digests.{digest_of, told_by_answer, told_by_order}
 use Rattle.uug_digest.specs.declared.file_digest.FileDigest.{FileDigest}
 use Rattle.uug_talk.specs.declared.answer.Answer.TheVariants as answer
@@ -37,6 +38,7 @@ record IsHeard : Type 0 where
   size_alone : on_text telling_x awaits.RequestAnswer (codes "RY 0600 0x6") asking ≡ replies asking (awaits.AskedFile 384 None) []
 
 heard_so : IsHeard
+unfolding hex_on_literals
 heard_so = record { send = refl; none_told = refl; not_heard = refl; answer = refl; size_alone = refl }
 
 -- what is told of the six bytes, and of five

@@ -1,5 +1,5 @@
 -- What is kept is what was told of, and what was told is what was heard.
-use Rattle.std.proofs.Common.{◌≡◌, ℕ, nat_lt, Bool, true, false, List, [], ◌∷◌, length, Option, Some, None, Result, Ok, Err, refl, sym, ap, subst, ◌∙◌}
+use Rattle.std.proofs.Common.{◌≡◌, ℕ, nat_lt, Bool, true, false, List, [], ◌∷◌, ◌++◌, length, Option, Some, None, Result, Ok, Err, refl, sym, ap, subst, ◌∙◌}
 use Rattle.std.proofs.lemmas.List.Elements.{All-nil, All-cons}
 use Rattle.uug_digest.specs.Digests.{digest_of, told_by_answer, told_by_order}
 use Rattle.uug_digest.specs.declared.file_digest.FileDigest.{FileDigest}
@@ -23,6 +23,7 @@ use Rattle.uug_conversation.specs.Comparing.{AllFit, told_awaited}
 use Rattle.uug_conversation.specs.Holdings.{File, Kept, Holdings, to_give}
 use Rattle.uug_conversation.specs.Jobs.{Lists, moved}
 use Rattle.uug_conversation.specs.Machine.{State, awaits_answer_to, comes_early, file_verdict, on_send, send_verdict, on_request, on_hang_up, on_unread, on_order, on_request_answer, on_text, on_sent_file, on_asked_file, on_file_of, on_file, on_whole, on_gathered, on_past_limit, on_part, gathered_with, kind_awaited, reply_to, step, unless_early}
+use Rattle.uug_conversation.specs.Resuming.{front_of}
 use Rattle.uug_conversation.specs.Told.{fits, heard, outcome, told_of, told_with}
 use Rattle.uug_conversation.proofs.ToldLemmas.{fits_decides}
 
@@ -65,8 +66,9 @@ module _ (told : FileDigest) where
       AllFit told (on_whole (kind_awaited w) h w bytes l).keeps
   whole_fits h (awaits.SentFile source target mode told_so) bytes l e =
       subst (λ z. AllFit told (on_file h (awaits.SentFile source target mode z) bytes l).keeps) (sym e)
-      (sent_fits (file_verdict h target (Some told) bytes) (record { name = target; mode = mode; bytes = bytes }) l
-      (yes_fits h target bytes))
+      (sent_fits (file_verdict h target (Some told) (front_of h source (Some told) ++ bytes))
+      (record { name = target; mode = mode; bytes = front_of h source (Some told) ++ bytes }) l
+      (yes_fits h target (front_of h source (Some told) ++ bytes)))
   whole_fits h (awaits.AskedFile mode told_so) bytes l e =
       subst (λ z. AllFit told (on_file h (awaits.AskedFile mode z) bytes l).keeps) (sym e)
       (file_of_fits h l.ahead mode bytes l)
@@ -115,11 +117,11 @@ after_command told (order.Send source target user temp mode) = tt
 after_command told (order.Request source target user) = tt
 after_command told order.HangUp = tt
 
-after_send : (verdict : Verdict) (source target : List ℕ) (mode : ℕ) (told : Option FileDigest) (l : Lists) →
-    HasHeard told (on_send verdict source target mode told l).state.awaits
-after_send Yes source target mode told l = refl
-after_send Never source target mode told l = tt
-after_send Later source target mode told l = tt
+after_send : (verdict : Verdict) (front source target : List ℕ) (mode : ℕ) (told : Option FileDigest) (l : Lists) →
+    HasHeard told (on_send verdict front source target mode told l).state.awaits
+after_send Yes front source target mode told l = refl
+after_send Never front source target mode told l = tt
+after_send Later front source target mode told l = tt
 
 after_request : (told : Option FileDigest) (digests : Bool) (found : Option File) (delayed : Bool) (l : Lists) →
     HasHeard told (on_request digests found delayed l).state.awaits
@@ -139,7 +141,8 @@ after_unread told _ _ l = tt
 
 after_order : (h : Holdings) (letter : Option ℕ) (told : Option FileDigest) (read : Result Order BadText) (l : Lists) →
     HasHeard told (on_order h letter told read l).state.awaits
-after_order h letter told (Ok (order.Send source target user temp mode)) l = after_send (send_verdict h (h.landing source target) told) (fetched_by source temp) (h.landing source target) mode told l
+after_order h letter told (Ok (order.Send source target user temp mode)) l = after_send (send_verdict h (h.landing source target) told)
+    (front_of h (fetched_by source temp) told) (fetched_by source temp) (h.landing source target) mode told l
 after_order h letter told (Ok (order.Request source target user)) l = after_request told h.digests (to_give h source) (h.delayed source) l
 after_order h letter told (Ok order.HangUp) l =
     after_hang_up told h (choice h l.ahead).next (moved (choice h l.ahead).failing l)

@@ -1,5 +1,5 @@
 -- The exchange of one job in front of what an end accords with: at the master's side, and at the slave's.
-use Rattle.std.proofs.Common.{◌≡◌, ℕ, ◌<◌, Bool, true, false, ◌&&◌, List, [], ◌∷◌, ◌++◌, Option, Some, None, Ok, refl, sym, ap, ap₂, subst, ◌∙◌}
+use Rattle.std.proofs.Common.{◌≡◌, ℕ, ◌<◌, Bool, true, false, ◌&&◌, List, [], ◌∷◌, ◌++◌, length, drop, Option, Some, None, Ok, refl, sym, ap, ap₂, subst, ◌∙◌}
 use Rattle.uug_digest.specs.declared.file_digest.FileDigest.{FileDigest}
 use Rattle.uug_talk.specs.Chunks.{Measure}
 use Rattle.uug_talk.specs.declared.answer.Answer.TheVariants as answer
@@ -15,17 +15,20 @@ use Rattle.uug_conversation.specs.declared.verdict.Verdict.TheVariants.{Yes, Nev
 use Rattle.uug_conversation.specs.Choice.{choice, fetched_by, send_choice}
 use Rattle.uug_conversation.specs.Conversation.{exchanges}
 use Rattle.uug_conversation.specs.Exchange.{send_exchange, request_exchange, exchange}
-use Rattle.uug_conversation.specs.Holdings.{File, Kept, Holdings, to_give, kept_as}
+use Rattle.uug_conversation.specs.Holdings.{File, Kept, Holdings, to_give, kept_as, kept_file}
 use Rattle.uug_conversation.specs.Jobs.{Lists, Move, pass, strike, fail, moved, moved_once}
-use Rattle.uug_talk.specs.Lenient.{or_wished, refused_letter_of}
-use Rattle.uug_conversation.specs.Machine.{State, Reply, between, replies, kind_awaited, on_whole, keeps, chooses, file_verdict, goes_on, on_send, on_request, on_order, sends_file, on_request_answer, on_sent_file, on_asked_file}
+use Rattle.uug_conversation.specs.Party.{HoldsFronts}
+use Rattle.uug_conversation.specs.Resuming.{front_held, front_of, position_heard}
+use Rattle.uug_digest.specs.Positions.{consent_text}
+use Rattle.uug_talk.specs.Lenient.{is_held, or_wished, refused_letter_of}
+use Rattle.uug_conversation.specs.Machine.{State, Reply, between, replies, kind_awaited, on_whole, keeps, chooses, file_verdict, goes_on, on_send, on_request, on_order, on_send_answer, on_text, sends_file, on_request_answer, on_sent_file, on_asked_file}
 use Rattle.uug_conversation.specs.ReadBack.{IsReadBack, EachTurn}
 use Rattle.uug_conversation.specs.Turns.{other, Said, the_order, the_answer, the_consent, the_giving, the_file, said_messages, all_messages, Turn}
 use Rattle.uug_conversation.specs.declared.side.Side.{Side}
 use Rattle.uug_conversation.specs.Told.{giving_said, heard, is_too_large, order_said, outcome, told_of, unless_too_large}
 use Rattle.uug_conversation.proofs.ToldLemmas.{fits_given, given_is_taken}
 use Rattle.uug_conversation.proofs.TurnLemmas.{Fits, Open, said_kind, said_bytes, own_says, other_says}
-use Rattle.uug_conversation.proofs.ResumingLemmas.{whole_sent}
+use Rattle.uug_conversation.proofs.ResumingLemmas.{GoesBehind, goes_behind, rest_sent, whole_again}
 
 module _ (measure_of : Side → Measure) (positive : (side : Side) → 0 < (measure_of side).size) (me : Side) (h : Holdings) where
   -- what an end replies accords with these turns
@@ -63,62 +66,74 @@ module _ (measure_of : Side → Measure) (positive : (side : Side) → 0 < (meas
 
   -- ---- Send, at the master's
 
+  rest_asked : (source target user : List ℕ) (temp : Option (List ℕ)) (file : File) → to_give h (fetched_by source temp) ≡ Some file →
+      (front : List ℕ) → GoesBehind h.digests front file → IsReadBack (the_consent (length front)) →
+      (passed jobs struck failed : List Job) → let l = lists passed (job.Send source target user temp ∷ jobs) struck failed in
+      on_text h awaits.SendAnswer (consent_text (length front)) l
+      ≡ replies l awaits.SentFileDone (the_file (drop (length front) file.bytes) ∷ [])
+  rest_asked source target user temp file e front well back passed jobs struck failed =
+      let l = lists passed (job.Send source target user temp ∷ jobs) struck failed in
+      let text = consent_text (length front) in
+      ap (λ read. on_send_answer h (is_held text && h.lenient) (position_heard h.digests text) read l) back.1
+      ∙ ap (λ f. sends_file f l) (rest_sent h.digests front file well back.2 (to_give h (fetched_by source temp)) e)
+
   send_offered : (source target user : List ℕ) (temp : Option (List ℕ)) (file : File) →
-      to_give h (fetched_by source temp) ≡ Some file → (name : List ℕ) (verdict : Verdict) (immovable : Bool) →
-      (passed jobs struck failed : List Job) (ts : List Turn) →
-      EachTurn (λ t. IsReadBack t.said) (send_exchange me (other me) h.digests source target user temp (Some file) name verdict immovable (choice h jobs).failing ts) →
+      to_give h (fetched_by source temp) ≡ Some file → (name front : List ℕ) → GoesBehind h.digests front file →
+      (verdict : Verdict) (immovable : Bool) → (passed jobs struck failed : List Job) (ts : List Turn) →
+      EachTurn (λ t. IsReadBack t.said) (send_exchange me (other me) h.digests source target user temp (Some file) name front verdict immovable (choice h jobs).failing ts) →
       Masters jobs ts →
       FitsReply (replies (lists passed (job.Send source target user temp ∷ jobs) struck failed) awaits.SendAnswer
       (the_order (order.Send source target user temp file.mode) (told_of h.digests (Some file)) ∷ []))
-      (send_exchange me (other me) h.digests source target user temp (Some file) name verdict immovable (choice h jobs).failing ts)
-  send_offered source target user temp file e name Never immovable passed jobs struck failed ts back rest =
+      (send_exchange me (other me) h.digests source target user temp (Some file) name front verdict immovable (choice h jobs).failing ts)
+  send_offered source target user temp file e name front well Never immovable passed jobs struck failed ts back rest =
       let l = lists passed (job.Send source target user temp ∷ jobs) struck failed in
       say back.0
       (hear_text {r = goes_on h (moved_once fail l) []} back.1.0 refl (record { not_over = refl; not_bad = refl; not_parted = refl })
       refl refl refl
       (rest passed struck (failed ++ job.Send source target user temp ∷ [])))
-  send_offered source target user temp file e name Later immovable passed jobs struck failed ts back rest =
+  send_offered source target user temp file e name front well Later immovable passed jobs struck failed ts back rest =
       let l = lists passed (job.Send source target user temp ∷ jobs) struck failed in
       say back.0
       (hear_text {r = goes_on h (moved_once pass l) []} back.1.0 refl (record { not_over = refl; not_bad = refl; not_parted = refl })
       refl refl refl
       (rest (passed ++ job.Send source target user temp ∷ []) struck failed))
-  send_offered source target user temp file e name Yes false passed jobs struck failed ts back rest =
+  send_offered source target user temp file e name front well Yes false passed jobs struck failed ts back rest =
       let l = lists passed (job.Send source target user temp ∷ jobs) struck failed in
       say back.0
-      (hear_text {r = replies l awaits.SentFileDone (the_file file.bytes ∷ [])} back.1.0 refl
+      (hear_text {r = replies l awaits.SentFileDone (the_file (drop (length front) file.bytes) ∷ [])} back.1.0 refl
       (record { not_over = refl; not_bad = refl; not_parted = refl })
-      (ap (λ f. sends_file f l) (whole_sent h.digests (to_give h (fetched_by source temp)) file e)) refl refl
+      (rest_asked source target user temp file e front well back.1.0 passed jobs struck failed) refl refl
       (say back.1.1.0
       (hear_text {r = goes_on h (moved_once strike l) []} back.1.1.1.0 refl (record { not_over = refl; not_bad = refl; not_parted = refl })
       refl refl refl
       (rest passed (struck ++ job.Send source target user temp ∷ []) failed))))
-  send_offered source target user temp file e name Yes true passed jobs struck failed ts back rest =
+  send_offered source target user temp file e name front well Yes true passed jobs struck failed ts back rest =
       let l = lists passed (job.Send source target user temp ∷ jobs) struck failed in
       say back.0
-      (hear_text {r = replies l awaits.SentFileDone (the_file file.bytes ∷ [])} back.1.0 refl
+      (hear_text {r = replies l awaits.SentFileDone (the_file (drop (length front) file.bytes) ∷ [])} back.1.0 refl
       (record { not_over = refl; not_bad = refl; not_parted = refl })
-      (ap (λ f. sends_file f l) (whole_sent h.digests (to_give h (fetched_by source temp)) file e)) refl refl
+      (rest_asked source target user temp file e front well back.1.0 passed jobs struck failed) refl refl
       (say back.1.1.0
       (hear_text {r = goes_on h (moved_once fail l) []} back.1.1.1.0 refl (record { not_over = refl; not_bad = refl; not_parted = refl })
       refl refl refl
       (rest passed struck (failed ++ job.Send source target user temp ∷ [])))))
 
   send_as_master : (source target user : List ℕ) (temp : Option (List ℕ)) (found : Option File) →
-      to_give h (fetched_by source temp) ≡ found → (name : List ℕ) (verdict : Verdict) (immovable : Bool) →
+      to_give h (fetched_by source temp) ≡ found → (name front : List ℕ) →
+      ((file : File) → found ≡ Some file → GoesBehind h.digests front file) → (verdict : Verdict) (immovable : Bool) →
       (passed jobs struck failed : List Job) (ts : List Turn) →
-      EachTurn (λ t. IsReadBack t.said) (send_exchange me (other me) h.digests source target user temp found name verdict immovable (choice h jobs).failing ts) →
+      EachTurn (λ t. IsReadBack t.said) (send_exchange me (other me) h.digests source target user temp found name front verdict immovable (choice h jobs).failing ts) →
       Masters jobs ts →
       FitsReply (chooses h (send_choice source target user temp found (choice h jobs))
       (lists passed (job.Send source target user temp ∷ jobs) struck failed) [])
-      (send_exchange me (other me) h.digests source target user temp found name verdict immovable (choice h jobs).failing ts)
-  send_as_master source target user temp None e name verdict immovable passed jobs struck failed ts back rest =
+      (send_exchange me (other me) h.digests source target user temp found name front verdict immovable (choice h jobs).failing ts)
+  send_as_master source target user temp None e name front well verdict immovable passed jobs struck failed ts back rest =
       rest passed struck (failed ++ job.Send source target user temp ∷ [])
-  send_as_master source target user temp (Some file) e name verdict immovable passed jobs struck failed ts back rest =
+  send_as_master source target user temp (Some file) e name front well verdict immovable passed jobs struck failed ts back rest =
       subst (λ z. FitsReply (replies (lists passed (job.Send source target user temp ∷ jobs) struck failed) awaits.SendAnswer
       (the_order (order.Send source target user temp file.mode) (told_of h.digests z) ∷ []))
-      (send_exchange me (other me) h.digests source target user temp (Some file) name verdict immovable (choice h jobs).failing ts))
-      (sym e) (send_offered source target user temp file e name verdict immovable passed jobs struck failed ts back rest)
+      (send_exchange me (other me) h.digests source target user temp (Some file) name front verdict immovable (choice h jobs).failing ts))
+      (sym e) (send_offered source target user temp file e name front (well file refl) verdict immovable passed jobs struck failed ts back rest)
 
   -- ---- Request, at the master's
 
@@ -165,24 +180,26 @@ module _ (measure_of : Side → Measure) (positive : (side : Side) → 0 < (meas
 
   -- ---- all jobs of a master, at its side
 
-  job_as_master : (others : Holdings) (j : Job) (jobs : List Job) (ts : List Turn) →
+  job_as_master : (others : Holdings) → HoldsFronts h others → (j : Job) (jobs : List Job) (ts : List Turn) →
       EachTurn (λ t. IsReadBack t.said) (exchange me (other me) h others j (choice h jobs).failing ts) →
       Masters jobs ts → Masters (j ∷ jobs) (exchange me (other me) h others j (choice h jobs).failing ts)
-  job_as_master others (job.Send source target user temp) jobs ts back rest passed struck failed =
+  job_as_master others fronts (job.Send source target user temp) jobs ts back rest passed struck failed =
       send_as_master source target user temp (to_give h (fetched_by source temp)) refl
-      (others.landing source target) (others.verdict (others.landing source target)) (others.immovable (others.landing source target)) passed jobs struck failed ts back rest
-  job_as_master others (job.Request source target user) jobs ts back rest passed struck failed =
+      (others.landing source target) (front_held others h.digests (fetched_by source temp) (to_give h (fetched_by source temp)))
+      (goes_behind h others fronts (fetched_by source temp) (to_give h (fetched_by source temp)) refl)
+      (others.verdict (others.landing source target)) (others.immovable (others.landing source target)) passed jobs struck failed ts back rest
+  job_as_master others fronts (job.Request source target user) jobs ts back rest passed struck failed =
       request_as_master others.digests source target user (to_give others source) (others.delayed source) (h.immovable (h.landing source target)) refl passed jobs struck failed ts back rest
 
   behind_send : (master slave : Side) (digests : Bool) (source target user : List ℕ) (temp : Option (List ℕ)) (found : Option File)
-      (name : List ℕ) (verdict : Verdict) (immovable : Bool) (next : List Move) (ts : List Turn) →
-      EachTurn (λ t. IsReadBack t.said) (send_exchange master slave digests source target user temp found name verdict immovable next ts) →
+      (name front : List ℕ) (verdict : Verdict) (immovable : Bool) (next : List Move) (ts : List Turn) →
+      EachTurn (λ t. IsReadBack t.said) (send_exchange master slave digests source target user temp found name front verdict immovable next ts) →
       EachTurn (λ t. IsReadBack t.said) ts
-  behind_send master slave digests source target user temp None name verdict immovable next ts back = back
-  behind_send master slave digests source target user temp (Some file) name Never immovable next ts back = back.1.1
-  behind_send master slave digests source target user temp (Some file) name Later immovable next ts back = back.1.1
-  behind_send master slave digests source target user temp (Some file) name Yes false next ts back = back.1.1.1.1
-  behind_send master slave digests source target user temp (Some file) name Yes true next ts back = back.1.1.1.1
+  behind_send master slave digests source target user temp None name front verdict immovable next ts back = back
+  behind_send master slave digests source target user temp (Some file) name front Never immovable next ts back = back.1.1
+  behind_send master slave digests source target user temp (Some file) name front Later immovable next ts back = back.1.1
+  behind_send master slave digests source target user temp (Some file) name front Yes false next ts back = back.1.1.1.1
+  behind_send master slave digests source target user temp (Some file) name front Yes true next ts back = back.1.1.1.1
 
   behind_request : (master slave : Side) (digests : Bool) (source target user : List ℕ) (found : Option File)
       (delayed : Bool) (name : List ℕ) (immovable : Bool) (next : List Move) (ts : List Turn) →
@@ -197,7 +214,8 @@ module _ (measure_of : Side → Measure) (positive : (side : Side) → 0 < (meas
       EachTurn (λ t. IsReadBack t.said) (exchange master slave own others j next ts) → EachTurn (λ t. IsReadBack t.said) ts
   behind_exchange master slave own others (job.Send source target user temp) next ts back =
       behind_send master slave own.digests source target user temp (to_give own (fetched_by source temp))
-      (others.landing source target) (others.verdict (others.landing source target)) (others.immovable (others.landing source target)) next ts back
+      (others.landing source target)
+    (front_held others own.digests (fetched_by source temp) (to_give own (fetched_by source temp))) (others.verdict (others.landing source target)) (others.immovable (others.landing source target)) next ts back
   behind_exchange master slave own others (job.Request source target user) next ts back =
       behind_request master slave others.digests source target user (to_give others source) (others.delayed source)
       (own.landing source target) (own.immovable (own.landing source target)) next ts back
@@ -209,13 +227,13 @@ module _ (measure_of : Side → Measure) (positive : (side : Side) → 0 < (meas
       behind_exchanges master slave own others jobs ts
       (behind_exchange master slave own others j (choice own jobs).failing (exchanges master slave own others jobs ts) back)
 
-  pub as_master : (others : Holdings) (jobs : List Job) (ts : List Turn) →
+  pub as_master : (others : Holdings) → HoldsFronts h others → (jobs : List Job) (ts : List Turn) →
       EachTurn (λ t. IsReadBack t.said) (exchanges me (other me) h others jobs ts) →
       Masters [] ts → Masters jobs (exchanges me (other me) h others jobs ts)
-  as_master others [] ts back rest = rest
-  as_master others (j ∷ jobs) ts back rest =
-      job_as_master others j jobs (exchanges me (other me) h others jobs ts) back
-      (as_master others jobs ts
+  as_master others fronts [] ts back rest = rest
+  as_master others fronts (j ∷ jobs) ts back rest =
+      job_as_master others fronts j jobs (exchanges me (other me) h others jobs ts) back
+      (as_master others fronts jobs ts
       (behind_exchange me (other me) h others j (choice h jobs).failing (exchanges me (other me) h others jobs ts) back) rest)
 
   -- a command is taken as it was said
@@ -227,50 +245,81 @@ module _ (measure_of : Side → Measure) (positive : (side : Side) → 0 < (meas
 
   -- ---- Send, at the slave's
 
-  send_as_slave : (digests : Bool) (source target user : List ℕ) (temp : Option (List ℕ)) (found : Option File) →
+  -- the rest behind what is held is asked for
+  consent_said : (digests : Bool) (source target user : List ℕ) (temp : Option (List ℕ)) (file : File) (front : List ℕ) →
+      front_of h (fetched_by source temp) (heard h.digests (told_of digests (Some file))) ≡ front → GoesBehind digests front file →
+      h.verdict (h.landing source target) ≡ Yes → (l : Lists) →
+      IsReadBack (the_order (order.Send source target user temp file.mode) (told_of digests (Some file))) →
+      on_whole OfCommand h awaits.Order (order_said (order.Send source target user temp file.mode) (told_of digests (Some file))) l
+      ≡ replies l (awaits.SentFile (fetched_by source temp) (h.landing source target) file.mode (heard h.digests (told_of digests (Some file))))
+      (the_consent (length front) ∷ [])
+  consent_said digests source target user temp file front held well v l back =
+      let told = heard h.digests (told_of digests (Some file)) in
+      order_heard (order.Send source target user temp file.mode) (told_of digests (Some file)) l back
+      ∙ ap₂ (λ b z. on_send (unless_too_large b z) (front_of h (fetched_by source temp) told) (fetched_by source temp) (h.landing source target) file.mode told l)
+      (given_is_taken h.lenient h.digests digests file well.small) v
+      ∙ ap (λ z. on_send Yes z (fetched_by source temp) (h.landing source target) file.mode told l) held
+
+  -- the rest comes, and what is held stands in front of it
+  rest_taken : (digests : Bool) (source target : List ℕ) (file : File) (front : List ℕ) →
+      front_of h source (heard h.digests (told_of digests (Some file))) ≡ front → GoesBehind digests front file →
+      (immovable : Bool) → h.immovable target ≡ immovable → (l : Lists) →
+      let told = heard h.digests (told_of digests (Some file)) in
+      let bytes = front_of h source told ++ drop (length front) file.bytes in
+      on_sent_file (file_verdict h target told bytes) (kept_file target file.mode bytes) l
+      ≡ on_sent_file (outcome true immovable) (kept_as target file) l
+  rest_taken digests source target file front held well immovable i l =
+      let told = heard h.digests (told_of digests (Some file)) in
+      ap (λ z. on_sent_file (file_verdict h target told z) (kept_file target file.mode z) l)
+      (ap (λ z. z ++ drop (length front) file.bytes) held ∙ whole_again front file.bytes well.is_front)
+      ∙ ap (λ z. on_sent_file z (kept_as target file) l) (verdict_is digests target file immovable i)
+
+  send_as_slave : (digests : Bool) (source target user : List ℕ) (temp : Option (List ℕ)) (found : Option File) (front : List ℕ) →
+      ((file : File) → found ≡ Some file → front_of h (fetched_by source temp) (heard h.digests (told_of digests (Some file))) ≡ front) →
+      ((file : File) → found ≡ Some file → GoesBehind digests front file) →
       (verdict : Verdict) → h.verdict (h.landing source target) ≡ verdict → (immovable : Bool) →
       h.immovable (h.landing source target) ≡ immovable →
       (next : List Move) (l : Lists) (ts : List Turn) →
-      EachTurn (λ t. IsReadBack t.said) (send_exchange (other me) me digests source target user temp found (h.landing source target) verdict immovable next ts) →
+      EachTurn (λ t. IsReadBack t.said) (send_exchange (other me) me digests source target user temp found (h.landing source target) front verdict immovable next ts) →
       Fits h measure_of me (between l awaits.Order) [] ts →
       Fits h measure_of me (between l awaits.Order) []
-      (send_exchange (other me) me digests source target user temp found (h.landing source target) verdict immovable next ts)
-  send_as_slave digests source target user temp None verdict v immovable i next l ts back rest = rest
-  send_as_slave digests source target user temp (Some file) Never v immovable i next l ts back rest =
+      (send_exchange (other me) me digests source target user temp found (h.landing source target) front verdict immovable next ts)
+  send_as_slave digests source target user temp None front held well verdict v immovable i next l ts back rest = rest
+  send_as_slave digests source target user temp (Some file) front held well Never v immovable i next l ts back rest =
       hear_text {r = replies l awaits.Order (the_answer answer.SendNever ∷ [])} back.0 refl
       (record { not_over = refl; not_bad = refl; not_parted = refl })
       (order_heard (order.Send source target user temp file.mode) (told_of digests (Some file)) l back.0
-      ∙ ap (λ z. on_send (unless_too_large (h.lenient && is_too_large (heard h.digests (told_of digests (Some file)))) z) (fetched_by source temp) (h.landing source target)
+      ∙ ap (λ z. on_send (unless_too_large (h.lenient && is_too_large (heard h.digests (told_of digests (Some file)))) z)
+      (front_of h (fetched_by source temp) (heard h.digests (told_of digests (Some file)))) (fetched_by source temp) (h.landing source target)
       file.mode (heard h.digests (told_of digests (Some file))) l) v) refl refl
       (say back.1.0 rest)
-  send_as_slave digests source target user temp (Some file) Later v immovable i next l ts back rest =
+  send_as_slave digests source target user temp (Some file) front held well Later v immovable i next l ts back rest =
       hear_text {r = replies l awaits.Order (the_answer answer.SendLater ∷ [])} back.0 refl
       (record { not_over = refl; not_bad = refl; not_parted = refl })
       (order_heard (order.Send source target user temp file.mode) (told_of digests (Some file)) l back.0
-      ∙ ap (λ z. on_send (unless_too_large (h.lenient && is_too_large (heard h.digests (told_of digests (Some file)))) z) (fetched_by source temp) (h.landing source target)
+      ∙ ap (λ z. on_send (unless_too_large (h.lenient && is_too_large (heard h.digests (told_of digests (Some file)))) z)
+      (front_of h (fetched_by source temp) (heard h.digests (told_of digests (Some file)))) (fetched_by source temp) (h.landing source target)
       file.mode (heard h.digests (told_of digests (Some file))) l) v) refl refl
       (say back.1.0 rest)
-  send_as_slave digests source target user temp (Some file) Yes v false i next l ts back rest =
-      hear_text {r = replies l (awaits.SentFile (fetched_by source temp) (h.landing source target) file.mode (heard h.digests (told_of digests (Some file)))) (the_consent 0 ∷ [])} back.0 refl
+  send_as_slave digests source target user temp (Some file) front held well Yes v false i next l ts back rest =
+      let told = heard h.digests (told_of digests (Some file)) in
+      hear_text {r = replies l (awaits.SentFile (fetched_by source temp) (h.landing source target) file.mode told) (the_consent (length front) ∷ [])} back.0 refl
       (record { not_over = refl; not_bad = refl; not_parted = refl })
-      (order_heard (order.Send source target user temp file.mode) (told_of digests (Some file)) l back.0
-      ∙ ap₂ (λ b z. on_send (unless_too_large b z) (fetched_by source temp) (h.landing source target) file.mode (heard h.digests (told_of digests (Some file))) l)
-      (given_is_taken h.lenient h.digests digests file back.1.1.0) v) refl refl
+      (consent_said digests source target user temp file front (held file refl) (well file refl) v l back.0) refl refl
       (say back.1.0
       (hear_text {r = keeps (kept_as (h.landing source target) file) (replies l awaits.Order (the_answer answer.DoneYes ∷ []))} back.1.1.0 refl
       (record { not_over = refl; not_bad = refl; not_parted = refl })
-      (ap (λ z. on_sent_file z (kept_as (h.landing source target) file) l) (verdict_is digests (h.landing source target) file false i)) refl refl
+      (rest_taken digests (fetched_by source temp) (h.landing source target) file front (held file refl) (well file refl) false i l) refl refl
       (say back.1.1.1.0 rest)))
-  send_as_slave digests source target user temp (Some file) Yes v true i next l ts back rest =
-      hear_text {r = replies l (awaits.SentFile (fetched_by source temp) (h.landing source target) file.mode (heard h.digests (told_of digests (Some file)))) (the_consent 0 ∷ [])} back.0 refl
+  send_as_slave digests source target user temp (Some file) front held well Yes v true i next l ts back rest =
+      let told = heard h.digests (told_of digests (Some file)) in
+      hear_text {r = replies l (awaits.SentFile (fetched_by source temp) (h.landing source target) file.mode told) (the_consent (length front) ∷ [])} back.0 refl
       (record { not_over = refl; not_bad = refl; not_parted = refl })
-      (order_heard (order.Send source target user temp file.mode) (told_of digests (Some file)) l back.0
-      ∙ ap₂ (λ b z. on_send (unless_too_large b z) (fetched_by source temp) (h.landing source target) file.mode (heard h.digests (told_of digests (Some file))) l)
-      (given_is_taken h.lenient h.digests digests file back.1.1.0) v) refl refl
+      (consent_said digests source target user temp file front (held file refl) (well file refl) v l back.0) refl refl
       (say back.1.0
       (hear_text {r = replies l awaits.Order (the_answer answer.DoneNever ∷ [])} back.1.1.0 refl
       (record { not_over = refl; not_bad = refl; not_parted = refl })
-      (ap (λ z. on_sent_file z (kept_as (h.landing source target) file) l) (verdict_is digests (h.landing source target) file true i)) refl refl
+      (rest_taken digests (fetched_by source temp) (h.landing source target) file front (held file refl) (well file refl) true i l) refl refl
       (say back.1.1.1.0 rest)))
 
   -- ---- Request, at the slave's
@@ -308,23 +357,26 @@ module _ (measure_of : Side → Measure) (positive : (side : Side) → 0 < (meas
 
   -- ---- all jobs of the other end, at the slave's side: its own jobs don't move
 
-  job_as_slave : (others : Holdings) (j : Job) (next : List Move) (l : Lists) (ts : List Turn) →
+  job_as_slave : (others : Holdings) → HoldsFronts others h → (j : Job) (next : List Move) (l : Lists) (ts : List Turn) →
       EachTurn (λ t. IsReadBack t.said) (exchange (other me) me others h j next ts) →
       Fits h measure_of me (between l awaits.Order) [] ts →
       Fits h measure_of me (between l awaits.Order) [] (exchange (other me) me others h j next ts)
-  job_as_slave others (job.Send source target user temp) next l ts back rest =
-      send_as_slave others.digests source target user temp (to_give others (fetched_by source temp)) (h.verdict (h.landing source target)) refl
+  job_as_slave others fronts (job.Send source target user temp) next l ts back rest =
+      let found = to_give others (fetched_by source temp) in
+      send_as_slave others.digests source target user temp found (front_held h others.digests (fetched_by source temp) found)
+      (λ file e. ap (λ z. front_held h others.digests (fetched_by source temp) z) (sym e))
+      (goes_behind others h fronts (fetched_by source temp) found refl) (h.verdict (h.landing source target)) refl
       (h.immovable (h.landing source target)) refl next l ts back rest
-  job_as_slave others (job.Request source target user) next l ts back rest =
+  job_as_slave others fronts (job.Request source target user) next l ts back rest =
       request_as_slave source target user (to_give h source) refl (h.delayed source) refl (others.landing source target)
       (others.immovable (others.landing source target)) next l ts back rest
 
-  pub as_slave : (others : Holdings) (jobs : List Job) (l : Lists) (ts : List Turn) →
+  pub as_slave : (others : Holdings) → HoldsFronts others h → (jobs : List Job) (l : Lists) (ts : List Turn) →
       EachTurn (λ t. IsReadBack t.said) (exchanges (other me) me others h jobs ts) →
       Fits h measure_of me (between l awaits.Order) [] ts →
       Fits h measure_of me (between l awaits.Order) [] (exchanges (other me) me others h jobs ts)
-  as_slave others [] l ts back rest = rest
-  as_slave others (j ∷ jobs) l ts back rest =
-      job_as_slave others j (choice others jobs).failing l (exchanges (other me) me others h jobs ts) back
-      (as_slave others jobs l ts
+  as_slave others fronts [] l ts back rest = rest
+  as_slave others fronts (j ∷ jobs) l ts back rest =
+      job_as_slave others fronts j (choice others jobs).failing l (exchanges (other me) me others h jobs ts) back
+      (as_slave others fronts jobs l ts
       (behind_exchange (other me) me others h j (choice others jobs).failing (exchanges (other me) me others h jobs ts) back) rest)

@@ -11,7 +11,7 @@ use Rattle.uug_conversation.specs.Holdings.{Holdings}
 use Rattle.uug_conversation.specs.Jobs.{Lists, at_start, moved}
 use Rattle.uug_conversation.specs.Machine.{between, replies, commands, on_hang_up, order_or_hang_up, opening}
 use Rattle.uug_conversation.specs.Messages.{measures}
-use Rattle.uug_conversation.specs.Party.{Party, IsSound}
+use Rattle.uug_conversation.specs.Party.{HoldFronts, Party, IsSound}
 use Rattle.uug_conversation.specs.ReadBack.{IsReadBack, EachTurn}
 use Rattle.uug_conversation.specs.Runs.{IsAt, progress_at}
 use Rattle.uug_conversation.specs.Turns.{other, the_answer, all_messages, plain}
@@ -69,67 +69,67 @@ module _ (measure_of : Side → Measure) (positive : (side : Side) → 0 < (meas
 
   -- ---- the caller's H, and what comes behind
 
-  after_at_caller : (next : Option Order) (a b : Party) (passed struck failed : List Job) →
+  after_at_caller : (next : Option Order) (a b : Party) → HoldFronts a b → (passed struck failed : List Job) →
       EachTurn (λ t. IsReadBack t.said) (after_hang_up next a b) →
       Fits a.holdings measure_of Caller
       (between (record { passed = passed; ahead = []; struck = struck; failed = failed }) awaits.HangUpAnswer) [] (after_hang_up next a b)
-  after_at_caller None a b passed struck failed back =
+  after_at_caller None a b fronts passed struck failed back =
       agree_as_master Caller a.holdings (record { passed = passed; ahead = []; struck = struck; failed = failed }) back
-  after_at_caller (Some next) a b passed struck failed back =
+  after_at_caller (Some next) a b fronts passed struck failed back =
       let l : Lists = record { passed = passed; ahead = []; struck = struck; failed = failed } in
       hear_text measure_of positive Caller a.holdings {r = replies l awaits.Order []} back.0 refl
       (record { not_over = refl; not_bad = refl; not_parted = refl }) refl refl refl
-      (as_slave measure_of positive Caller a.holdings b.holdings b.jobs l last_turns back.1
+      (as_slave measure_of positive Caller a.holdings b.holdings fronts.of_called b.jobs l last_turns back.1
       (last_at_caller a.holdings passed struck failed
       (behind_exchanges measure_of positive Caller a.holdings Called Caller b.holdings a.holdings b.jobs last_turns back.1)))
 
-  hang_up_at_caller : (a b : Party) → EachTurn (λ t. IsReadBack t.said) (hang_up a b) →
+  hang_up_at_caller : (a b : Party) → HoldFronts a b → EachTurn (λ t. IsReadBack t.said) (hang_up a b) →
       Masters measure_of positive Caller a.holdings [] (hang_up a b)
-  hang_up_at_caller a b back passed struck failed =
+  hang_up_at_caller a b fronts back passed struck failed =
       say measure_of positive Caller a.holdings back.0
-      (after_at_caller (choice b.holdings b.jobs).next a b passed struck failed back.1)
+      (after_at_caller (choice b.holdings b.jobs).next a b fronts passed struck failed back.1)
 
-  after_at_called : (next : Option Order) (a b : Party) → (choice b.holdings b.jobs).next ≡ next →
+  after_at_called : (next : Option Order) (a b : Party) → HoldFronts a b → (choice b.holdings b.jobs).next ≡ next →
       EachTurn (λ t. IsReadBack t.said) (after_hang_up next a b) →
       FitsReply measure_of positive Called b.holdings
       (on_hang_up b.holdings next (moved (choice b.holdings b.jobs).failing (at_start b.jobs [] []))) (after_hang_up next a b)
-  after_at_called None a b e back =
+  after_at_called None a b fronts e back =
       agree_as_slave Called b.holdings (moved (choice b.holdings b.jobs).failing (at_start b.jobs [] [])) back
-  after_at_called (Some next) a b e back =
+  after_at_called (Some next) a b fronts e back =
       let l = moved (choice b.holdings b.jobs).failing (at_start b.jobs [] []) in
       say measure_of positive Called b.holdings back.0
       (subst (λ z. FitsReply measure_of positive Called b.holdings (commands b.holdings l [] (order_or_hang_up z))
       (exchanges Called Caller b.holdings a.holdings b.jobs last_turns)) e
-      (as_master measure_of positive Called b.holdings a.holdings b.jobs last_turns back.1
+      (as_master measure_of positive Called b.holdings a.holdings fronts.of_called b.jobs last_turns back.1
       (last_at_called b.holdings
       (behind_exchanges measure_of positive Called b.holdings Called Caller b.holdings a.holdings b.jobs last_turns back.1))
       [] [] []))
 
-  hang_up_at_called : (a b : Party) → EachTurn (λ t. IsReadBack t.said) (hang_up a b) →
+  hang_up_at_called : (a b : Party) → HoldFronts a b → EachTurn (λ t. IsReadBack t.said) (hang_up a b) →
       Fits b.holdings measure_of Called (between (at_start b.jobs [] []) awaits.Order) [] (hang_up a b)
-  hang_up_at_called a b back =
+  hang_up_at_called a b fronts back =
       let c = choice b.holdings b.jobs in
       hear_text measure_of positive Called b.holdings
       {r = on_hang_up b.holdings c.next (moved c.failing (at_start b.jobs [] []))} back.0 refl
       (record { not_over = refl; not_bad = refl; not_parted = refl }) refl
       (hung_up_lists b.holdings c.next (moved c.failing (at_start b.jobs [] []))) (hung_up_keeps b.holdings c.next _)
-      (after_at_called c.next a b refl back.1)
+      (after_at_called c.next a b fronts refl back.1)
 
   -- ---- the whole conversation
 
-  caller_accords : (a b : Party) → EachTurn (λ t. IsReadBack t.said) (conversation a b) →
+  caller_accords : (a b : Party) → HoldFronts a b → EachTurn (λ t. IsReadBack t.said) (conversation a b) →
       FitsReply measure_of positive Caller a.holdings (opening Caller a.holdings (at_start a.jobs [] [])) (conversation a b)
-  caller_accords a b back =
-      as_master measure_of positive Caller a.holdings b.holdings a.jobs (hang_up a b) back
-      (hang_up_at_caller a b
+  caller_accords a b fronts back =
+      as_master measure_of positive Caller a.holdings b.holdings fronts.of_caller a.jobs (hang_up a b) back
+      (hang_up_at_caller a b fronts
       (behind_exchanges measure_of positive Caller a.holdings Caller Called a.holdings b.holdings a.jobs (hang_up a b) back))
       [] [] []
 
-  called_accords : (a b : Party) → EachTurn (λ t. IsReadBack t.said) (conversation a b) →
+  called_accords : (a b : Party) → HoldFronts a b → EachTurn (λ t. IsReadBack t.said) (conversation a b) →
       FitsReply measure_of positive Called b.holdings (opening Called b.holdings (at_start b.jobs [] [])) (conversation a b)
-  called_accords a b back =
-      as_slave measure_of positive Called b.holdings a.holdings a.jobs (at_start b.jobs [] []) (hang_up a b) back
-      (hang_up_at_called a b
+  called_accords a b fronts back =
+      as_slave measure_of positive Called b.holdings a.holdings fronts.of_caller a.jobs (at_start b.jobs [] []) (hang_up a b) back
+      (hang_up_at_called a b fronts
       (behind_exchanges measure_of positive Called b.holdings Caller Called a.holdings b.holdings a.jobs (hang_up a b) back))
 
 -- ---- the law
@@ -138,21 +138,21 @@ both_positive : (a b : Party) → IsSound a → IsSound b → (side : Side) → 
 both_positive a b s t Caller = s.size
 both_positive a b s t Called = t.size
 
-pub accords_from_opening : (a b : Party) → IsSound a → IsSound b →
+pub accords_from_opening : (a b : Party) → HoldFronts a b → IsSound a → IsSound b →
     (me : Side) → let r = opening me (party me a b).holdings (at_start (party me a b).jobs [] []) in
     Accords (party me a b).holdings (party me a b).measure r.state (all_messages (party me a b).measure r.says) (conversation_view me a b)
-accords_from_opening a b s t Caller = (caller_accords (measures a b) (both_positive a b s t) a b (conversation_back a b s t)).accords
-accords_from_opening a b s t Called = (called_accords (measures a b) (both_positive a b s t) a b (conversation_back a b s t)).accords
+accords_from_opening a b fronts s t Caller = (caller_accords (measures a b) (both_positive a b s t) a b fronts (conversation_back a b fronts s t)).accords
+accords_from_opening a b fronts s t Called = (called_accords (measures a b) (both_positive a b s t) a b fronts (conversation_back a b fronts s t)).accords
 
-pub first_law : (a b : Party) → IsSound a → IsSound b →
+pub first_law : (a b : Party) → HoldFronts a b → IsSound a → IsSound b →
     (me : Side) (k : ℕ) → IsAt me a b k (progress_at me a b k)
-first_law a b s t Caller k =
+first_law a b fronts s t Caller k =
     let r = opening Caller a.holdings (at_start a.jobs [] []) in
     let x = stands a (conversation_view Caller a b) k r.state (all_messages a.measure r.says) [] []
-    (accords_from_opening a b s t Caller) in
+    (accords_from_opening a b fronts s t Caller) in
     record { said = x.says_so; lists = x.lists_so; kept = x.keeps_so; not_bad = x.good; over = x.over; parted = x.parted }
-first_law a b s t Called k =
+first_law a b fronts s t Called k =
     let r = opening Called b.holdings (at_start b.jobs [] []) in
     let x = stands b (conversation_view Called a b) k r.state (all_messages b.measure r.says) [] []
-    (accords_from_opening a b s t Called) in
+    (accords_from_opening a b fronts s t Called) in
     record { said = x.says_so; lists = x.lists_so; kept = x.keeps_so; not_bad = x.good; over = x.over; parted = x.parted }

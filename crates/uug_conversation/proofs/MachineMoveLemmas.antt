@@ -27,7 +27,7 @@ use Rattle.uug_conversation.specs.Turns.{Said, the_answer}
 use Rattle.uug_conversation.specs.declared.side.Side.{Side}
 use Rattle.uug_conversation.specs.declared.side.Side.TheVariants.{Caller, Called}
 use Rattle.uug_conversation.proofs.SharingLemmas.{moved-append}
-use Rattle.uug_conversation.specs.Resuming.{position_heard, rest_from}
+use Rattle.uug_conversation.specs.Resuming.{front_of, position_heard, rest_from}
 
 pub stays : (l : Lists) → OnlyMoves l l
 stays l = record { moves = []; are = refl }
@@ -43,10 +43,10 @@ moves_and_chooses move h l before = record { moves = move ∷ (choice h (moved_o
 
 -- ---- commands
 
-after_send : (v : Verdict) (source target : List ℕ) (mode : ℕ) (told : Option FileDigest) (l : Lists) → OnlyMoves l (on_send v source target mode told l).state.lists
-after_send Yes source target mode told l = stays l
-after_send Never source target mode told l = stays l
-after_send Later source target mode told l = stays l
+after_send : (v : Verdict) (front source target : List ℕ) (mode : ℕ) (told : Option FileDigest) (l : Lists) → OnlyMoves l (on_send v front source target mode told l).state.lists
+after_send Yes front source target mode told l = stays l
+after_send Never front source target mode told l = stays l
+after_send Later front source target mode told l = stays l
 
 after_request : (digests : Bool) (file : Option File) (delayed : Bool) (l : Lists) → OnlyMoves l (on_request digests file delayed l).state.lists
 after_request digests None false l = stays l
@@ -62,7 +62,8 @@ after_unread lenient letter l = grind (arith, stays)
 
 after_order : (h : Holdings) (letter : Option ℕ) (told : Option FileDigest) (r : Result Order BadText) (l : Lists)
     → OnlyMoves l (on_order h letter told r l).state.lists
-after_order h letter told (Ok (order.Send source target user temp mode)) l = after_send (send_verdict h (h.landing source target) told) (fetched_by source temp) (h.landing source target) mode told l
+after_order h letter told (Ok (order.Send source target user temp mode)) l = after_send (send_verdict h (h.landing source target) told)
+    (front_of h (fetched_by source temp) told) (fetched_by source temp) (h.landing source target) mode told l
 after_order h letter told (Ok (order.Request source target user)) l = after_request h.digests (to_give h source) (h.delayed source) l
 after_order h letter told (Ok order.HangUp) l = after_hang_up h (choice h l.ahead).next (choice h l.ahead).failing l
 after_order h letter told (Err fault) l = after_unread h.lenient letter l
@@ -175,7 +176,8 @@ after_file_of h (job.Request source target user ∷ jobs) mode told bytes l =
 
 after_file : (h : Holdings) (a : Awaits) (bytes : List ℕ) (l : Lists) → OnlyMoves l (on_file h a bytes l).state.lists
 after_file h (awaits.SentFile source target mode told) bytes l =
-    after_kept (file_verdict h target told bytes) (record { name = target; mode = mode; bytes = bytes }) l
+    after_kept (file_verdict h target told (front_of h source told ++ bytes))
+    (record { name = target; mode = mode; bytes = front_of h source told ++ bytes }) l
 after_file h (awaits.AskedFile mode told) bytes l = after_file_of h l.ahead mode told bytes l
 after_file h awaits.DroppedSentFile bytes l = stays l
 after_file h awaits.DroppedAskedFile bytes l = moves_and_chooses fail h l (the_answer answer.DoneNever ∷ [])

@@ -14,6 +14,7 @@ use Rattle.uug_conversation.specs.Holdings.{File, Holdings, to_give}
 use Rattle.uug_conversation.specs.Jobs.{Move}
 use Rattle.uug_conversation.specs.Offers.{send_commands, job_commands, offered, first_of, if_spoken, commands_of, until_hang_up, hang_up_answers, hanging_up, HangUpAnswer}
 use Rattle.uug_conversation.specs.Party.{Party}
+use Rattle.uug_conversation.specs.Resuming.{front_held}
 use Rattle.uug_conversation.specs.Turns.{Turn}
 use Rattle.uug_conversation.specs.declared.side.Side.{Side}
 use Rattle.uug_conversation.specs.declared.side.Side.TheVariants.{Caller, Called}
@@ -47,18 +48,18 @@ if_spoken-append Called Caller xs ys = refl
 if_spoken-append Called Called xs ys = refl
 
 send_exchange_commands : (me master slave : Side) (digests : Bool) (source target user : List ℕ) (temp : Option (List ℕ))
-    (file : Option File) (name : List ℕ) (verdict : Verdict) (immovable : Bool) (next : List Move) (rest : List Turn)
-    → commands_of me (send_exchange master slave digests source target user temp file name verdict immovable next rest)
+    (file : Option File) (name front : List ℕ) (verdict : Verdict) (immovable : Bool) (next : List Move) (rest : List Turn)
+    → commands_of me (send_exchange master slave digests source target user temp file name front verdict immovable next rest)
     ≡ if_spoken me master (send_commands source target user temp file) ++ commands_of me rest
-send_exchange_commands me master slave digests source target user temp None name verdict immovable next rest =
+send_exchange_commands me master slave digests source target user temp None name front verdict immovable next rest =
     rw (if_spoken-nil me master) refl
-send_exchange_commands me master slave digests source target user temp (Some file) name Never immovable next rest =
+send_exchange_commands me master slave digests source target user temp (Some file) name front Never immovable next rest =
     rw (if_spoken-nil me slave) refl
-send_exchange_commands me master slave digests source target user temp (Some file) name Later immovable next rest =
+send_exchange_commands me master slave digests source target user temp (Some file) name front Later immovable next rest =
     rw (if_spoken-nil me slave) refl
-send_exchange_commands me master slave digests source target user temp (Some file) name Yes false next rest =
+send_exchange_commands me master slave digests source target user temp (Some file) name front Yes false next rest =
     rw (if_spoken-nil me slave, if_spoken-nil me master) refl
-send_exchange_commands me master slave digests source target user temp (Some file) name Yes true next rest =
+send_exchange_commands me master slave digests source target user temp (Some file) name front Yes true next rest =
     rw (if_spoken-nil me slave, if_spoken-nil me master) refl
 
 request_exchange_commands : (me master slave : Side) (digests : Bool) (source target user : List ℕ) (file : Option File) (delayed : Bool) (name : List ℕ) (immovable : Bool)
@@ -78,7 +79,8 @@ exchange_commands : (me master slave : Side) (own others : Holdings) (j : Job) (
     → commands_of me (exchange master slave own others j next rest) ≡ if_spoken me master (job_commands own j) ++ commands_of me rest
 exchange_commands me master slave own others (job.Send source target user temp) next rest =
     send_exchange_commands me master slave own.digests source target user temp
-    (to_give own (fetched_by source temp)) (others.landing source target) (others.verdict (others.landing source target)) (others.immovable (others.landing source target)) next rest
+    (to_give own (fetched_by source temp)) (others.landing source target)
+    (front_held others own.digests (fetched_by source temp) (to_give own (fetched_by source temp))) (others.verdict (others.landing source target)) (others.immovable (others.landing source target)) next rest
 exchange_commands me master slave own others (job.Request source target user) next rest =
     request_exchange_commands me master slave others.digests source target user (to_give others source) (others.delayed source) (own.landing source target) (own.immovable (own.landing source target)) next rest
 
@@ -118,13 +120,13 @@ called_commands a b =
 -- ---- answers to H
 
 send_exchange_answers : (master slave : Side) (digests : Bool) (source target user : List ℕ) (temp : Option (List ℕ))
-    (file : Option File) (name : List ℕ) (verdict : Verdict) (immovable : Bool) (next : List Move) (rest : List Turn)
-    → hang_up_answers (send_exchange master slave digests source target user temp file name verdict immovable next rest) ≡ hang_up_answers rest
-send_exchange_answers master slave digests source target user temp None name verdict immovable next rest = refl
-send_exchange_answers master slave digests source target user temp (Some file) name Never immovable next rest = refl
-send_exchange_answers master slave digests source target user temp (Some file) name Later immovable next rest = refl
-send_exchange_answers master slave digests source target user temp (Some file) name Yes false next rest = refl
-send_exchange_answers master slave digests source target user temp (Some file) name Yes true next rest = refl
+    (file : Option File) (name front : List ℕ) (verdict : Verdict) (immovable : Bool) (next : List Move) (rest : List Turn)
+    → hang_up_answers (send_exchange master slave digests source target user temp file name front verdict immovable next rest) ≡ hang_up_answers rest
+send_exchange_answers master slave digests source target user temp None name front verdict immovable next rest = refl
+send_exchange_answers master slave digests source target user temp (Some file) name front Never immovable next rest = refl
+send_exchange_answers master slave digests source target user temp (Some file) name front Later immovable next rest = refl
+send_exchange_answers master slave digests source target user temp (Some file) name front Yes false next rest = refl
+send_exchange_answers master slave digests source target user temp (Some file) name front Yes true next rest = refl
 
 request_exchange_answers : (master slave : Side) (digests : Bool) (source target user : List ℕ) (file : Option File) (delayed : Bool) (name : List ℕ) (immovable : Bool)
     (next : List Move) (rest : List Turn)
@@ -139,7 +141,8 @@ exchanges_answers : (master slave : Side) (own others : Holdings) (jobs : List J
 exchanges_answers master slave own others [] rest = refl
 exchanges_answers master slave own others (job.Send source target user temp ∷ jobs) rest =
     send_exchange_answers master slave own.digests source target user temp
-    (to_give own (fetched_by source temp)) (others.landing source target) (others.verdict (others.landing source target)) (others.immovable (others.landing source target)) (choice own jobs).failing
+    (to_give own (fetched_by source temp)) (others.landing source target)
+    (front_held others own.digests (fetched_by source temp) (to_give own (fetched_by source temp))) (others.verdict (others.landing source target)) (others.immovable (others.landing source target)) (choice own jobs).failing
     (exchanges master slave own others jobs rest)
     ∙ exchanges_answers master slave own others jobs rest
 exchanges_answers master slave own others (job.Request source target user ∷ jobs) rest =

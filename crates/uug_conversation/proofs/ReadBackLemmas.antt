@@ -1,5 +1,5 @@
 -- Every text of a conversation of sound parties is a command text, and is read back as itself.
-use Rattle.std.proofs.Common.{◌≡◌, ℕ, ◌<◌, ◌≤◌, ◌^◌, Bool, true, false, List, [], ◌∷◌, length, Option, Some, None, refl, arith}
+use Rattle.std.proofs.Common.{◌≡◌, ℕ, ◌<◌, ◌≤◌, ◌^◌, Bool, true, false, List, [], ◌∷◌, length, drop, Option, Some, None, refl, arith}
 use Rattle.std.proofs.lemmas.List.Elements.{All-head, All-tail}
 use Rattle.std.specs.List.{All}
 use Rattle.uug_digest.specs.Digests.{IsSend, give_telling_text, order_telling_text}
@@ -23,13 +23,15 @@ use Rattle.uug_conversation.specs.Conversation.{exchanges, last_turns, after_han
 use Rattle.uug_conversation.specs.Exchange.{send_exchange, request_exchange, exchange}
 use Rattle.uug_conversation.specs.Holdings.{File, Holdings, AreModes, to_give}
 use Rattle.uug_conversation.specs.Jobs.{Move}
-use Rattle.uug_conversation.specs.Party.{Party, HasNames, IsSound}
+use Rattle.uug_conversation.specs.Party.{HoldFronts, HoldsFronts, Party, HasNames, IsSound}
 use Rattle.uug_conversation.specs.ReadBack.{IsReadBack, EachTurn}
+use Rattle.uug_conversation.specs.Resuming.{front_held}
 use Rattle.uug_conversation.specs.Told.{told_of}
 use Rattle.uug_conversation.specs.Turns.{the_order, the_answer, the_consent, the_giving, Turn}
 use Rattle.uug_conversation.specs.declared.side.Side.{Side}
 use Rattle.uug_conversation.specs.declared.side.Side.TheVariants.{Caller, Called}
 use Rattle.uug_conversation.proofs.LimitLemmas.{given_file}
+use Rattle.uug_conversation.proofs.ResumingLemmas.{GoesBehind, front_short, goes_behind, rest_short}
 use Rattle.uug_talk.proofs.OrderLemmas.{order_of-spelled}
 use Rattle.uug_talk.proofs.AnswerLemmas.{answer_of-spelled}
 use Rattle.uug_talk.proofs.WriteLemmas.{IsCommandText-order, IsCommandText-answer, ReadsOrder-written, ReadsAnswer-written}
@@ -95,33 +97,39 @@ giving_back mode (Some told) m sized = (
   give_tells mode told sized,
 )
 
+rest_fits : {digests : Bool} (file : File) (front : List ℕ) → GoesBehind digests front file → length (drop (length front) file.bytes) ≤ FILE_MAX
+rest_fits file front well = omega (arith, rest_short front file.bytes well.is_front, well.small)
+
 -- ---- exchanges
 
 send_back : (master slave : Side) (digests : Bool) (source target user : List ℕ) (temp : Option (List ℕ)) (own : Holdings)
     (found : Option File) → to_give own (fetched_by source temp) ≡ found → AreModes own →
-    AreNames source target user × IsCopy temp → (name : List ℕ) (verdict : Verdict) (immovable : Bool) (next : List Move) (rest : List Turn) →
+    AreNames source target user × IsCopy temp → (name front : List ℕ) →
+    ((file : File) → found ≡ Some file → GoesBehind digests front file) → (verdict : Verdict) (immovable : Bool) (next : List Move) (rest : List Turn) →
     EachTurn (λ t. IsReadBack t.said) rest →
-    EachTurn (λ t. IsReadBack t.said) (send_exchange master slave digests source target user temp found name verdict immovable next rest)
-send_back master slave digests source target user temp own None e m n name verdict immovable next rest r = r
-send_back master slave digests source target user temp own (Some file) e m n name Never immovable next rest r = (
+    EachTurn (λ t. IsReadBack t.said) (send_exchange master slave digests source target user temp found name front verdict immovable next rest)
+send_back master slave digests source target user temp own None e m n name front well verdict immovable next rest r = r
+send_back master slave digests source target user temp own (Some file) e m n name front well Never immovable next rest r = (
   telling_back (order.Send source target user temp file.mode) (told_of digests (Some file)) n
       (given_mode own (fetched_by source temp) file m e) tt (told_is_sized digests file (given_fits own (fetched_by source temp) file e)),
   (answer_back answer.SendNever tt, r),
 )
-send_back master slave digests source target user temp own (Some file) e m n name Later immovable next rest r = (
+send_back master slave digests source target user temp own (Some file) e m n name front well Later immovable next rest r = (
   telling_back (order.Send source target user temp file.mode) (told_of digests (Some file)) n
       (given_mode own (fetched_by source temp) file m e) tt (told_is_sized digests file (given_fits own (fetched_by source temp) file e)),
   (answer_back answer.SendLater tt, r),
 )
-send_back master slave digests source target user temp own (Some file) e m n name Yes false next rest r = (
+send_back master slave digests source target user temp own (Some file) e m n name front well Yes false next rest r = (
   telling_back (order.Send source target user temp file.mode) (told_of digests (Some file)) n
       (given_mode own (fetched_by source temp) file m e) tt (told_is_sized digests file (given_fits own (fetched_by source temp) file e)),
-  (consent_back 0 (omega arith), (given_fits own (fetched_by source temp) file e, (answer_back answer.DoneYes tt, r))),
+  (consent_back (length front) (omega (arith, front_short front file.bytes (well file refl).is_front, (well file refl).small)),
+      (rest_fits file front (well file refl), (answer_back answer.DoneYes tt, r))),
 )
-send_back master slave digests source target user temp own (Some file) e m n name Yes true next rest r = (
+send_back master slave digests source target user temp own (Some file) e m n name front well Yes true next rest r = (
   telling_back (order.Send source target user temp file.mode) (told_of digests (Some file)) n
       (given_mode own (fetched_by source temp) file m e) tt (told_is_sized digests file (given_fits own (fetched_by source temp) file e)),
-  (consent_back 0 (omega arith), (given_fits own (fetched_by source temp) file e, (answer_back answer.DoneNever tt, r))),
+  (consent_back (length front) (omega (arith, front_short front file.bytes (well file refl).is_front, (well file refl).small)),
+      (rest_fits file front (well file refl), (answer_back answer.DoneNever tt, r))),
 )
 
 request_back : (master slave : Side) (digests : Bool) (source target user : List ℕ) (others : Holdings)
@@ -150,38 +158,39 @@ request_back master slave digests source target user others (Some file) e m n de
   ),
 )
 
-exchange_back : (master slave : Side) (own others : Holdings) → AreModes own → AreModes others →
+exchange_back : (master slave : Side) (own others : Holdings) → HoldsFronts own others → AreModes own → AreModes others →
     (j : Job) → HasNames j → (next : List Move) (rest : List Turn) → EachTurn (λ t. IsReadBack t.said) rest →
     EachTurn (λ t. IsReadBack t.said) (exchange master slave own others j next rest)
-exchange_back master slave own others m k (job.Send source target user temp) n next rest r =
+exchange_back master slave own others fronts m k (job.Send source target user temp) n next rest r =
     send_back master slave own.digests source target user temp own (to_give own (fetched_by source temp)) refl m n
-    (others.landing source target) (others.verdict (others.landing source target)) (others.immovable (others.landing source target)) next rest r
-exchange_back master slave own others m k (job.Request source target user) n next rest r =
+    (others.landing source target) (front_held others own.digests (fetched_by source temp) (to_give own (fetched_by source temp)))
+    (goes_behind own others fronts (fetched_by source temp) (to_give own (fetched_by source temp)) refl) (others.verdict (others.landing source target)) (others.immovable (others.landing source target)) next rest r
+exchange_back master slave own others fronts m k (job.Request source target user) n next rest r =
     request_back master slave others.digests source target user others (to_give others source) refl k n (others.delayed source) (own.landing source target) (own.immovable (own.landing source target)) next rest r
 
-exchanges_back : (master slave : Side) (own others : Holdings) → AreModes own → AreModes others →
+exchanges_back : (master slave : Side) (own others : Holdings) → HoldsFronts own others → AreModes own → AreModes others →
     (jobs : List Job) → All HasNames jobs → (rest : List Turn) → EachTurn (λ t. IsReadBack t.said) rest →
     EachTurn (λ t. IsReadBack t.said) (exchanges master slave own others jobs rest)
-exchanges_back master slave own others m k [] n rest r = r
-exchanges_back master slave own others m k (j ∷ jobs) n rest r =
-    exchange_back master slave own others m k j (All-head HasNames j jobs n) (choice own jobs).failing
+exchanges_back master slave own others fronts m k [] n rest r = r
+exchanges_back master slave own others fronts m k (j ∷ jobs) n rest r =
+    exchange_back master slave own others fronts m k j (All-head HasNames j jobs n) (choice own jobs).failing
     (exchanges master slave own others jobs rest)
-    (exchanges_back master slave own others m k jobs (All-tail HasNames j jobs n) rest r)
+    (exchanges_back master slave own others fronts m k jobs (All-tail HasNames j jobs n) rest r)
 
 -- ---- the whole conversation
 
 last_back : EachTurn (λ t. IsReadBack t.said) last_turns
 last_back = (order_back order.HangUp tt tt, (answer_back answer.HangYes tt, (answer_back answer.HangYes tt, tt)))
 
-after_back : (next : Option Order) (a b : Party) → IsSound a → IsSound b →
+after_back : (next : Option Order) (a b : Party) → HoldFronts a b → IsSound a → IsSound b →
     EachTurn (λ t. IsReadBack t.said) (after_hang_up next a b)
-after_back None a b s t = (answer_back answer.HangYes tt, (answer_back answer.HangYes tt, tt))
-after_back (Some o) a b s t = (
+after_back None a b fronts s t = (answer_back answer.HangYes tt, (answer_back answer.HangYes tt, tt))
+after_back (Some o) a b fronts s t = (
   answer_back answer.HangNo tt,
-  exchanges_back Called Caller b.holdings a.holdings t.modes s.modes b.jobs t.names last_turns last_back,
+  exchanges_back Called Caller b.holdings a.holdings fronts.of_called t.modes s.modes b.jobs t.names last_turns last_back,
 )
 
-pub conversation_back : (a b : Party) → IsSound a → IsSound b → EachTurn (λ t. IsReadBack t.said) (conversation a b)
-conversation_back a b s t =
-    exchanges_back Caller Called a.holdings b.holdings s.modes t.modes a.jobs s.names (hang_up a b)
-    (order_back order.HangUp tt tt, after_back (choice b.holdings b.jobs).next a b s t)
+pub conversation_back : (a b : Party) → HoldFronts a b → IsSound a → IsSound b → EachTurn (λ t. IsReadBack t.said) (conversation a b)
+conversation_back a b fronts s t =
+    exchanges_back Caller Called a.holdings b.holdings fronts.of_caller s.modes t.modes a.jobs s.names (hang_up a b)
+    (order_back order.HangUp tt tt, after_back (choice b.holdings b.jobs).next a b fronts s t)

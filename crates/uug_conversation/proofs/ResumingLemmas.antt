@@ -1,26 +1,84 @@
--- A file that is asked for with `SY` alone is sent whole.
-use Rattle.std.proofs.Common.{◌≡◌, ℕ, Bool, true, false, nat_le, List, length, Option, Some, None, refl, ap, ◌∙◌, arith}
+-- A file of which a front is held: what is asked for, and what is sent, is the rest behind it.
+use Rattle.std.proofs.Common.{◌≡◌, ℕ, ◌≤◌, Bool, true, false, nat_le, List, [], ◌∷◌, ◌++◌, length, drop, Option, Some, None, refl, sym, ap, subst, ◌∙◌, arith}
 use Rattle.std.proofs.lemmas.Bool.Decides.{nat_tests}
-use Rattle.uug_talk.specs.Answer.{answer_text}
-use Rattle.uug_talk.specs.declared.answer.Answer.TheVariants.{SendYes}
-use Rattle.uug_conversation.specs.Holdings.{File}
-use Rattle.uug_conversation.specs.Resuming.{position_heard, rest_from, rest_where}
-
-pub none_asked : (digests : Bool) → position_heard digests (answer_text SendYes) ≡ 0
-none_asked true = refl
-none_asked false = refl
+use Rattle.std.proofs.lemmas.List.{length-append}
+use Rattle.uug_digest.specs.Positions.{consent_text, position_told}
+use Rattle.uug_talk.specs.declared.gather.TheConstants.{FILE_MAX}
+use Rattle.uug_conversation.specs.Holdings.{File, Holdings, to_give}
+use Rattle.uug_conversation.specs.Party.{HoldsFronts}
+use Rattle.uug_conversation.specs.Resuming.{IsFront, front_held, front_of, position_heard, rest_from, rest_where}
+use Rattle.uug_conversation.specs.Told.{heard, told_of}
+use Rattle.uug_conversation.proofs.LimitLemmas.{given_file}
 
 pub off_hears_none : (digests : Bool) (text : List ℕ) → digests ≡ false → position_heard digests text ≡ 0
 off_hears_none true text off = absurd cc
 off_hears_none false text off = refl
 
-none_beyond : (n : ℕ) → nat_le 0 n ≡ true
-none_beyond n = grind (arith, nat_tests)
+is_within : (n m : ℕ) → n ≤ m → nat_le n m ≡ true
+is_within n m h = grind (arith, nat_tests)
 
 pub whole_from_first : (found : Option File) → rest_from 0 found ≡ found
 whole_from_first None = refl
-whole_from_first (Some file) = ap (λ within. rest_where within 0 file) (none_beyond (length file.bytes))
+whole_from_first (Some file) = ap (λ within. rest_where within 0 file) (is_within 0 (length file.bytes) (omega arith))
 
-pub whole_sent : (digests : Bool) (found : Option File) (file : File) → found ≡ Some file →
-    rest_from (position_heard digests (answer_text SendYes)) found ≡ Some file
-whole_sent digests found file e = ap (λ position. rest_from position found) (none_asked digests) ∙ whole_from_first found ∙ e
+-- ---- a front, and the rest behind it
+
+behind_front : (front rest : List ℕ) → drop (length front) (front ++ rest) ≡ rest
+behind_front [] rest = refl
+behind_front (b ∷ front) rest = behind_front front rest
+
+pub whole_again : (front whole : List ℕ) → IsFront front whole → front ++ drop (length front) whole ≡ whole
+whole_again front whole is =
+    ap (λ z. front ++ drop (length front) z) is.1 ∙ ap (λ z. front ++ z) (behind_front front is.0) ∙ sym is.1
+
+pub front_short : (front whole : List ℕ) → IsFront front whole → length front ≤ length whole
+front_short front whole is = omega (arith, ap length is.1, length-append front is.0)
+
+pub rest_short : (front whole : List ℕ) → IsFront front whole → length (drop (length front) whole) ≤ length whole
+rest_short front whole is =
+    omega (arith, ap length (whole_again front whole is), length-append front (drop (length front) whole))
+
+-- ---- a file that may be given, and what its taker holds of it
+
+pub record GoesBehind (digests : Bool) (front : List ℕ) (file : File) : Type 0 where
+  pub small : length file.bytes ≤ FILE_MAX
+  pub is_front : IsFront front file.bytes
+  pub untold : digests ≡ false → front ≡ []
+
+none_heard_of_none : (digests : Bool) → heard digests None ≡ None
+none_heard_of_none true = refl
+none_heard_of_none false = refl
+
+untold_of : (found : Option File) → told_of false found ≡ None
+untold_of None = refl
+untold_of (Some file) = refl
+
+-- of a giver that tells no digests nothing is held
+none_held : (taker : Holdings) (source : List ℕ) (found : Option File) → front_held taker false source found ≡ []
+none_held taker source found =
+    ap (λ told. front_of taker source (heard taker.digests told)) (untold_of found)
+    ∙ ap (λ told. front_of taker source told) (none_heard_of_none taker.digests)
+
+pub goes_behind : (giver taker : Holdings) → HoldsFronts giver taker → (source : List ℕ) (found : Option File) → to_give giver source ≡ found →
+    (file : File) → found ≡ Some file → GoesBehind giver.digests (front_held taker giver.digests source found) file
+goes_behind giver taker fronts source found given file e = record {
+  small = ((given_file (giver.file source) file).0 (given ∙ e)).1;
+  is_front = subst (λ z. IsFront (front_held taker giver.digests source z) file.bytes) (sym e) (fronts source file (given ∙ e));
+  untold = λ off. ap (λ digests. front_held taker digests source found) off ∙ none_held taker source found;
+}
+
+heard_so : (digests : Bool) (front : List ℕ) → (digests ≡ false → front ≡ []) → position_told (consent_text (length front)) ≡ length front →
+    position_heard digests (consent_text (length front)) ≡ length front
+heard_so true front untold told = told
+heard_so false front untold told = sym (ap length (untold refl))
+
+-- where the position behind a front is asked for, the rest is sent
+pub rest_sent : (digests : Bool) (front : List ℕ) (file : File) → GoesBehind digests front file →
+    position_told (consent_text (length front)) ≡ length front → (found : Option File) → found ≡ Some file →
+    rest_from (position_heard digests (consent_text (length front))) found
+    ≡ Some (record { mode = file.mode; bytes = drop (length front) file.bytes })
+rest_sent digests front file well told found e =
+    ap (λ position. rest_from position found) (heard_so digests front well.untold told)
+    ∙ ap (λ z. rest_from (length front) z) e
+    ∙ ap (λ within. rest_where within (length front) file)
+    (is_within (length front) (length file.bytes) (front_short front file.bytes well.is_front))

@@ -36,12 +36,13 @@ use Rattle.uug_conversation.specs.Messages.{Message, messages, measures, turn_me
 use Rattle.uug_conversation.specs.Party.{HasNames, Party}
 use Rattle.uug_conversation.specs.ReadBack.{EachTurn}
 use Rattle.uug_conversation.specs.Told.{giving_said, order_said, told_of}
+use Rattle.uug_conversation.specs.Resuming.{front_held}
 use Rattle.uug_conversation.specs.Turns.{Said, Turn, said_messages, the_answer, the_consent, the_file, the_giving, the_order, the_refusal}
 use Rattle.uug_conversation.specs.declared.side.Side.{Side}
 use Rattle.uug_conversation.specs.declared.side.Side.TheVariants.{Caller, Called}
 use Rattle.uug_conversation.specs.View.{conversation_view, own_messages, view}
 use Rattle.uug_conversation.proofs.LimitLemmas.{given_file}
-use Rattle.uug_digest.specs.Positions.{consent_text}
+use Rattle.uug_digest.specs.Positions.{consent_text, resuming_words}
 
 abbrev IsByte : ℕ → Type 0
 IsByte b = b < 256
@@ -221,6 +222,17 @@ giving_said_bytes mode None h = answer_bytes (answer.GiveYes mode)
 giving_said_bytes mode (Some told) h =
     subst AllBytes (give_joined mode told) (behind_text (answer_text (answer.GiveYes mode)) told (answer_bytes (answer.GiveYes mode)) h)
 
+consent_bytes : (position : ℕ) → AllBytes (consent_text position)
+consent_bytes zero = answer_bytes answer.SendYes
+consent_bytes (suc n) = joined_bytes (resuming_words (suc n)) (
+  letters 83 89 (omega arith) (omega arith),
+  (
+    All-append IsByte (codes "0x") (encode_lower (to_be_bytes w32 (suc n))) (letters 48 120 (omega arith) (omega arith))
+        (encoded_bytes (to_be_bytes w32 (suc n)) (size_bytes (suc n))),
+    tt,
+  ),
+)
+
 -- ---- what is said
 
 abbrev SaysBytes : Said → Type 0
@@ -249,21 +261,27 @@ given_bytes h name file holds is = all_bytes file.bytes (holds name file ((given
 
 send_bytes : (master slave : Side) (digests : Bool) (source target user : List ℕ) (temp : Option (List ℕ)) (own : Holdings)
     (found : Option File) → to_give own (fetched_by source temp) ≡ found → HoldsBytes own →
-    AreNames source target user × IsCopy temp → (name : List ℕ) (verdict : Verdict) (immovable : Bool) (next : List Move) (rest : List Turn) →
+    AreNames source target user × IsCopy temp → (name front : List ℕ) (verdict : Verdict) (immovable : Bool) (next : List Move) (rest : List Turn) →
     TurnsAreBytes rest →
-    TurnsAreBytes (send_exchange master slave digests source target user temp found name verdict immovable next rest)
-send_bytes master slave digests source target user temp own None is holds names name verdict immovable next rest all = all
-send_bytes master slave digests source target user temp own (Some file) is holds names name Never immovable next rest all =
+    TurnsAreBytes (send_exchange master slave digests source target user temp found name front verdict immovable next rest)
+send_bytes master slave digests source target user temp own None is holds names name front verdict immovable next rest all = all
+send_bytes master slave digests source target user temp own (Some file) is holds names name front Never immovable next rest all =
     (order_said_bytes (order.Send source target user temp file.mode) (told_of digests (Some file)) names (told_has_bytes digests file), (answer_bytes answer.SendNever, all))
-send_bytes master slave digests source target user temp own (Some file) is holds names name Later immovable next rest all =
+send_bytes master slave digests source target user temp own (Some file) is holds names name front Later immovable next rest all =
     (order_said_bytes (order.Send source target user temp file.mode) (told_of digests (Some file)) names (told_has_bytes digests file), (answer_bytes answer.SendLater, all))
-send_bytes master slave digests source target user temp own (Some file) is holds names name Yes false next rest all = (
+send_bytes master slave digests source target user temp own (Some file) is holds names name front Yes false next rest all = (
   order_said_bytes (order.Send source target user temp file.mode) (told_of digests (Some file)) names (told_has_bytes digests file),
-  (answer_bytes answer.SendYes, (given_bytes own (fetched_by source temp) file holds is, (answer_bytes answer.DoneYes, all))),
+  (
+    consent_bytes (length front),
+    (All-drop IsByte (length front) file.bytes (given_bytes own (fetched_by source temp) file holds is), (answer_bytes answer.DoneYes, all)),
+  ),
 )
-send_bytes master slave digests source target user temp own (Some file) is holds names name Yes true next rest all = (
+send_bytes master slave digests source target user temp own (Some file) is holds names name front Yes true next rest all = (
   order_said_bytes (order.Send source target user temp file.mode) (told_of digests (Some file)) names (told_has_bytes digests file),
-  (answer_bytes answer.SendYes, (given_bytes own (fetched_by source temp) file holds is, (answer_bytes answer.DoneNever, all))),
+  (
+    consent_bytes (length front),
+    (All-drop IsByte (length front) file.bytes (given_bytes own (fetched_by source temp) file holds is), (answer_bytes answer.DoneNever, all)),
+  ),
 )
 
 request_bytes : (master slave : Side) (digests : Bool) (source target user : List ℕ) (others : Holdings) (found : Option File) →
@@ -287,7 +305,8 @@ exchange_bytes : (master slave : Side) (own others : Holdings) → HoldsBytes ow
     (next : List Move) (rest : List Turn) → TurnsAreBytes rest → TurnsAreBytes (exchange master slave own others j next rest)
 exchange_bytes master slave own others holds theirs (job.Send source target user temp) names next rest all =
     send_bytes master slave own.digests source target user temp own (to_give own (fetched_by source temp)) refl holds names
-    (others.landing source target) (others.verdict (others.landing source target)) (others.immovable (others.landing source target)) next rest all
+    (others.landing source target)
+    (front_held others own.digests (fetched_by source temp) (to_give own (fetched_by source temp))) (others.verdict (others.landing source target)) (others.immovable (others.landing source target)) next rest all
 exchange_bytes master slave own others holds theirs (job.Request source target user) names next rest all =
     request_bytes master slave others.digests source target user others (to_give others source) refl theirs names (others.delayed source) (own.landing source target) (own.immovable (own.landing source target)) next rest
     all

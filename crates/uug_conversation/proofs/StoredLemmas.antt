@@ -14,6 +14,7 @@ use Rattle.uug_conversation.specs.Jobs.{Lists, at_start, Move, pass, strike, fai
 use Rattle.uug_conversation.specs.Messages.{measures}
 use Rattle.uug_conversation.specs.OwnEntries.{IsOfSendJob, OwnEntries, none, not_struck, sent, asked_for, giver_asked, receiver_sent}
 use Rattle.uug_conversation.specs.Party.{Party}
+use Rattle.uug_conversation.specs.Resuming.{front_held}
 use Rattle.uug_conversation.specs.Turns.{other, Turn}
 use Rattle.uug_conversation.specs.declared.side.Side.{Side}
 use Rattle.uug_conversation.specs.declared.side.Side.TheVariants.{Caller, Called}
@@ -95,19 +96,19 @@ OwnBehind e ahead others_ahead front moves others_moves kept others_kept =
 -- ---- one job
 
 send_own : (measures : Side → Measure) (master : Side) (e : Ends) (jobs others_ahead : List Job)
-    (source target user : List ℕ) (temp : Option (List ℕ)) (offered : Option File) (verdict : Verdict) (immovable : Bool)
+    (source target user : List ℕ) (temp : Option (List ℕ)) (offered : Option File) (front : List ℕ) (verdict : Verdict) (immovable : Bool)
     (behind : Choice) (rest : List Turn) →
     to_give e.own (fetched_by source temp) ≡ offered → Contains e.own_jobs (job.Send source target user temp) →
     HoldsOf measures master (OwnBehind e jobs others_ahead behind.failing) rest →
     HoldsOf measures master
     (OwnBehind e (job.Send source target user temp ∷ jobs) others_ahead (send_choice source target user temp offered behind).failing)
-    (send_exchange master (other master) e.own.digests source target user temp offered (e.others.landing source target) verdict immovable behind.failing rest)
-send_own measures master e jobs ahead source target user temp None verdict immovable behind rest given inside more = more
-send_own measures master e jobs ahead source target user temp (Some file) Never immovable behind rest given inside more =
+    (send_exchange master (other master) e.own.digests source target user temp offered (e.others.landing source target) front verdict immovable behind.failing rest)
+send_own measures master e jobs ahead source target user temp None front verdict immovable behind rest given inside more = more
+send_own measures master e jobs ahead source target user temp (Some file) front Never immovable behind rest given inside more =
     master_says (none, none) (slave_says (none, none) more)
-send_own measures master e jobs ahead source target user temp (Some file) Later immovable behind rest given inside more =
+send_own measures master e jobs ahead source target user temp (Some file) front Later immovable behind rest given inside more =
     master_says (none, none) (slave_says (none, none) more)
-send_own measures master e jobs ahead source target user temp (Some file) Yes false behind rest given inside more =
+send_own measures master e jobs ahead source target user temp (Some file) front Yes false behind rest given inside more =
     let of_job : IsOfSendJob e.own e.others e.own_jobs (kept_as (e.others.landing source target) file) = record {
       source = source;
       target = target;
@@ -120,7 +121,7 @@ send_own measures master e jobs ahead source target user temp (Some file) Yes fa
     } in
     master_says (none, none) (slave_says (none, none) (master_says (none, none) (slave_says (not_struck of_job none, none)
     (follows (λ m o k p h. (sent given h.0, receiver_sent h.1)) more))))
-send_own measures master e jobs ahead source target user temp (Some file) Yes true behind rest given inside more =
+send_own measures master e jobs ahead source target user temp (Some file) front Yes true behind rest given inside more =
     master_says (none, none) (slave_says (none, none) (master_says (none, none) (slave_says (none, none) more)))
 
 -- no entry, and nothing struck
@@ -167,7 +168,7 @@ exchanges_own : (measures : Side → Measure) (master : Side) (e : Ends) (jobs o
 exchanges_own measures master e [] ahead rest inside more = more
 exchanges_own measures master e (job.Send source target user temp ∷ jobs) ahead rest inside more =
     send_own measures master e jobs ahead source target user temp (to_give e.own (fetched_by source temp))
-    (e.others.verdict (e.others.landing source target)) (e.others.immovable (e.others.landing source target)) (choice e.own jobs)
+    (front_held e.others e.own.digests (fetched_by source temp) (to_give e.own (fetched_by source temp))) (e.others.verdict (e.others.landing source target)) (e.others.immovable (e.others.landing source target)) (choice e.own jobs)
     (exchanges master (other master) e.own e.others jobs rest) refl
     (inside (job.Send source target user temp) (Contains-head (job.Send source target user temp) jobs))
     (exchanges_own measures master e jobs ahead rest

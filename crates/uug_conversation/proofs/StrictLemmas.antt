@@ -1,5 +1,5 @@
 -- An end that is not lenient: what it can't read fits no turn, and it never awaits the rest of a file.
-use Rattle.std.proofs.Common.{◌≡◌, ℕ, nat_lt, Bool, true, false, ◌&&◌, List, [], ◌∷◌, length, Option, Some, None, Result, Ok, Err, refl, ap, ◌∙◌}
+use Rattle.std.proofs.Common.{◌≡◌, ℕ, nat_lt, Bool, true, false, ◌&&◌, List, [], ◌∷◌, ◌++◌, length, Option, Some, None, Result, Ok, Err, refl, ap, ◌∙◌}
 use Rattle.uug_digest.specs.Digests.{told_by_answer, told_by_order}
 use Rattle.uug_digest.specs.declared.file_digest.FileDigest.{FileDigest}
 use Rattle.uug_talk.specs.declared.answer.Answer.{Answer}
@@ -26,7 +26,7 @@ use Rattle.uug_conversation.specs.Jobs.{Lists, pass, strike, fail, moved, moved_
 use Rattle.uug_conversation.specs.Machine.{State, Reply, awaits_answer_to, order_or_hang_up, goes_on, on_send, send_verdict, on_request, on_hang_up, on_unread, on_order, on_given_file_done, on_last_hang_up, sends_file, on_send_yes, move_refused, on_send_answer, on_sent_file_done, on_sent_job_done, on_request_answer, on_hang_up_answer, on_nothing_more, on_text, file_verdict, on_sent_file, on_asked_file, on_file_of, on_file, on_whole, on_gathered, is_dropped, on_past_limit, on_part, gathered_with, opening, out_of_turn, step}
 use Rattle.uug_conversation.specs.Told.{heard, is_too_large, unless_too_large}
 use Rattle.uug_conversation.specs.Turns.{Said, the_answer}
-use Rattle.uug_conversation.specs.Resuming.{position_heard, rest_from}
+use Rattle.uug_conversation.specs.Resuming.{front_of, position_heard, rest_from}
 
 -- ---- what it can't read, and SN8
 
@@ -88,10 +88,10 @@ order_drops_none order.HangUp = refl
 going_on : (h : Holdings) (l : Lists) (before : List Said) → DropsNone (goes_on h l before)
 going_on h l before = order_drops_none (order_or_hang_up (choice h l.ahead).next)
 
-send : (verdict : Verdict) (source target : List ℕ) (mode : ℕ) (told : Option FileDigest) (l : Lists) → DropsNone (on_send verdict source target mode told l)
-send Yes source target mode told l = refl
-send Never source target mode told l = refl
-send Later source target mode told l = refl
+send : (verdict : Verdict) (front source target : List ℕ) (mode : ℕ) (told : Option FileDigest) (l : Lists) → DropsNone (on_send verdict front source target mode told l)
+send Yes front source target mode told l = refl
+send Never front source target mode told l = refl
+send Later front source target mode told l = refl
 
 request : (digests : Bool) (found : Option File) (delayed : Bool) (l : Lists) → DropsNone (on_request digests found delayed l)
 request digests None false l = refl
@@ -108,7 +108,8 @@ unread _ _ l = refl
 
 an_order : (h : Holdings) (letter : Option ℕ) (told : Option FileDigest) (read : Result Order BadText) (l : Lists)
     → DropsNone (on_order h letter told read l)
-an_order h letter told (Ok (order.Send source target user temp mode)) l = send (send_verdict h (h.landing source target) told) (fetched_by source temp) (h.landing source target) mode told l
+an_order h letter told (Ok (order.Send source target user temp mode)) l = send (send_verdict h (h.landing source target) told)
+    (front_of h (fetched_by source temp) told) (fetched_by source temp) (h.landing source target) mode told l
 an_order h letter told (Ok (order.Request source target user)) l = request h.digests (to_give h source) (h.delayed source) l
 an_order h letter told (Ok order.HangUp) l = hang_up h (choice h l.ahead).next (moved (choice h l.ahead).failing l)
 an_order h letter told (Err fault) l = unread h.lenient letter l
@@ -192,7 +193,8 @@ file_of h _ mode told bytes l = refl
 
 a_file : (h : Holdings) (awaited : Awaits) (bytes : List ℕ) (l : Lists) → DropsNone (on_file h awaited bytes l)
 a_file h (awaits.SentFile source target mode told) bytes l =
-    sent_file (file_verdict h target told bytes) (record { name = target; mode = mode; bytes = bytes }) l
+    sent_file (file_verdict h target told (front_of h source told ++ bytes))
+    (record { name = target; mode = mode; bytes = front_of h source told ++ bytes }) l
 a_file h (awaits.AskedFile mode told) bytes l = file_of h l.ahead mode told bytes l
 a_file h awaits.DroppedSentFile bytes l = refl
 a_file h awaits.DroppedAskedFile bytes l = going_on h (moved_once fail l) (the_answer answer.DoneNever ∷ [])

@@ -1,5 +1,5 @@
 -- Whatever comes, what an end tells is told of the files that its spool gives.
-use Rattle.std.proofs.Common.{ℕ, nat_lt, Bool, true, false, ◌&&◌, List, ◌∷◌, length, Option, Some, None, Result, Ok, Err, refl}
+use Rattle.std.proofs.Common.{ℕ, nat_lt, Bool, true, false, ◌&&◌, List, ◌∷◌, ◌++◌, length, Option, Some, None, Result, Ok, Err, refl}
 use Rattle.uug_digest.specs.Digests.{told_by_answer, told_by_order}
 use Rattle.uug_digest.specs.declared.file_digest.FileDigest.{FileDigest}
 use Rattle.uug_talk.specs.declared.answer.Answer.{Answer}
@@ -25,16 +25,16 @@ use Rattle.uug_conversation.specs.Holdings.{File, Kept, Holdings, to_give}
 use Rattle.uug_conversation.specs.Jobs.{Lists, moved}
 use Rattle.uug_conversation.specs.Machine.{State, Reply, comes_early, file_verdict, on_send, send_verdict, on_request, on_hang_up, on_unread, on_order, on_given_file_done, on_last_hang_up, sends_file, on_send_yes, on_send_answer, on_sent_file_done, on_sent_job_done, on_request_answer, on_hang_up_answer, on_nothing_more, on_text, on_sent_file, on_asked_file, on_file_of, on_file, on_whole, on_gathered, on_past_limit, on_part, gathered_with, opening, reply_to, step, unless_early}
 use Rattle.uug_conversation.specs.Told.{heard}
-use Rattle.uug_conversation.specs.Resuming.{position_heard, rest_from}
+use Rattle.uug_conversation.specs.Resuming.{front_of, position_heard, rest_from}
 
 module _ (h : Holdings) where
   abbrev IsTrue : Reply → Type 0
   IsTrue r = TellsTruly h r.says
 
-  send : (verdict : Verdict) (source target : List ℕ) (mode : ℕ) (told : Option FileDigest) (l : Lists) → IsTrue (on_send verdict source target mode told l)
-  send Yes source target mode told l = tt
-  send Never source target mode told l = tt
-  send Later source target mode told l = tt
+  send : (verdict : Verdict) (front source target : List ℕ) (mode : ℕ) (told : Option FileDigest) (l : Lists) → IsTrue (on_send verdict front source target mode told l)
+  send Yes front source target mode told l = tt
+  send Never front source target mode told l = tt
+  send Later front source target mode told l = tt
 
   request : (found : Option File) (delayed : Bool) (l : Lists) → IsTrue (on_request h.digests found delayed l)
   request None false l = tt
@@ -51,7 +51,8 @@ module _ (h : Holdings) where
 
   an_order : (letter : Option ℕ) (told : Option FileDigest) (read : Result Order BadText) (l : Lists) →
       IsTrue (on_order h letter told read l)
-  an_order letter told (Ok (order.Send source target user temp mode)) l = send (send_verdict h (h.landing source target) told) (fetched_by source temp) (h.landing source target) mode told l
+  an_order letter told (Ok (order.Send source target user temp mode)) l = send (send_verdict h (h.landing source target) told)
+    (front_of h (fetched_by source temp) told) (fetched_by source temp) (h.landing source target) mode told l
   an_order letter told (Ok (order.Request source target user)) l = request (to_give h source) (h.delayed source) l
   an_order letter told (Ok order.HangUp) l = hang_up (choice h l.ahead).next (moved (choice h l.ahead).failing l)
   an_order letter told (Err fault) l = unread h.lenient letter l
@@ -135,7 +136,8 @@ module _ (h : Holdings) where
 
   a_file : (awaited : Awaits) (bytes : List ℕ) (l : Lists) → IsTrue (on_file h awaited bytes l)
   a_file (awaits.SentFile source target mode told) bytes l =
-      sent_file (file_verdict h target told bytes) (record { name = target; mode = mode; bytes = bytes }) l
+      sent_file (file_verdict h target told (front_of h source told ++ bytes))
+    (record { name = target; mode = mode; bytes = front_of h source told ++ bytes }) l
   a_file (awaits.AskedFile mode told) bytes l = file_of l.ahead mode told bytes l
   a_file awaits.DroppedSentFile bytes l = tt
   a_file awaits.DroppedAskedFile bytes l = (refl, tt)

@@ -11,6 +11,7 @@ use Rattle.uug_conversation.specs.declared.verdict.Verdict.TheVariants.{Yes, Nev
 use Rattle.uug_conversation.specs.Holdings.{Kept, Holdings, kept_file}
 use Rattle.uug_conversation.specs.Jobs.{Lists}
 use Rattle.uug_conversation.specs.Machine.{Reply, out_of_turn, file_verdict, on_sent_file, on_asked_file, on_file_of, on_file}
+use Rattle.uug_conversation.specs.Resuming.{front_of}
 use Rattle.uug_conversation.specs.Reactions.{FileAwaited, IsKept, awaited_verdict, file_of_first, file_awaited, on_kept, on_none_kept, kept_on, reply_of}
 
 -- a reply that keeps these files
@@ -32,7 +33,7 @@ asked_is h mode told Later file l = refl
 -- what is done with the file that is awaited
 abbrev done_with : Holdings → Awaits → (bytes : List ℕ) → Lists → FileAwaited → Reply
 done_with h w bytes l file =
-    keeping (kept_on (awaited_verdict h file bytes) (kept_file file.name file.mode bytes)) (on_kept h w (awaited_verdict h file bytes) l)
+    keeping (kept_on (awaited_verdict h file bytes) (kept_file file.name file.mode (file.front ++ bytes))) (on_kept h w (awaited_verdict h file bytes) l)
 
 asked_of : (h : Holdings) (jobs : List Job) (mode : ℕ) (told : Option FileDigest) (bytes : List ℕ) (l : Lists) (file : FileAwaited) →
     file_of_first h jobs mode told ≡ Some file →
@@ -40,7 +41,7 @@ asked_of : (h : Holdings) (jobs : List Job) (mode : ℕ) (told : Option FileDige
 asked_of h [] mode told bytes l file e = absurd cc
 asked_of h (job.Send source target user temp ∷ jobs) mode told bytes l file e = absurd cc
 asked_of h (job.Request source target user ∷ jobs) mode told bytes l file e =
-    let made : FileAwaited = record { name = h.landing source target; mode = mode; told = told } in
+    let made : FileAwaited = record { front = []; name = h.landing source target; mode = mode; told = told } in
     let same : made ≡ file = cc in
     subst (λ f. on_asked_file h (file_verdict h (h.landing source target) told bytes) (kept_file (h.landing source target) mode bytes) l
     ≡ done_with h (awaits.AskedFile mode told) bytes l f)
@@ -49,11 +50,12 @@ asked_of h (job.Request source target user ∷ jobs) mode told bytes l file e =
 on_file_is : (h : Holdings) (w : Awaits) (bytes : List ℕ) (l : Lists) (file : FileAwaited) → file_awaited h w l.ahead ≡ Some file →
     on_file h w bytes l ≡ done_with h w bytes l file
 on_file_is h (awaits.SentFile source target mode told) bytes l file e =
-    let made : FileAwaited = record { name = target; mode = mode; told = told } in
+    let made : FileAwaited = record { front = front_of h source told; name = target; mode = mode; told = told } in
     let same : made ≡ file = cc in
-    subst (λ f. on_sent_file (file_verdict h target told bytes) (kept_file target mode bytes) l
+    let whole = front_of h source told ++ bytes in
+    subst (λ f. on_sent_file (file_verdict h target told whole) (kept_file target mode whole) l
     ≡ done_with h (awaits.SentFile source target mode told) bytes l f)
-    same (sent_is h source target mode told (file_verdict h target told bytes) (kept_file target mode bytes) l)
+    same (sent_is h source target mode told (file_verdict h target told whole) (kept_file target mode whole) l)
 on_file_is h (awaits.AskedFile mode told) bytes l file e = asked_of h l.ahead mode told bytes l file e
 on_file_is h _ bytes l file e = absurd cc
 
@@ -68,9 +70,9 @@ kept_by : (h : Holdings) (w : Awaits) (bytes : List ℕ) (old new : Lists) (foun
 kept_by h w bytes old new None verdict r before after e k o = absurd k
 kept_by h w bytes old new (Some file) verdict r before after e k o =
     let is = on_file_is h w bytes old file e
-    ∙ ap (λ z. keeping (kept_on z (kept_file file.name file.mode bytes)) (on_kept h w z old)) k.0 in
+    ∙ ap (λ z. keeping (kept_on z (kept_file file.name file.mode (file.front ++ bytes))) (on_kept h w z old)) k.0 in
     record {
-      reply = is ∙ ap (keeping (kept_on verdict (kept_file file.name file.mode bytes))) o
+      reply = is ∙ ap (keeping (kept_on verdict (kept_file file.name file.mode (file.front ++ bytes)))) o
           ∙ ap (λ z. reply_of h new r z) (sym (ap (λ z. z.keeps) is));
       kept = k.1 ∙ ap (λ z. before ++ z) (sym (ap (λ z. z.keeps) is));
     }

@@ -27,7 +27,7 @@ use Rattle.uug_conversation.specs.Told.{fits, heard, is_too_large, outcome, told
 use Rattle.uug_conversation.specs.Turns.{Said, the_order, the_answer, the_consent, the_giving, the_file, the_refusal}
 use Rattle.uug_conversation.specs.declared.side.Side.{Side}
 use Rattle.uug_conversation.specs.declared.side.Side.TheVariants.{Caller, Called}
-use Rattle.uug_conversation.specs.Resuming.{position_heard, rest_from}
+use Rattle.uug_conversation.specs.Resuming.{front_of, position_heard, rest_from}
 
 pub record State : Type 0 where
   pub lists : Lists
@@ -76,11 +76,11 @@ goes_on h l before = chooses h (choice h l.ahead) l before
 
 -- ---- a slave takes a command
 
--- S, by the name by which its file is fetched, that under which it is kept, and the verdict on that
-abbrev pub on_send : Verdict → (source target : List ℕ) → (mode : ℕ) → (told : Option FileDigest) → Lists → Reply
-on_send Yes source target mode told l = replies l (awaits.SentFile source target mode told) (the_consent 0 ∷ [])
-on_send Never source target mode told l = replies l awaits.Order (the_answer answer.SendNever ∷ [])
-on_send Later source target mode told l = replies l awaits.Order (the_answer answer.SendLater ∷ [])
+-- S, by the verdict on the name under which its file is kept, by the front that is held of it, and by the name by which it is fetched
+abbrev pub on_send : Verdict → (front source target : List ℕ) → (mode : ℕ) → (told : Option FileDigest) → Lists → Reply
+on_send Yes front source target mode told l = replies l (awaits.SentFile source target mode told) (the_consent (length front) ∷ [])
+on_send Never front source target mode told l = replies l awaits.Order (the_answer answer.SendNever ∷ [])
+on_send Later front source target mode told l = replies l awaits.Order (the_answer answer.SendLater ∷ [])
 
 -- a lenient end refuses a file that it is told to be too large
 abbrev pub send_verdict : Holdings → (target : List ℕ) → (told : Option FileDigest) → Verdict
@@ -109,7 +109,8 @@ on_unread _ _ l = out_of_turn l
 -- a command, by the letter in which it can be refused and what it tells of its file
 abbrev pub on_order : Holdings → (letter : Option ℕ) → (told : Option FileDigest) → Result Order BadText → Lists → Reply
 on_order h letter told (Ok (order.Send source target user temp mode)) l =
-    on_send (send_verdict h (h.landing source target) told) (fetched_by source temp) (h.landing source target) mode told l
+    on_send (send_verdict h (h.landing source target) told) (front_of h (fetched_by source temp) told) (fetched_by source temp)
+    (h.landing source target) mode told l
 on_order h letter told (Ok (order.Request source target user)) l = on_request h.digests (to_give h source) (h.delayed source) l
 on_order h letter told (Ok order.HangUp) l = on_choice h (choice h l.ahead) l
 on_order h letter told (Err fault) l = on_unread h.lenient letter l
@@ -204,7 +205,7 @@ keeps file reply = record reply { keeps = file ∷ [] }
 abbrev pub file_verdict : Holdings → (target : List ℕ) → (told : Option FileDigest) → (bytes : List ℕ) → Verdict
 file_verdict h target told bytes = outcome (fits told bytes) (h.immovable target)
 
--- the file that was sent to a slave
+-- the file that was sent to a slave, whole
 abbrev pub on_sent_file : Verdict → Kept → Lists → Reply
 on_sent_file Yes file l = keeps file (replies l awaits.Order (the_answer answer.DoneYes ∷ []))
 on_sent_file Never file l = replies l awaits.Order (the_answer answer.DoneNever ∷ [])
@@ -223,9 +224,11 @@ on_file_of h (job.Request source target user ∷ jobs) mode told bytes l =
     (record { name = h.landing source target; mode = mode; bytes = bytes }) l
 on_file_of h _ mode told bytes l = out_of_turn l
 
+-- of a file that was sent, the rest behind what was held of it
 abbrev pub on_file : Holdings → Awaits → List ℕ → Lists → Reply
 on_file h (awaits.SentFile source target mode told) bytes l =
-    on_sent_file (file_verdict h target told bytes) (record { name = target; mode = mode; bytes = bytes }) l
+    on_sent_file (file_verdict h target told (front_of h source told ++ bytes))
+    (record { name = target; mode = mode; bytes = front_of h source told ++ bytes }) l
 on_file h (awaits.AskedFile mode told) bytes l = on_file_of h l.ahead mode told bytes l
 on_file h awaits.DroppedSentFile bytes l = replies l awaits.Order (the_answer answer.DoneNever ∷ [])
 on_file h awaits.DroppedAskedFile bytes l = goes_on h (moved_once fail l) (the_answer answer.DoneNever ∷ [])

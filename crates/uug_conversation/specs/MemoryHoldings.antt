@@ -48,6 +48,7 @@ holdings_of m = record {
   verdict = verdict_on m.denied m.postponed;
   immovable = has_name m.immovable;
   landing = λ source target. target;
+  held = λ source told. [];
   lenient = m.lenient;
   digests = m.digests;
 }

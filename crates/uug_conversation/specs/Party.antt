@@ -1,8 +1,9 @@
 -- An end as it comes to a session (this project's profile).
-use Rattle.std.specs.Prelude.{◌<◌, List, All}
+use Rattle.std.specs.Prelude.{◌≡◌, ◌<◌, ℕ, List, All, Some}
 use Rattle.uug_conversation.specs.declared.job.Job.{Job}
 use Rattle.uug_conversation.specs.declared.job.Job.TheVariants as job
-use Rattle.uug_conversation.specs.Holdings.{Holdings, AreModes}
+use Rattle.uug_conversation.specs.Holdings.{File, Holdings, AreModes, to_give}
+use Rattle.uug_conversation.specs.Resuming.{IsFront, front_held}
 use Rattle.uug_talk.specs.Chunks.{Measure}
 use Rattle.uug_talk.specs.Order.{AreNames, IsCopy}
 
@@ -23,3 +24,13 @@ pub record IsSound (p : Party) : Type 0 where
   pub names : All HasNames p.jobs
   pub modes : AreModes p.holdings
   pub size : 0 < p.measure.size
+
+-- what the taker holds of each file of the giver is a front of it
+abbrev pub HoldsFronts : (giver taker : Holdings) → Type 0
+HoldsFronts giver taker = (source : List ℕ) (file : File) → to_give giver source ≡ Some file →
+    IsFront (front_held taker giver.digests source (Some file)) file.bytes
+
+-- what each of two ends holds of the other's files
+pub record HoldFronts (a b : Party) : Type 0 where
+  pub of_caller : HoldsFronts a.holdings b.holdings
+  pub of_called : HoldsFronts b.holdings a.holdings

@@ -62,7 +62,7 @@ on_choice c l = on_hang_up c.next (moved c.failing l)
 
 abbrev pub on_order : Holdings → Result Order BadText → Lists → Reply
 on_order h (Ok (order.Send source target user temp mode)) l =
-    on_send (h.verdict (h.landing source target)) (fetched_by source temp) (h.landing source target) mode None l
+    on_send (h.verdict (h.landing source target)) [] (fetched_by source temp) (h.landing source target) mode None l
 on_order h (Ok (order.Request source target user)) l = on_request (to_give h source) l
 on_order h (Ok order.HangUp) l = on_choice (choice h l.ahead) l
 on_order h (Err fault) l = out_of_turn l

@@ -21,6 +21,7 @@ use Rattle.uug_conversation.specs.Choice.{fetched_by}
 use Rattle.uug_conversation.specs.Holdings.{File, Kept, Holdings, to_give, kept_file}
 use Rattle.uug_conversation.specs.Jobs.{Lists, Move, pass, strike, fail, moved_once}
 use Rattle.uug_conversation.specs.Machine.{Reply, between, replies, out_of_turn, goes_on, awaits_answer_to, file_verdict}
+use Rattle.uug_conversation.specs.Resuming.{front_of}
 use Rattle.uug_conversation.specs.Turns.{Said, the_order, the_answer, the_consent, the_giving, the_file, the_refusal}
 
 -- what is in a file, or nothing
@@ -81,27 +82,29 @@ abbrev pub offer : Holdings → Job → Option Order
 offer h (job.Send source target user temp) = send_offer source target user temp (to_give h (fetched_by source temp))
 offer h (job.Request source target user) = Some (order.Request source target user)
 
--- ---- a whole file, in the order in which the code goes about it: the name under which it is to be kept, its mode, and what
+-- ---- a whole file, in the order in which the code goes about it: what is held of it, the name under which it is to be kept, its mode, and what
 -- was told of it; whether it was kept; what is said then
 
 pub record FileAwaited : Type 0 where
+  pub front : List ℕ
   pub name : List ℕ
   pub mode : ℕ
   pub told : Option FileDigest
 
 abbrev pub file_of_first : Holdings → List Job → (mode : ℕ) → (told : Option FileDigest) → Option FileAwaited
 file_of_first h (job.Request source target user ∷ jobs) mode told =
-    Some (record { name = h.landing source target; mode = mode; told = told })
+    Some (record { front = []; name = h.landing source target; mode = mode; told = told })
 file_of_first h _ mode told = None
 
 abbrev pub file_awaited : Holdings → Awaits → List Job → Option FileAwaited
-file_awaited h (awaits.SentFile source target mode told) jobs = Some (record { name = target; mode = mode; told = told })
+file_awaited h (awaits.SentFile source target mode told) jobs =
+    Some (record { front = front_of h source told; name = target; mode = mode; told = told })
 file_awaited h (awaits.AskedFile mode told) jobs = file_of_first h jobs mode told
 file_awaited h _ jobs = None
 
--- whether that file is kept, where it has these bytes
+-- whether that file is kept, where these bytes come
 abbrev pub awaited_verdict : Holdings → FileAwaited → (bytes : List ℕ) → Verdict
-awaited_verdict h file bytes = file_verdict h file.name file.told bytes
+awaited_verdict h file bytes = file_verdict h file.name file.told (file.front ++ bytes)
 
 -- a file is awaited, and one of these bytes is kept
 abbrev pub MayBeKept : Holdings → Option FileAwaited → (bytes : List ℕ) → Type 0
@@ -139,7 +142,7 @@ kept_on _ file = []
 abbrev pub IsKept : Holdings → Option FileAwaited → (bytes : List ℕ) → Option Verdict → (before after : List Kept) → Type 0
 IsKept h None bytes None before after = after ≡ before
 IsKept h (Some file) bytes (Some verdict) before after =
-    (awaited_verdict h file bytes ≡ verdict) × (after ≡ before ++ kept_on verdict (kept_file file.name file.mode bytes))
+    (awaited_verdict h file bytes ≡ verdict) × (after ≡ before ++ kept_on verdict (kept_file file.name file.mode (file.front ++ bytes)))
 IsKept h _ bytes _ before after = ⊥
 
 -- a file's mode is one that can be kept

@@ -1,7 +1,12 @@
 -- From which byte on a file is sent (this project's profile).
-use Rattle.std.specs.Prelude.{ℕ, nat_le, Bool, true, false, List, length, drop, Option, Some, None}
+use Rattle.std.specs.Prelude.{◌≡◌, ℕ, nat_le, Bool, true, false, ◌&&◌, List, [], ◌∷◌, ◌++◌, length, drop, Option, Some, None}
 use Rattle.uug_digest.specs.Positions.{position_told}
-use Rattle.uug_conversation.specs.Holdings.{File}
+use Rattle.uug_digest.specs.declared.file_digest.FileDigest.{FileDigest}
+use Rattle.uug_talk.specs.declared.gather.TheConstants.{FILE_MAX}
+use Rattle.uug_conversation.specs.Holdings.{File, Holdings}
+use Rattle.uug_conversation.specs.Told.{heard, told_of}
+
+-- ---- the giver
 
 -- an end that tells no digests reads past what stands behind SY
 abbrev pub position_heard : (digests : Bool) → (text : List ℕ) → ℕ
@@ -16,3 +21,26 @@ rest_where false position file = None
 abbrev pub rest_from : (position : ℕ) → Option File → Option File
 rest_from position None = None
 rest_from position (Some file) = rest_where (nat_le position (length file.bytes)) position file
+
+-- ---- the taker
+
+abbrev pub front_where : (within : Bool) → (bytes : List ℕ) → List ℕ
+front_where within [] = []
+front_where true (b ∷ bytes) = b ∷ bytes
+front_where false (b ∷ bytes) = []
+
+-- what it holds of the file of this name of which this was told: no more bytes than were told, and of no file that is too large; where
+-- nothing was told, none
+abbrev pub front_of : Holdings → (source : List ℕ) → (told : Option FileDigest) → List ℕ
+front_of h source None = []
+front_of h source (Some told) =
+    front_where (nat_le (length (h.held source told)) told.size && nat_le told.size FILE_MAX) (h.held source told)
+
+-- ---- both
+
+-- what a taker holds of a file of a giver that tells digests or not
+abbrev pub front_held : (taker : Holdings) → (digests : Bool) → (source : List ℕ) → Option File → List ℕ
+front_held taker digests source found = front_of taker source (heard taker.digests (told_of digests found))
+
+abbrev pub IsFront : (front whole : List ℕ) → Type 0
+IsFront front whole = (rest : List ℕ) × (whole ≡ front ++ rest)

@@ -1,10 +1,12 @@
-ghost use Rattle.std.specs.Prelude.{◌≡◌, ◌≤◌, length, IfSome};
+ghost use Rattle.std.specs.Prelude.{◌≡◌, ◌≤◌, ◌&&◌, nat_le, length, IfSome};
 ghost use Rattle.uug_conversation.specs.Choice.{choice, fetched_by};
 ghost use Rattle.uug_conversation.specs.FileView.{shown_file};
 ghost use Rattle.uug_conversation.specs.Holdings.{to_give};
 ghost use Rattle.uug_conversation.specs.Jobs.{moved};
 ghost use Rattle.uug_conversation.specs.Reactions.{offer, send_offer};
+ghost use Rattle.uug_conversation.specs.Resuming.{front_of, front_where};
 ghost use Rattle.uug_conversation.specs.Told.{told_of, told_with};
+ghost use Rattle.uug_talk.specs.declared.gather.TheConstants.{FILE_MAX};
 
 use crate::job::Job;
 use crate::queue::Queue;
@@ -33,6 +35,35 @@ pub(crate) fn fetched_by<'a>(source: &'a Name, temp: &'a Option<Name>) -> &'a Na
     match temp {
         Some(temp) => temp,
         None => source,
+    }
+}
+
+/// Returns the bytes that are held of the file with this name at its giver. They are none if no digest was announced,
+/// or if more is held than was announced or than may be taken.
+pub(crate) fn front_of<'a, S: Spool>(
+    spool: &'a S,
+    source: &Name,
+    told: &Option<FileDigest>,
+) -> &'a [u8]
+    ensures front { result.now ≡ front_of (S.holdings spool.now) source.now told.now }
+    ensures limit { length result.now ≤ FILE_MAX }
+{
+    match told {
+        Some(told) => front_within(spool.held(source, told), told.size as usize),
+        None => &[],
+    }
+}
+
+/// Returns these bytes if they may be the front of a file of this size.
+fn front_within(bytes: &[u8], size: usize) -> &[u8]
+    ensures front { result.now
+        ≡ front_where (nat_le (length bytes.now) size && nat_le size FILE_MAX) bytes.now }
+    ensures limit { length result.now ≤ FILE_MAX }
+{
+    if bytes.len() <= size && size <= FILE_MAX {
+        bytes
+    } else {
+        &[]
     }
 }
 

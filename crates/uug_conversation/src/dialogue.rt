@@ -222,6 +222,7 @@ impl<A: Allocator + Copy> Dialogue<A> {
             &mut self.gather,
             self.outgoing.is_silent(),
             message,
+            self.alloc,
         )?;
         if let Some(reaction) = told {
             self.awaits = reaction.awaits;
@@ -316,6 +317,7 @@ fn reaction_unless_early<A: Allocator, S: Spool>(
     gather: &mut Gather<A>,
     none_waits: bool,
     message: &[u8],
+    alloc: A,
 ) -> Result<Option<Reaction>, FileFault>
     requires mode { HasModeInRange awaits.now }
     requires part { IsPart awaits.now gather.old }
@@ -345,7 +347,7 @@ fn reaction_unless_early<A: Allocator, S: Spool>(
     if awaits.comes_early(none_waits) {
         return Ok(Some(Reaction::out_of_turn()));
     }
-    reaction_to(queue, spool, awaits, gather, message)
+    reaction_to(queue, spool, awaits, gather, message, alloc)
 }
 
 /// Returns the reaction to a message that belongs to the awaited item, or none if more of the item is to come.
@@ -356,6 +358,7 @@ fn reaction_to<A: Allocator, S: Spool>(
     awaits: &Awaits,
     gather: &mut Gather<A>,
     message: &[u8],
+    alloc: A,
 ) -> Result<Option<Reaction>, FileFault>
     requires mode { HasModeInRange awaits.now }
     requires part { IsPart awaits.now gather.old }
@@ -383,7 +386,7 @@ fn reaction_to<A: Allocator, S: Spool>(
     ensures count { S.faults spool.old ≤ S.faults spool.new }
 {
     if awaits.is_file() && message.is_empty() {
-        let reaction = on_file(queue, spool, *awaits, gather.bytes())?;
+        let reaction = on_file(queue, spool, *awaits, gather.bytes(), alloc)?;
         return Ok(Some(reaction));
     }
     reaction_to_part(queue, spool, awaits, gather, message)

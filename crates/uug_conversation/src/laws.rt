@@ -7,7 +7,7 @@ ghost use Rattle.uug_conversation.specs.Holdings.{File, Holdings, Kept, to_give}
 ghost use Rattle.uug_conversation.specs.Jobs.{Lists, moved_once, pass};
 ghost use Rattle.uug_conversation.specs.Machine.{State, gathered_with, goes_on, is_dropped, kind_awaited, on_past_limit, on_request_answer, on_text, opening, out_of_turn, reply_to, send_verdict, step};
 ghost use Rattle.uug_conversation.specs.OneEnd.{Act, AllAllowed, FollowsConversation, after_acts, link_up};
-ghost use Rattle.uug_conversation.specs.Party.{Party, IsSound};
+ghost use Rattle.uug_conversation.specs.Party.{HoldFronts, Party, IsSound};
 ghost use Rattle.uug_conversation.specs.PlainMachine.{AreOff, awaits_plainly, plain_opening, plain_reply_to, plain_step};
 ghost use Rattle.uug_conversation.specs.ReadBack.{EachTurn, IsReadBack};
 ghost use Rattle.uug_conversation.specs.declared.side.Side.{Side};
@@ -148,9 +148,9 @@ pub fn an_end_with_all_settings_off_goes_by_the_plain_table()
 {}
 
 /// States that every text of a conversation may be cut into messages, and is read as it was said. No file is too
-/// large.
+/// large. Here and below, what an end holds of the other's files of earlier sessions are fronts of them.
 pub fn said_is_read_back()
-    ensures { (a b : Party) → IsSound a → IsSound b
+    ensures { (a b : Party) → HoldFronts a b → IsSound a → IsSound b
         → EachTurn (λ t. IsReadBack t.said) (conversation a b) }
 {}
 
@@ -158,7 +158,7 @@ pub fn said_is_read_back()
 /// takes in any order that a link allows. This holds for both ends, every two parties, and whatever it brought from
 /// earlier sessions.
 pub fn an_end_follows_the_conversation()
-    ensures { (a b : Party) → IsSound a → IsSound b → (me : Side) (struck failed : List Job) (kept : List Kept)
+    ensures { (a b : Party) → HoldFronts a b → IsSound a → IsSound b → (me : Side) (struck failed : List Job) (kept : List Kept)
         (acts : List Act) → let p = party me a b in let first = link_up me p struck failed kept in
         AllAllowed me a b first acts
         → FollowsConversation me a b struck failed kept (after_acts p.holdings first acts) }

@@ -5,7 +5,7 @@ ghost use Rattle.uug_conversation.specs.Holdings.{Holdings};
 ghost use Rattle.uug_conversation.specs.Machine.{goes_on, on_send, send_verdict, on_request, on_hang_up, on_choice, on_unread, on_order, on_given_file_done, on_last_hang_up, sends_file, on_send_yes, move_refused, on_send_answer, on_sent_file_done, on_sent_job_done, on_request_answer, on_hang_up_answer, on_nothing_more, on_text};
 ghost use Rattle.uug_conversation.specs.Holdings.{to_give};
 ghost use Rattle.uug_conversation.specs.Reactions.{reply_of, said_before, gives_order, HasModeInRange, HasModeAnswered};
-ghost use Rattle.uug_conversation.specs.Resuming.{position_heard, rest_from};
+ghost use Rattle.uug_conversation.specs.Resuming.{front_of, position_heard, rest_from};
 ghost use Rattle.uug_conversation.specs.Told.{heard, is_too_large, told_with};
 ghost use Rattle.uug_digest.specs.Digests.{told_by_answer, told_by_order};
 ghost use Rattle.uug_talk.specs.Answer.{answer_of};
@@ -14,7 +14,7 @@ ghost use Rattle.uug_talk.specs.Order.{HasMode};
 ghost use Rattle.uug_talk.specs.declared.mode.TheConstants.{MODE_MAX};
 
 use crate::awaits::Awaits;
-use crate::choice::{choose, fetched_by, to_give, told_of, told_with};
+use crate::choice::{choose, fetched_by, front_of, to_give, told_of, told_with};
 use crate::job::Job;
 use crate::queue::Queue;
 use crate::reaction::{Reaction, Saying, Says};
@@ -175,19 +175,21 @@ fn on_send<S: Spool>(
     told: Option<FileDigest>,
 ) -> Reaction
     ensures reply { (l : Lists)
-        → on_send (send_verdict (S.holdings spool.now) target told) source target mode told l
+        → on_send (send_verdict (S.holdings spool.now) target told)
+        (front_of (S.holdings spool.now) source told) source target mode told l
         ≡ reply_of (S.holdings spool.now) l result [] }
     ensures mode { mode ≤ MODE_MAX → HasModeInRange result.awaits }
 {
     match send_verdict(spool, &target, &told) {
         Verdict::Yes => {
+            let position = front_of(spool, &source, &told).len() as u32;
             let awaits = Awaits::SentFile {
                 source,
                 target,
                 mode,
                 told,
             };
-            Reaction::consents(awaits, 0)
+            Reaction::consents(awaits, position)
         }
         Verdict::Never => Reaction::answers(Awaits::Order, Answer::SendNever),
         Verdict::Later => Reaction::answers(Awaits::Order, Answer::SendLater),

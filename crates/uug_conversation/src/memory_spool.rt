@@ -8,6 +8,7 @@ use crate::spool::{FileView, KeepFault, Spool};
 use crate::stored::Stored;
 use crate::verdict::Verdict;
 use std::alloc::{AllocError, Allocator};
+use uug_digest::FileDigest;
 use uug_talk::{MODE_MAX, Name};
 
 /// A spool whose files are in memory.
@@ -132,6 +133,10 @@ impl<A: Allocator + Copy> Spool for MemorySpool<A> {
 
     fn is_delayed(&self, _name: &Name) -> bool {
         false
+    }
+
+    fn held(&self, _source: &Name, _told: &FileDigest) -> &[u8] {
+        &[]
     }
 
     fn keep(&mut self, name: &Name, mode: u16, bytes: &[u8]) -> Result<(), KeepFault> {

@@ -4,6 +4,7 @@ ghost use Rattle.uug_conversation.specs.FileView.{shown_file};
 
 use crate::verdict::Verdict;
 use thiserror::Error;
+use uug_digest::FileDigest;
 use uug_talk::{MODE_MAX, Name};
 
 /// A file that a spool lends.
@@ -54,6 +55,11 @@ pub trait Spool {
     /// `fetch` finds none.
     fn is_delayed(&self, name: &Name) -> bool
         ensures { result ≡ (holdings self.now).delayed name.now };
+
+    /// Returns the bytes that came before of the file with this name at its giver and this announced digest. They are
+    /// none if nothing is held of it.
+    fn held(&self, source: &Name, told: &FileDigest) -> &[u8]
+        ensures { result.now ≡ (holdings self.now).held source.now told.now };
 
     /// Keeps a file under this name. `Refused` is checked first. An error leaves the kept files as they were. Lack of
     /// memory is reported before the device is touched, so the count of faults also stays as it was.

@@ -1,20 +1,22 @@
-ghost use Rattle.std.specs.Prelude.{◌≡◌, ◌≢◌, ◌≤◌, ◌<◌, ◌⊎◌, ◌++◌, ℕ, List, [], ◌∷◌, true, Some, All, IfOk, OnOk, OnErr};
+ghost use Rattle.std.specs.Prelude.{◌≡◌, ◌≢◌, ◌≤◌, ◌<◌, ◌⊎◌, ◌++◌, ℕ, List, [], ◌∷◌, true, Some, All, IfOk, IfSome, IfNone, OnOk, OnErr};
 ghost use Rattle.uug_conversation.specs.Holdings.{Kept, kept_file};
 ghost use Rattle.uug_conversation.specs.Machine.{on_file};
 ghost use Rattle.uug_conversation.specs.Outgoing.{IsSayable, sayings_of};
 ghost use Rattle.uug_conversation.specs.Jobs.{moved_once};
 ghost use Rattle.uug_conversation.specs.Reactions.{reply_of, file_awaited, on_kept, on_none_kept, kept_on, done_answer, done_move, HasModeInRange, IsKept, MayBeKept};
+ghost use Rattle.uug_conversation.specs.Resuming.{front_of};
 ghost use Rattle.uug_conversation.specs.Told.{fits, outcome};
 ghost use Rattle.uug_conversation.specs.declared.verdict.Verdict.TheVariants.{Yes};
 
 use crate::awaits::Awaits;
+use crate::choice::front_of;
 use crate::job::Job;
 use crate::machine::go_on;
 use crate::queue::Queue;
 use crate::reaction::Reaction;
 use crate::spool::{KeepFault, Spool};
 use crate::verdict::Verdict;
-use std::alloc::Allocator;
+use std::alloc::{AllocError, Allocator};
 use uug_digest::FileDigest;
 use uug_talk::{Answer, MODE_MAX, Name};
 
@@ -71,12 +73,76 @@ fn keep<S: Spool>(
     }
 }
 
+/// Keeps a file that was sent, and returns whether it did. The bytes that are held of it stand before these. `Memory` is
+/// also reported if there is no memory to join the two.
+fn keep_sent<A: Allocator, S: Spool>(
+    spool: &mut S,
+    source: &Name,
+    target: &Name,
+    mode: u16,
+    told: &Option<FileDigest>,
+    bytes: &[u8],
+    alloc: A,
+) -> Result<Verdict, FileFault>
+    requires { mode ≤ MODE_MAX }
+    ensures holdings { S.holdings spool.new ≡ S.holdings spool.old }
+    ensures verdict { IfOk result (λ verdict.
+        outcome (fits told.now (front_of (S.holdings spool.old) source.now told.now ++ bytes.now))
+        ((S.holdings spool.old).immovable target.now) ≡ verdict) }
+    ensures kept { IfOk result (λ verdict.
+        S.kept spool.new ≡ S.kept spool.old ++ kept_on verdict (kept_file target.now mode
+        (front_of (S.holdings spool.old) source.now told.now ++ bytes.now))) }
+    ensures err { OnErr result (S.kept spool.new ≡ S.kept spool.old) }
+    ensures only { result ≡ Err FileFault.Device
+        → outcome (fits told.now (front_of (S.holdings spool.old) source.now told.now ++ bytes.now))
+        ((S.holdings spool.old).immovable target.now) ≡ Yes }
+    ensures stands { result ≢ Err FileFault.Device → S.faults spool.new ≡ S.faults spool.old }
+    ensures device { result ≡ Err FileFault.Device
+        → (S.faults spool.old < S.faults spool.new) ⊎ (S.faults spool.old ≡ u64.MAX) }
+    ensures count { S.faults spool.old ≤ S.faults spool.new }
+{
+    match behind_held(spool, source, told, bytes, alloc) {
+        Ok(Some(whole)) => keep(spool, target, mode, told, whole.as_slice()),
+        Ok(None) => keep(spool, target, mode, told, bytes),
+        Err(_) => Err(FileFault::Memory),
+    }
+}
+
+/// Joins the bytes that are held of a file and those behind them. Returns none if nothing is held of it.
+fn behind_held<A: Allocator, S: Spool>(
+    spool: &S,
+    source: &Name,
+    told: &Option<FileDigest>,
+    bytes: &[u8],
+    alloc: A,
+) -> Result<Option<Vec<u8, A>>, AllocError>
+    ensures whole { IfOk result (λ found. IfSome found (λ whole.
+        whole.items ≡ front_of (S.holdings spool.now) source.now told.now ++ bytes.now)) }
+    ensures none { IfOk result (λ found. IfNone found
+        (front_of (S.holdings spool.now) source.now told.now ≡ [])) }
+{
+    let front = front_of(spool, source, told);
+    if front.is_empty() {
+        return Ok(None);
+    }
+    Ok(Some(joined(front, bytes, alloc)?))
+}
+
+fn joined<A: Allocator>(front: &[u8], rest: &[u8], alloc: A) -> Result<Vec<u8, A>, AllocError>
+    ensures { IfOk result (λ whole. whole.items ≡ front.now ++ rest.now) }
+{
+    let mut whole = front.to_vec(alloc)?;
+    whole.extend_from_slice(rest)?;
+    Ok(whole)
+}
+
 /// Keeps the awaited file, and returns whether it did. Returns none if no file is awaited.
 fn keep_awaited<A: Allocator, S: Spool>(
     queue: &Queue<A>,
     spool: &mut S,
     awaits: &Awaits,
     bytes: &[u8],
+    alloc: A,
 ) -> Result<Option<Verdict>, FileFault>
     requires { HasModeInRange awaits.now }
     ensures holdings { S.holdings spool.new ≡ S.holdings spool.old }
@@ -85,9 +151,9 @@ fn keep_awaited<A: Allocator, S: Spool>(
         (file_awaited (S.holdings spool.old) awaits.now queue.now.ahead) bytes.now
         verdict (S.kept spool.old) (S.kept spool.new)) }
     ensures err { OnErr result (S.kept spool.new ≡ S.kept spool.old) }
-    ensures only { OnErr result
-        (MayBeKept (S.holdings spool.old)
-        (file_awaited (S.holdings spool.old) awaits.now queue.now.ahead) bytes.now) }
+    ensures only { result ≡ Err FileFault.Device
+        → MayBeKept (S.holdings spool.old)
+        (file_awaited (S.holdings spool.old) awaits.now queue.now.ahead) bytes.now }
     ensures stands { result ≢ Err FileFault.Device → S.faults spool.new ≡ S.faults spool.old }
     ensures device { result ≡ Err FileFault.Device
         → (S.faults spool.old < S.faults spool.new) ⊎ (S.faults spool.old ≡ u64.MAX) }
@@ -95,11 +161,14 @@ fn keep_awaited<A: Allocator, S: Spool>(
 {
     match awaits {
         Awaits::SentFile {
+            source,
             target,
             mode,
             told,
-            ..
-        } => { Ok(Some(keep(spool, target, *mode, told, bytes)?)) }
+        } => {
+            let verdict = keep_sent(spool, source, target, *mode, told, bytes, alloc)?;
+            Ok(Some(verdict))
+        }
         Awaits::AskedFile { mode, told } => match queue.first() {
             Some(Job::Request { source, target, .. }) => {
                 let name = spool.landing(source, target);
@@ -174,12 +243,13 @@ fn on_none_kept<A: Allocator, S: Spool>(
 }
 
 /// Returns the reaction to a whole file, by what the end awaits. The file is kept if it may be. `Memory` and `Device`
-/// are the spool's. After them nothing is kept and no job has moved.
+/// leave nothing kept and no job moved. `Device` is the spool's.
 pub(crate) fn on_file<A: Allocator, S: Spool>(
     queue: &mut Queue<A>,
     spool: &mut S,
     awaits: Awaits,
     bytes: &[u8],
+    alloc: A,
 ) -> Result<Reaction, FileFault>
     requires { HasModeInRange awaits }
     ensures holdings { S.holdings spool.new ≡ S.holdings spool.old }
@@ -192,16 +262,16 @@ pub(crate) fn on_file<A: Allocator, S: Spool>(
         ≡ S.kept spool.old ++ (on_file (S.holdings spool.old) awaits bytes.now queue.old).keeps) }
     ensures jobs_stay { OnErr result (queue.new ≡ queue.old) }
     ensures none_kept { OnErr result (S.kept spool.new ≡ S.kept spool.old) }
-    // The spool was asked only if a file is awaited, this one fits it, and it can be put in its place.
-    ensures only { OnErr result
-        (MayBeKept (S.holdings spool.old)
-        (file_awaited (S.holdings spool.old) awaits queue.old.ahead) bytes.now) }
+    // The device was asked only if a file is awaited, this one fits it, and it can be put in its place.
+    ensures only { result ≡ Err FileFault.Device
+        → MayBeKept (S.holdings spool.old)
+        (file_awaited (S.holdings spool.old) awaits queue.old.ahead) bytes.now }
     ensures stands { result ≢ Err FileFault.Device → S.faults spool.new ≡ S.faults spool.old }
     ensures device { result ≡ Err FileFault.Device
         → (S.faults spool.old < S.faults spool.new) ⊎ (S.faults spool.old ≡ u64.MAX) }
     ensures count { S.faults spool.old ≤ S.faults spool.new }
 {
-    match keep_awaited(queue, spool, &awaits, bytes)? {
+    match keep_awaited(queue, spool, &awaits, bytes, alloc)? {
         Some(verdict) => Ok(on_kept(queue, spool, awaits, verdict)),
         None => Ok(on_none_kept(queue, spool, &awaits)),
     }
