@@ -1,12 +1,13 @@
 -- A file of which a front is held: what is asked for, and what is sent, is the rest behind it.
-use Rattle.std.proofs.Common.{◌≡◌, ℕ, ◌≤◌, Bool, true, false, nat_le, List, [], ◌∷◌, ◌++◌, length, drop, Option, Some, None, refl, sym, ap, subst, ◌∙◌, arith}
+use Rattle.std.proofs.Common.{◌≡◌, ℕ, ◌≤◌, Bool, true, false, ◌&&◌, nat_le, List, [], ◌∷◌, ◌++◌, length, drop, Option, Some, None, refl, sym, ap, subst, ◌∙◌, arith}
 use Rattle.std.proofs.lemmas.Bool.Decides.{nat_tests}
 use Rattle.std.proofs.lemmas.List.{length-append}
 use Rattle.uug_digest.specs.Positions.{consent_text, position_told}
+use Rattle.uug_digest.specs.declared.file_digest.FileDigest.{FileDigest}
 use Rattle.uug_talk.specs.declared.gather.TheConstants.{FILE_MAX}
 use Rattle.uug_conversation.specs.Holdings.{File, Holdings, to_give}
-use Rattle.uug_conversation.specs.Party.{HoldsFronts}
-use Rattle.uug_conversation.specs.Resuming.{IsFront, front_held, front_of, position_heard, rest_from, rest_where}
+use Rattle.uug_conversation.specs.Party.{HoldsFronts, HoldsNone}
+use Rattle.uug_conversation.specs.Resuming.{IsFront, front_held, front_of, front_where, position_heard, rest_from, rest_where}
 use Rattle.uug_conversation.specs.Told.{heard, told_of}
 use Rattle.uug_conversation.proofs.LimitLemmas.{given_file}
 
@@ -82,3 +83,15 @@ rest_sent digests front file well told found e =
     ∙ ap (λ z. rest_from (length front) z) e
     ∙ ap (λ within. rest_where within (length front) file)
     (is_within (length front) (length file.bytes) (front_short front file.bytes well.is_front))
+
+-- ---- nothing is held
+
+front_of_none : (h : Holdings) → HoldsNone h → (source : List ℕ) (told : Option FileDigest) →
+    front_of h source told ≡ []
+front_of_none h none source None = refl
+front_of_none h none source (Some told) =
+    ap (λ z. front_where (nat_le (length z) told.size && nat_le told.size FILE_MAX) z) (none source told)
+
+pub holds_no_fronts : (giver taker : Holdings) → HoldsNone taker → HoldsFronts giver taker
+holds_no_fronts giver taker none source file e =
+    (file.bytes, sym (ap (λ z. z ++ file.bytes) (front_of_none taker none source (heard taker.digests (told_of giver.digests (Some file))))))

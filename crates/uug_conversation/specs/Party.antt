@@ -1,5 +1,6 @@
 -- An end as it comes to a session (this project's profile).
-use Rattle.std.specs.Prelude.{◌≡◌, ◌<◌, ℕ, List, All, Some}
+use Rattle.std.specs.Prelude.{◌≡◌, ◌<◌, ℕ, List, [], All, Some}
+use Rattle.uug_digest.specs.declared.file_digest.FileDigest.{FileDigest}
 use Rattle.uug_conversation.specs.declared.job.Job.{Job}
 use Rattle.uug_conversation.specs.declared.job.Job.TheVariants as job
 use Rattle.uug_conversation.specs.Holdings.{File, Holdings, AreModes, to_give}
@@ -24,6 +25,10 @@ pub record IsSound (p : Party) : Type 0 where
   pub names : All HasNames p.jobs
   pub modes : AreModes p.holdings
   pub size : 0 < p.measure.size
+
+-- nothing is held of a file of an earlier session
+abbrev pub HoldsNone : Holdings → Type 0
+HoldsNone h = (source : List ℕ) (told : FileDigest) → h.held source told ≡ []
 
 -- what the taker holds of each file of the giver is a front of it
 abbrev pub HoldsFronts : (giver taker : Holdings) → Type 0

@@ -51,20 +51,25 @@ abbrev brought_of : AtBoth EndBeginning → AtBoth Belongings
 brought_of ends = record { at_caller = (setup_end ends.at_caller).belongings; at_called = (setup_end ends.at_called).belongings }
 
 sound_session : (ends : AtBoth EndBeginning) → AreSound ends → IsSoundSession (setup_of ends) (brought_of ends)
-sound_session ends sound = record { window = window; party = party_sound; renewed = renewed }
+sound_session ends sound = record {
+  window = window;
+  party = party_sound;
+  renewed = renewed;
+  fronts = record { of_caller = sound.fronts Caller; of_called = sound.fronts Called };
+}
   where
     window : (side : Side) → IsWindow (at side (setup_of ends)).own.window
-    window Caller = (sound Caller).window
-    window Called = (sound Called).window
+    window Caller = (sound.each Caller).window
+    window Called = (sound.each Called).window
 
     party_sound : (side : Side) → IsSound (party (setup_of ends) (brought_of ends) side)
-    party_sound Caller = record { names = (sound Caller).names; modes = (sound Caller).modes; size = pow_pos (ends.at_called.own.size_code + 1 + 4) }
-    party_sound Called = record { names = (sound Called).names; modes = (sound Called).modes; size = pow_pos (ends.at_caller.own.size_code + 1 + 4) }
+    party_sound Caller = record { names = (sound.each Caller).names; modes = (sound.each Caller).modes; size = pow_pos (ends.at_called.own.size_code + 1 + 4) }
+    party_sound Called = record { names = (sound.each Called).names; modes = (sound.each Called).modes; size = pow_pos (ends.at_caller.own.size_code + 1 + 4) }
 
     renewed : (side : Side) → (at side (brought_of ends)).lists
         ≡ at_start (pending (at side (brought_of ends)).lists) (at side (brought_of ends)).lists.struck (at side (brought_of ends)).lists.failed
-    renewed Caller = (sound Caller).ahead
-    renewed Called = (sound Called).ahead
+    renewed Caller = (sound.each Caller).ahead
+    renewed Called = (sound.each Called).ahead
 
 -- ---- step by step
 

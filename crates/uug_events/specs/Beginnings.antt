@@ -6,8 +6,9 @@ use Rattle.uug_session.specs.EndStep.{EndEffect, Identity, begins_session}
 use Rattle.uug_conversation.specs.DialogueState.{DialogueState, unopened}
 use Rattle.uug_conversation.specs.Holdings.{AreModes, Holdings, Kept}
 use Rattle.uug_conversation.specs.Jobs.{Lists, at_start, pending}
-use Rattle.uug_conversation.specs.Party.{HasNames}
+use Rattle.uug_conversation.specs.Party.{HasNames, HoldsFronts}
 use Rattle.uug_conversation.specs.Sides.{AtBoth, at}
+use Rattle.uug_conversation.specs.Turns.{other}
 use Rattle.uug_conversation.specs.declared.side.Side.{Side}
 
 -- what it is called, which end it calls or is called by, what the other end shall use, what its spool gives and accepts, its
@@ -36,5 +37,7 @@ pub record IsSoundBeginning (b : EndBeginning) : Type 0 where
   pub names : All HasNames (pending b.lists)
   pub ahead : b.lists ≡ at_start (pending b.lists) b.lists.struck b.lists.failed
 
-abbrev pub AreSound : AtBoth EndBeginning → Type 0
-AreSound ends = (side : Side) → IsSoundBeginning (at side ends)
+-- each is, and what an end holds of the other's files are fronts of them
+pub record AreSound (ends : AtBoth EndBeginning) : Type 0 where
+  pub each : (side : Side) → IsSoundBeginning (at side ends)
+  pub fronts : (giver : Side) → HoldsFronts (at giver ends).holdings (at (other giver) ends).holdings

@@ -9,6 +9,7 @@ use crate::folder::Folder;
 use std::alloc::{AllocError, Allocator};
 use std::marker::Model;
 use std::snapshot::Snapshot;
+use uug_digest::FileDigest;
 use uug_session::{FileView, KeepFault, Spool, Stored, Verdict};
 use uug_talk::{MODE_MAX, Name};
 
@@ -104,6 +105,10 @@ impl<F: Folder, A: Allocator + Copy> Spool for FolderSpool<F, A> {
 
     fn is_delayed(&self, _name: &Name) -> bool {
         false
+    }
+
+    fn held(&self, _source: &Name, _told: &FileDigest) -> &[u8] {
+        &[]
     }
 
     fn keep(&mut self, name: &Name, mode: u16, bytes: &[u8]) -> Result<(), KeepFault> {

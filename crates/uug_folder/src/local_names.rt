@@ -10,6 +10,7 @@ use crate::folder_spool::{FolderSpool, is_hidden};
 use std::alloc::Allocator;
 use std::marker::Model;
 use uug_conversation::has_name;
+use uug_digest::FileDigest;
 use uug_session::{FileView, KeepFault, Spool, Verdict};
 use uug_talk::Name;
 
@@ -120,6 +121,10 @@ impl<F: Folder, A: Allocator + Copy> Spool for LocalNames<F, A> {
             Some(local) => has_name(self.delayed.as_slice(), local),
             None => false,
         }
+    }
+
+    fn held(&self, source: &Name, told: &FileDigest) -> &[u8] {
+        self.files.held(source, told)
     }
 
     fn keep(&mut self, name: &Name, mode: u16, bytes: &[u8]) -> Result<(), KeepFault> {

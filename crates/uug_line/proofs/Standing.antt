@@ -11,6 +11,7 @@ use Rattle.uug_conversation.specs.Count.{Count}
 use Rattle.uug_session.specs.EndStep.{EndEvent, time_ran_out, line_lost}
 use Rattle.uug_conversation.specs.Jobs.{at_start, pending}
 use Rattle.uug_conversation.specs.Party.{IsSound}
+use Rattle.uug_conversation.proofs.ResumingLemmas.{holds_no_fronts}
 use Rattle.uug_conversation.specs.DialogueState.{DialogueState}
 use Rattle.uug_line.specs.declared.event.Event.{Event}
 use Rattle.uug_line.specs.declared.event.Event.TheVariants.{Pass, Drop, Flip, Insert, Timeout, HangUp, Call}
@@ -313,7 +314,12 @@ module _ (setup : SetupValue) where
   brings run = at_each (λ side. renewed (has_now by_themselves setup run side))
 
   brings_sound : (run : Run DialogueState) → Stands setup run → IsSoundSession setup (brings run)
-  brings_sound run s = record { window = s.sound.window; party = party_sound; renewed = renewed_so }
+  brings_sound run s = record {
+    window = s.sound.window;
+    party = party_sound;
+    renewed = renewed_so;
+    fronts = record { of_caller = s.sound.fronts.of_caller; of_called = s.sound.fronts.of_called };
+  }
     where
       party_sound : (side : Side) → IsSound (party setup (brings run) side)
       party_sound Caller = record {
@@ -426,7 +432,15 @@ module _ (setup : SetupValue) where
   -- ---- the run
 
   first_sound : IsSoundSetup setup → IsSoundSession setup (set_up setup)
-  first_sound sound = record { window = λ side. (sound side).window; party = party_sound; renewed = renewed_so }
+  first_sound sound = record {
+    window = λ side. (sound side).window;
+    party = party_sound;
+    renewed = renewed_so;
+    fronts = record {
+      of_caller = holds_no_fronts setup.at_caller.holdings setup.at_called.holdings (sound Called).holds_none;
+      of_called = holds_no_fronts setup.at_called.holdings setup.at_caller.holdings (sound Caller).holds_none;
+    };
+  }
     where
       party_sound : (side : Side) → IsSound (party setup (set_up setup) side)
       party_sound Caller = record {

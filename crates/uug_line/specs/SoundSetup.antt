@@ -3,16 +3,17 @@ use Rattle.std.specs.Prelude.{All}
 use Rattle.uug_link.specs.Terms.{IsWindow}
 use Rattle.uug_conversation.specs.Holdings.{AreModes}
 use Rattle.uug_conversation.specs.Jobs.{pending}
-use Rattle.uug_conversation.specs.Party.{HasNames}
+use Rattle.uug_conversation.specs.Party.{HasNames, HoldsNone}
 use Rattle.uug_conversation.specs.declared.side.Side.{Side}
 use Rattle.uug_line.specs.Belongings.{EndSetupValue, SetupValue}
 use Rattle.uug_conversation.specs.Sides.{at}
 
--- it announces a window, its files have modes, and its pending jobs names
+-- it announces a window, its files have modes, its pending jobs names, and nothing is held of an earlier session
 pub record IsSoundEnd (e : EndSetupValue) : Type 0 where
   pub window : IsWindow e.own.window
   pub modes : AreModes e.holdings
   pub names : All HasNames (pending e.belongings.lists)
+  pub holds_none : HoldsNone e.holdings
 
 abbrev pub IsSoundSetup : SetupValue → Type 0
 IsSoundSetup setup = (side : Side) → IsSoundEnd (at side setup)

@@ -17,6 +17,7 @@ use crate::spool_folder::SpoolFolder;
 use std::alloc::{AllocError, Allocator};
 use std::snapshot::Snapshot;
 use uug_conversation::has_name;
+use uug_digest::FileDigest;
 use uug_folder::local_source;
 use uug_session::{FileView, KeepFault, Spool, Stored, Verdict};
 use uug_spool::Disk;
@@ -93,6 +94,10 @@ impl<D: Disk, A: Allocator + Copy> Spool for MailSpool<D, A> {
 
     fn is_delayed(&self, name: &Name) -> bool {
         is_delayed_in(&self.public, &local_source(name))
+    }
+
+    fn held(&self, _source: &Name, _told: &FileDigest) -> &[u8] {
+        &[]
     }
 
     /// Puts the file in its place by just the operations that its name, its bytes and the markers say.

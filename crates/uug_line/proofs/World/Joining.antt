@@ -7,7 +7,7 @@ use Rattle.uug_packet.specs.Packet.{PacketValue}
 use Rattle.uug_session.specs.declared.greeting.Greeting.{Greeting}
 use Rattle.uug_session.specs.EndStep.{hailing, first_link}
 use Rattle.uug_conversation.specs.Jobs.{at_start, pending}
-use Rattle.uug_conversation.specs.Party.{Party, IsSound}
+use Rattle.uug_conversation.specs.Party.{HoldFronts, Party, IsSound}
 use Rattle.uug_conversation.specs.DialogueState.{DialogueState, end_keeper, unopened}
 use Rattle.uug_session.specs.Told.{talk_behind}
 use Rattle.uug_conversation.specs.Turns.{other}
@@ -108,5 +108,6 @@ pub record EndsJoined (setup : SetupValue) (brought : AtBoth Belongings) (side :
 pub record IsSoundSession (setup : SetupValue) (brought : AtBoth Belongings) : Type 0 where
   pub window : (side : Side) → IsWindow (at side setup).own.window
   pub party : (side : Side) → IsSound (party setup brought side)
+  pub fronts : HoldFronts (party setup brought Caller) (party setup brought Called)
   pub renewed : (side : Side) → (at side brought).lists
       ≡ at_start (pending (at side brought).lists) (at side brought).lists.struck (at side brought).lists.failed

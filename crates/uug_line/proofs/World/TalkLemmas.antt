@@ -82,9 +82,9 @@ module _ (setup : SetupValue) (brought : AtBoth Belongings) where
   module _ (sound : IsSoundSession setup brought) where
     pub told_at : (side : Side) (two : Two) → Reaches two → IsToldAt side two
     told_at Caller two reached =
-        (both_told (party setup brought Caller) (party setup brought Called) (sound.party Caller) (sound.party Called) two reached).0
+        (both_told (party setup brought Caller) (party setup brought Called) sound.fronts (sound.party Caller) (sound.party Called) two reached).0
     told_at Called two reached =
-        (both_told (party setup brought Caller) (party setup brought Called) (sound.party Caller) (sound.party Called) two reached).1
+        (both_told (party setup brought Caller) (party setup brought Called) sound.fronts (sound.party Caller) (sound.party Called) two reached).1
 
   -- what it keeps behind what it brought
   abbrev pub talk_at : Side → Talker → DialogueState

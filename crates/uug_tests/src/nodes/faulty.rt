@@ -10,6 +10,7 @@ use super::script::assert_says;
 use super::{Left, MemoryNode, NOTHING, SEND, SENDER, Side, assert_ended, end, place};
 use std::alloc::{Allocator, Global};
 use std::process::Abort;
+use uug_digest::FileDigest;
 use uug_session::{End, FileView, KeepFault, Node, Queue, Spool, Stored, Verdict};
 use uug_talk::Name;
 
@@ -53,6 +54,10 @@ impl<A: Allocator + Copy> Spool for FaultySpool<A> {
 
     fn is_delayed(&self, _name: &Name) -> bool {
         false
+    }
+
+    fn held(&self, _source: &Name, _told: &FileDigest) -> &[u8] {
+        &[]
     }
 
     fn keep(&mut self, name: &Name, mode: u16, bytes: &[u8]) -> Result<(), KeepFault> {

@@ -1,4 +1,4 @@
-use Rattle.std.proofs.Common.{All, subst}
+use Rattle.std.proofs.Common.{All, refl, subst}
 use Rattle.uug_link.specs.Terms.{IsWindow}
 use Rattle.uug_conversation.specs.Party.{HasNames}
 use Rattle.uug_session.specs.Code.StoredBytes.{stored_bytes}
@@ -13,6 +13,7 @@ returns g c = record {
     window = subst IsWindow c.window.ensures.value c.window.ensures.within;
     modes = modes_in_range c.args.end.now.spool.files.items;
     names = subst (All HasNames) c.pending.ensures.jobs c.pending.ensures.names;
+    holds_none = λ source told. refl;
   };
   of_bytes = record {
     name = name_bytes c.args.end.now.name (subst IsName c.as_bytes.ensures.value c.as_bytes.ensures.name);

@@ -1,4 +1,4 @@
-use Rattle.std.proofs.Common.{None, false}
+use Rattle.std.proofs.Common.{[], None, false}
 use Rattle.uug_conversation.specs.declared.verdict.Verdict.TheVariants as verdicts
 use Rattle.uug_session.proofs.NodeSearchLemmas.{searched_rests}
 use Rattle.uug_session.proofs.ShownItemLemmas.{item_found, nothing_found, one_item}
