@@ -173,6 +173,21 @@ answer_heard h text l told e =
     from_heard (heard h.digests (told_by_answer text)) (on_text h awaits.RequestAnswer text l).state.awaits told
     (after_request_answer h (heard h.digests (told_by_answer text)) (or_wished (answer_of text) h.lenient text) l) e
 
+-- what is read in a command or an answer behind which a file comes is awaited
+pub order_awaited : (h : Holdings) (text : List ℕ) (l : Lists) (source target user : List ℕ) (temp : Option (List ℕ)) (mode : ℕ) →
+    order_of text ≡ Ok (order.Send source target user temp mode) →
+    send_verdict h (h.landing source target) (heard h.digests (told_by_order text)) ≡ Yes →
+    told_awaited (on_text h awaits.Order text l).state.awaits ≡ heard h.digests (told_by_order text)
+order_awaited h text l source target user temp mode read verdict =
+    let told = heard h.digests (told_by_order text) in
+    ap (λ z. told_awaited (on_order h (refused_letter_of text) told z l).state.awaits) read
+    ∙ ap (λ z. told_awaited (on_send z (front_of h (fetched_by source temp) told) (fetched_by source temp) (h.landing source target) mode told l).state.awaits) verdict
+
+pub answer_awaited : (h : Holdings) (text : List ℕ) (l : Lists) (mode : ℕ) → or_wished (answer_of text) h.lenient text ≡ Ok (answer.GiveYes mode) →
+    told_awaited (on_text h awaits.RequestAnswer text l).state.awaits ≡ heard h.digests (told_by_answer text)
+answer_awaited h text l mode read =
+    ap (λ z. told_awaited (on_request_answer h (heard h.digests (told_by_answer text)) z l).state.awaits) read
+
 -- ---- an end that tells and compares none
 
 pub none_heard : (h : Holdings) (told : Option FileDigest) → h.digests ≡ false → heard h.digests told ≡ None

@@ -17,8 +17,8 @@ use Rattle.uug_conversation.specs.Conversation.{exchanges}
 use Rattle.uug_conversation.specs.Exchange.{send_exchange, request_exchange, exchange}
 use Rattle.uug_conversation.specs.Holdings.{File, Kept, Holdings, to_give, kept_as, kept_file}
 use Rattle.uug_conversation.specs.Jobs.{Lists, Move, pass, strike, fail, moved, moved_once}
-use Rattle.uug_conversation.specs.Party.{HoldsFronts}
-use Rattle.uug_conversation.specs.Resuming.{front_held, front_of, position_heard}
+use Rattle.uug_conversation.specs.Party.{HoldsFronts, Party}
+use Rattle.uug_conversation.specs.Resuming.{IsFront, front_held, front_of, position_heard}
 use Rattle.uug_digest.specs.Positions.{consent_text}
 use Rattle.uug_talk.specs.Lenient.{is_held, or_wished, refused_letter_of}
 use Rattle.uug_conversation.specs.Machine.{State, Reply, between, replies, kind_awaited, on_whole, keeps, chooses, file_verdict, goes_on, on_send, on_request, on_order, on_send_answer, on_text, sends_file, on_request_answer, on_sent_file, on_asked_file}
@@ -26,14 +26,21 @@ use Rattle.uug_conversation.specs.ReadBack.{IsReadBack, EachTurn}
 use Rattle.uug_conversation.specs.Turns.{other, Said, the_order, the_answer, the_consent, the_giving, the_file, said_messages, all_messages, Turn}
 use Rattle.uug_conversation.specs.declared.side.Side.{Side}
 use Rattle.uug_conversation.specs.Told.{giving_said, heard, is_too_large, order_said, outcome, told_of, unless_too_large}
+use Rattle.std.proofs.lemmas.List.{append_assoc}
+use Rattle.std.proofs.lemmas.List.Folds.{concat-append}
+use Rattle.std.specs.List.{Contains, concat}
+use Rattle.uug_talk.proofs.GathersBackLemmas.{file_back}
+use Rattle.uug_talk.specs.declared.gather.TheConstants.{FILE_MAX}
+use Rattle.uug_conversation.specs.Left.{IsLeft, left_by}
+use Rattle.uug_conversation.proofs.StoredLemmas.{Contains-head, Contains-tail}
 use Rattle.uug_conversation.proofs.ToldLemmas.{fits_given, given_is_taken}
-use Rattle.uug_conversation.proofs.TurnLemmas.{Fits, Open, said_kind, said_bytes, own_says, other_says}
+use Rattle.uug_conversation.proofs.TurnLemmas.{Fits, LeavesFronts, Open, said_kind, said_bytes, own_says, other_says}
 use Rattle.uug_conversation.proofs.ResumingLemmas.{GoesBehind, goes_behind, rest_sent, whole_again}
 
-module _ (measure_of : Side → Measure) (positive : (side : Side) → 0 < (measure_of side).size) (me : Side) (h : Holdings) where
+module _ (measure_of : Side → Measure) (positive : (side : Side) → 0 < (measure_of side).size) (me : Side) (giver : Party) (h : Holdings) where
   -- what an end replies accords with these turns
   abbrev pub FitsReply : Reply → List Turn → Type 0
-  FitsReply r ts = Fits h measure_of me r.state (all_messages (measure_of me) r.says) ts
+  FitsReply r ts = Fits giver h measure_of me r.state (all_messages (measure_of me) r.says) ts
 
   -- whatever became of the jobs before these
   abbrev pub Masters : List Job → List Turn → Type 0
@@ -44,19 +51,20 @@ module _ (measure_of : Side → Measure) (positive : (side : Side) → 0 < (meas
   lists passed jobs struck failed = record { passed = passed; ahead = jobs; struck = struck; failed = failed }
 
   pub say : {said : Said} {moves : List Move} {keeps : List Kept} {ts : List Turn} {s : State} {left : List (List ℕ)} →
-      IsReadBack said → Fits h measure_of me s left ts →
-      Fits h measure_of me s (said_messages (measure_of me) said ++ left)
+      IsReadBack said → Fits giver h measure_of me s left ts →
+      Fits giver h measure_of me s (said_messages (measure_of me) said ++ left)
       (record { speaker = me; said = said; moves = moves; keeps = keeps } ∷ ts)
   say {said} {moves} {keeps} {ts} {s} {left} back fits =
-      own_says measure_of positive me h said moves keeps ts s left back fits.accords
+      own_says measure_of positive me giver h said moves keeps ts s left back fits.accords
 
   -- a text or a file, by the reply to it
   pub hear_text : {said : Said} {moves : List Move} {keeps : List Kept} {ts : List Turn} {l : Lists} {w : Awaits} {r : Reply} →
-      IsReadBack said → said_kind said ≡ kind_awaited w → Open w → on_whole (kind_awaited w) h w (said_bytes said) l ≡ r →
+      IsReadBack said → said_kind said ≡ kind_awaited w →
+      LeavesFronts giver h l w (said_messages (measure_of (other me)) said) → Open w → on_whole (kind_awaited w) h w (said_bytes said) l ≡ r →
       r.state.lists ≡ moved moves l → r.keeps ≡ keeps → FitsReply r ts →
-      Fits h measure_of me (between l w) [] (record { speaker = other me; said = said; moves = moves; keeps = keeps } ∷ ts)
-  hear_text {said} {moves} {keeps} {ts} {l} {w} {r} back kind opened e lists_so keeps_so fits =
-      other_says measure_of positive me h said moves keeps ts l w back kind opened r e
+      Fits giver h measure_of me (between l w) [] (record { speaker = other me; said = said; moves = moves; keeps = keeps } ∷ ts)
+  hear_text {said} {moves} {keeps} {ts} {l} {w} {r} back kind fronts opened e lists_so keeps_so fits =
+      other_says measure_of positive me giver h said moves keeps ts l w back kind fronts opened r e
       (record { lists_moved = lists_so; kept = keeps_so }) fits
 
   -- a file that comes as it was told of is kept where it can be put in its place
@@ -88,33 +96,33 @@ module _ (measure_of : Side → Measure) (positive : (side : Side) → 0 < (meas
   send_offered source target user temp file e name front well Never immovable passed jobs struck failed ts back rest =
       let l = lists passed (job.Send source target user temp ∷ jobs) struck failed in
       say back.0
-      (hear_text {r = goes_on h (moved_once fail l) []} back.1.0 refl (record { not_over = refl; not_bad = refl; not_parted = refl })
+      (hear_text {r = goes_on h (moved_once fail l) []} back.1.0 refl (λ front rest e. tt) (record { not_over = refl; not_bad = refl; not_parted = refl })
       refl refl refl
       (rest passed struck (failed ++ job.Send source target user temp ∷ [])))
   send_offered source target user temp file e name front well Later immovable passed jobs struck failed ts back rest =
       let l = lists passed (job.Send source target user temp ∷ jobs) struck failed in
       say back.0
-      (hear_text {r = goes_on h (moved_once pass l) []} back.1.0 refl (record { not_over = refl; not_bad = refl; not_parted = refl })
+      (hear_text {r = goes_on h (moved_once pass l) []} back.1.0 refl (λ front rest e. tt) (record { not_over = refl; not_bad = refl; not_parted = refl })
       refl refl refl
       (rest (passed ++ job.Send source target user temp ∷ []) struck failed))
   send_offered source target user temp file e name front well Yes false passed jobs struck failed ts back rest =
       let l = lists passed (job.Send source target user temp ∷ jobs) struck failed in
       say back.0
       (hear_text {r = replies l awaits.SentFileDone (the_file (drop (length front) file.bytes) ∷ [])} back.1.0 refl
-      (record { not_over = refl; not_bad = refl; not_parted = refl })
+      (λ front rest e. tt) (record { not_over = refl; not_bad = refl; not_parted = refl })
       (rest_asked source target user temp file e front well back.1.0 passed jobs struck failed) refl refl
       (say back.1.1.0
-      (hear_text {r = goes_on h (moved_once strike l) []} back.1.1.1.0 refl (record { not_over = refl; not_bad = refl; not_parted = refl })
+      (hear_text {r = goes_on h (moved_once strike l) []} back.1.1.1.0 refl (λ front rest e. tt) (record { not_over = refl; not_bad = refl; not_parted = refl })
       refl refl refl
       (rest passed (struck ++ job.Send source target user temp ∷ []) failed))))
   send_offered source target user temp file e name front well Yes true passed jobs struck failed ts back rest =
       let l = lists passed (job.Send source target user temp ∷ jobs) struck failed in
       say back.0
       (hear_text {r = replies l awaits.SentFileDone (the_file (drop (length front) file.bytes) ∷ [])} back.1.0 refl
-      (record { not_over = refl; not_bad = refl; not_parted = refl })
+      (λ front rest e. tt) (record { not_over = refl; not_bad = refl; not_parted = refl })
       (rest_asked source target user temp file e front well back.1.0 passed jobs struck failed) refl refl
       (say back.1.1.0
-      (hear_text {r = goes_on h (moved_once fail l) []} back.1.1.1.0 refl (record { not_over = refl; not_bad = refl; not_parted = refl })
+      (hear_text {r = goes_on h (moved_once fail l) []} back.1.1.1.0 refl (λ front rest e. tt) (record { not_over = refl; not_bad = refl; not_parted = refl })
       refl refl refl
       (rest passed struck (failed ++ job.Send source target user temp ∷ [])))))
 
@@ -148,33 +156,33 @@ module _ (measure_of : Side → Measure) (positive : (side : Side) → 0 < (meas
   request_as_master digests source target user None false immovable e passed jobs struck failed ts back rest =
       let l = lists passed (job.Request source target user ∷ jobs) struck failed in
       say back.0
-      (hear_text {r = goes_on h (moved_once fail l) []} back.1.0 refl (record { not_over = refl; not_bad = refl; not_parted = refl })
+      (hear_text {r = goes_on h (moved_once fail l) []} back.1.0 refl (λ front rest e. tt) (record { not_over = refl; not_bad = refl; not_parted = refl })
       refl refl refl
       (rest passed struck (failed ++ job.Request source target user ∷ [])))
   request_as_master digests source target user None true immovable e passed jobs struck failed ts back rest =
       let l = lists passed (job.Request source target user ∷ jobs) struck failed in
       say back.0
-      (hear_text {r = goes_on h (moved_once pass l) []} back.1.0 refl (record { not_over = refl; not_bad = refl; not_parted = refl })
+      (hear_text {r = goes_on h (moved_once pass l) []} back.1.0 refl (λ front rest e. tt) (record { not_over = refl; not_bad = refl; not_parted = refl })
       refl refl refl
       (rest (passed ++ job.Request source target user ∷ []) struck failed))
   request_as_master digests source target user (Some file) delayed false e passed jobs struck failed ts back rest =
       let l = lists passed (job.Request source target user ∷ jobs) struck failed in
       say back.0
       (hear_text {r = replies l (awaits.AskedFile file.mode (heard h.digests (told_of digests (Some file)))) []} back.1.0 refl
-      (record { not_over = refl; not_bad = refl; not_parted = refl })
+      (λ front rest e. tt) (record { not_over = refl; not_bad = refl; not_parted = refl })
       (ap₂ (λ t a. on_request_answer h (heard h.digests t) (or_wished a h.lenient (giving_said file.mode (told_of digests (Some file)))) l) back.1.0.2 back.1.0.1) refl refl
       (hear_text {r = keeps (kept_as (h.landing source target) file) (goes_on h (moved_once strike l) (the_answer answer.DoneYes ∷ []))} back.1.1.0 refl
-      (record { not_over = refl; not_bad = refl; not_parted = refl })
+      (λ front rest e. tt) (record { not_over = refl; not_bad = refl; not_parted = refl })
       (ap (λ z. on_asked_file h z (kept_as (h.landing source target) file) l) (verdict_is digests (h.landing source target) file false e)) refl refl
       (say back.1.1.1.0 (rest passed (struck ++ job.Request source target user ∷ []) failed))))
   request_as_master digests source target user (Some file) delayed true e passed jobs struck failed ts back rest =
       let l = lists passed (job.Request source target user ∷ jobs) struck failed in
       say back.0
       (hear_text {r = replies l (awaits.AskedFile file.mode (heard h.digests (told_of digests (Some file)))) []} back.1.0 refl
-      (record { not_over = refl; not_bad = refl; not_parted = refl })
+      (λ front rest e. tt) (record { not_over = refl; not_bad = refl; not_parted = refl })
       (ap₂ (λ t a. on_request_answer h (heard h.digests t) (or_wished a h.lenient (giving_said file.mode (told_of digests (Some file)))) l) back.1.0.2 back.1.0.1) refl refl
       (hear_text {r = goes_on h (moved_once fail l) (the_answer answer.DoneNever ∷ [])} back.1.1.0 refl
-      (record { not_over = refl; not_bad = refl; not_parted = refl })
+      (λ front rest e. tt) (record { not_over = refl; not_bad = refl; not_parted = refl })
       (ap (λ z. on_asked_file h z (kept_as (h.landing source target) file) l) (verdict_is digests (h.landing source target) file true e)) refl refl
       (say back.1.1.1.0 (rest passed struck (failed ++ job.Request source target user ∷ [])))))
 
@@ -274,52 +282,90 @@ module _ (measure_of : Side → Measure) (positive : (side : Side) → 0 < (meas
       (ap (λ z. z ++ drop (length front) file.bytes) held ∙ whole_again front file.bytes well.is_front)
       ∙ ap (λ z. on_sent_file z (kept_as target file) l) (verdict_is digests target file immovable i)
 
-  send_as_slave : (digests : Bool) (source target user : List ℕ) (temp : Option (List ℕ)) (found : Option File) (front : List ℕ) →
-      ((file : File) → found ≡ Some file → front_of h (fetched_by source temp) (heard h.digests (told_of digests (Some file))) ≡ front) →
-      ((file : File) → found ≡ Some file → GoesBehind digests front file) →
+  -- wherever the session ends in the middle of the rest, what was held and what has come is a front of the file
+  sent_left : (source target user : List ℕ) (temp : Option (List ℕ)) (file : File) (front : List ℕ) (told : Option FileDigest) →
+      heard h.digests (told_of giver.holdings.digests (Some file)) ≡ told → front_of h (fetched_by source temp) told ≡ front →
+      GoesBehind giver.holdings.digests front file → (name : List ℕ) (mode : ℕ) → to_give giver.holdings (fetched_by source temp) ≡ Some file →
+      Contains giver.jobs (job.Send source target user temp) → (came : List ℕ) → IsFront came (drop (length front) file.bytes) →
+      IsLeft giver h (left_by h (awaits.SentFile (fetched_by source temp) name mode told) came)
+  sent_left source target user temp file front None is held well name mode given inside came is_front = tt
+  sent_left source target user temp file front (Some told) is held well name mode given inside came is_front = record {
+    source = source;
+    target = target;
+    user = user;
+    temp = temp;
+    file = file;
+    is_job = inside;
+    is_source = refl;
+    is_given = given;
+    is_told = is;
+    front = (
+      is_front.0,
+      sym (whole_again front file.bytes well.is_front) ∙ ap (λ z. front ++ z) is_front.1
+          ∙ sym (append_assoc front came is_front.0) ∙ ap (λ z. (z ++ came) ++ is_front.0) (sym held),
+    );
+  }
+
+  rest_left : (source target user : List ℕ) (temp : Option (List ℕ)) (file : File) (front : List ℕ) (told : Option FileDigest) →
+      heard h.digests (told_of giver.holdings.digests (Some file)) ≡ told → front_of h (fetched_by source temp) told ≡ front →
+      GoesBehind giver.holdings.digests front file → (name : List ℕ) (mode : ℕ) (l : Lists) → to_give giver.holdings (fetched_by source temp) ≡ Some file →
+      Contains giver.jobs (job.Send source target user temp) →
+      LeavesFronts giver h l (awaits.SentFile (fetched_by source temp) name mode told) (said_messages (measure_of (other me)) (the_file (drop (length front) file.bytes)))
+  rest_left source target user temp file front told is held well name mode l given inside came rest e =
+      let bytes = drop (length front) file.bytes in
+      let whole = file_back (measure_of (other me)).size FILE_MAX bytes (positive (other me)) in
+      sent_left source target user temp file front told is held well name mode given inside (concat came)
+      (concat rest, sym (ap (λ g. g.bytes) whole.whole) ∙ ap concat e ∙ concat-append came rest)
+
+  send_as_slave : (source target user : List ℕ) (temp : Option (List ℕ)) (found : Option File) →
+      to_give giver.holdings (fetched_by source temp) ≡ found → Contains giver.jobs (job.Send source target user temp) → (front : List ℕ) →
+      ((file : File) → found ≡ Some file → front_of h (fetched_by source temp) (heard h.digests (told_of giver.holdings.digests (Some file))) ≡ front) →
+      ((file : File) → found ≡ Some file → GoesBehind giver.holdings.digests front file) →
       (verdict : Verdict) → h.verdict (h.landing source target) ≡ verdict → (immovable : Bool) →
       h.immovable (h.landing source target) ≡ immovable →
       (next : List Move) (l : Lists) (ts : List Turn) →
-      EachTurn (λ t. IsReadBack t.said) (send_exchange (other me) me digests source target user temp found (h.landing source target) front verdict immovable next ts) →
-      Fits h measure_of me (between l awaits.Order) [] ts →
-      Fits h measure_of me (between l awaits.Order) []
-      (send_exchange (other me) me digests source target user temp found (h.landing source target) front verdict immovable next ts)
-  send_as_slave digests source target user temp None front held well verdict v immovable i next l ts back rest = rest
-  send_as_slave digests source target user temp (Some file) front held well Never v immovable i next l ts back rest =
+      EachTurn (λ t. IsReadBack t.said) (send_exchange (other me) me giver.holdings.digests source target user temp found (h.landing source target) front verdict immovable next ts) →
+      Fits giver h measure_of me (between l awaits.Order) [] ts →
+      Fits giver h measure_of me (between l awaits.Order) []
+      (send_exchange (other me) me giver.holdings.digests source target user temp found (h.landing source target) front verdict immovable next ts)
+  send_as_slave source target user temp None given inside front held well verdict v immovable i next l ts back rest = rest
+  send_as_slave source target user temp (Some file) given inside front held well Never v immovable i next l ts back rest =
       hear_text {r = replies l awaits.Order (the_answer answer.SendNever ∷ [])} back.0 refl
-      (record { not_over = refl; not_bad = refl; not_parted = refl })
-      (order_heard (order.Send source target user temp file.mode) (told_of digests (Some file)) l back.0
-      ∙ ap (λ z. on_send (unless_too_large (h.lenient && is_too_large (heard h.digests (told_of digests (Some file)))) z)
-      (front_of h (fetched_by source temp) (heard h.digests (told_of digests (Some file)))) (fetched_by source temp) (h.landing source target)
-      file.mode (heard h.digests (told_of digests (Some file))) l) v) refl refl
+      (λ front rest e. tt) (record { not_over = refl; not_bad = refl; not_parted = refl })
+      (order_heard (order.Send source target user temp file.mode) (told_of giver.holdings.digests (Some file)) l back.0
+      ∙ ap (λ z. on_send (unless_too_large (h.lenient && is_too_large (heard h.digests (told_of giver.holdings.digests (Some file)))) z)
+      (front_of h (fetched_by source temp) (heard h.digests (told_of giver.holdings.digests (Some file)))) (fetched_by source temp) (h.landing source target)
+      file.mode (heard h.digests (told_of giver.holdings.digests (Some file))) l) v) refl refl
       (say back.1.0 rest)
-  send_as_slave digests source target user temp (Some file) front held well Later v immovable i next l ts back rest =
+  send_as_slave source target user temp (Some file) given inside front held well Later v immovable i next l ts back rest =
       hear_text {r = replies l awaits.Order (the_answer answer.SendLater ∷ [])} back.0 refl
-      (record { not_over = refl; not_bad = refl; not_parted = refl })
-      (order_heard (order.Send source target user temp file.mode) (told_of digests (Some file)) l back.0
-      ∙ ap (λ z. on_send (unless_too_large (h.lenient && is_too_large (heard h.digests (told_of digests (Some file)))) z)
-      (front_of h (fetched_by source temp) (heard h.digests (told_of digests (Some file)))) (fetched_by source temp) (h.landing source target)
-      file.mode (heard h.digests (told_of digests (Some file))) l) v) refl refl
+      (λ front rest e. tt) (record { not_over = refl; not_bad = refl; not_parted = refl })
+      (order_heard (order.Send source target user temp file.mode) (told_of giver.holdings.digests (Some file)) l back.0
+      ∙ ap (λ z. on_send (unless_too_large (h.lenient && is_too_large (heard h.digests (told_of giver.holdings.digests (Some file)))) z)
+      (front_of h (fetched_by source temp) (heard h.digests (told_of giver.holdings.digests (Some file)))) (fetched_by source temp) (h.landing source target)
+      file.mode (heard h.digests (told_of giver.holdings.digests (Some file))) l) v) refl refl
       (say back.1.0 rest)
-  send_as_slave digests source target user temp (Some file) front held well Yes v false i next l ts back rest =
-      let told = heard h.digests (told_of digests (Some file)) in
+  send_as_slave source target user temp (Some file) given inside front held well Yes v false i next l ts back rest =
+      let told = heard h.digests (told_of giver.holdings.digests (Some file)) in
       hear_text {r = replies l (awaits.SentFile (fetched_by source temp) (h.landing source target) file.mode told) (the_consent (length front) ∷ [])} back.0 refl
-      (record { not_over = refl; not_bad = refl; not_parted = refl })
-      (consent_said digests source target user temp file front (held file refl) (well file refl) v l back.0) refl refl
+      (λ front rest e. tt) (record { not_over = refl; not_bad = refl; not_parted = refl })
+      (consent_said giver.holdings.digests source target user temp file front (held file refl) (well file refl) v l back.0) refl refl
       (say back.1.0
       (hear_text {r = keeps (kept_as (h.landing source target) file) (replies l awaits.Order (the_answer answer.DoneYes ∷ []))} back.1.1.0 refl
+      (rest_left source target user temp file front told refl (held file refl) (well file refl) (h.landing source target) file.mode l given inside)
       (record { not_over = refl; not_bad = refl; not_parted = refl })
-      (rest_taken digests (fetched_by source temp) (h.landing source target) file front (held file refl) (well file refl) false i l) refl refl
+      (rest_taken giver.holdings.digests (fetched_by source temp) (h.landing source target) file front (held file refl) (well file refl) false i l) refl refl
       (say back.1.1.1.0 rest)))
-  send_as_slave digests source target user temp (Some file) front held well Yes v true i next l ts back rest =
-      let told = heard h.digests (told_of digests (Some file)) in
+  send_as_slave source target user temp (Some file) given inside front held well Yes v true i next l ts back rest =
+      let told = heard h.digests (told_of giver.holdings.digests (Some file)) in
       hear_text {r = replies l (awaits.SentFile (fetched_by source temp) (h.landing source target) file.mode told) (the_consent (length front) ∷ [])} back.0 refl
-      (record { not_over = refl; not_bad = refl; not_parted = refl })
-      (consent_said digests source target user temp file front (held file refl) (well file refl) v l back.0) refl refl
+      (λ front rest e. tt) (record { not_over = refl; not_bad = refl; not_parted = refl })
+      (consent_said giver.holdings.digests source target user temp file front (held file refl) (well file refl) v l back.0) refl refl
       (say back.1.0
       (hear_text {r = replies l awaits.Order (the_answer answer.DoneNever ∷ [])} back.1.1.0 refl
+      (rest_left source target user temp file front told refl (held file refl) (well file refl) (h.landing source target) file.mode l given inside)
       (record { not_over = refl; not_bad = refl; not_parted = refl })
-      (rest_taken digests (fetched_by source temp) (h.landing source target) file front (held file refl) (well file refl) true i l) refl refl
+      (rest_taken giver.holdings.digests (fetched_by source temp) (h.landing source target) file front (held file refl) (well file refl) true i l) refl refl
       (say back.1.1.1.0 rest)))
 
   -- ---- Request, at the slave's
@@ -328,55 +374,55 @@ module _ (measure_of : Side → Measure) (positive : (side : Side) → 0 < (meas
       h.delayed source ≡ delayed → (name : List ℕ) (immovable : Bool) →
       (next : List Move) (l : Lists) (ts : List Turn) →
       EachTurn (λ t. IsReadBack t.said) (request_exchange (other me) me h.digests source target user found delayed name immovable next ts) →
-      Fits h measure_of me (between l awaits.Order) [] ts →
-      Fits h measure_of me (between l awaits.Order) [] (request_exchange (other me) me h.digests source target user found delayed name immovable next ts)
+      Fits giver h measure_of me (between l awaits.Order) [] ts →
+      Fits giver h measure_of me (between l awaits.Order) [] (request_exchange (other me) me h.digests source target user found delayed name immovable next ts)
   request_as_slave source target user None e false d name immovable next l ts back rest =
       hear_text {r = replies l awaits.Order (the_answer answer.GiveNever ∷ [])} back.0 refl
-      (record { not_over = refl; not_bad = refl; not_parted = refl })
+      (λ front rest e. tt) (record { not_over = refl; not_bad = refl; not_parted = refl })
       (order_heard (order.Request source target user) None l back.0 ∙ ap₂ (λ f b. on_request h.digests f b l) e d) refl refl
       (say back.1.0 rest)
   request_as_slave source target user None e true d name immovable next l ts back rest =
       hear_text {r = replies l awaits.Order (the_answer answer.GiveLater ∷ [])} back.0 refl
-      (record { not_over = refl; not_bad = refl; not_parted = refl })
+      (λ front rest e. tt) (record { not_over = refl; not_bad = refl; not_parted = refl })
       (order_heard (order.Request source target user) None l back.0 ∙ ap₂ (λ f b. on_request h.digests f b l) e d) refl refl
       (say back.1.0 rest)
   request_as_slave source target user (Some file) e delayed d name false next l ts back rest =
       hear_text {r = replies l awaits.GivenFileDone (the_giving file.mode (told_of h.digests (Some file)) ∷ the_file file.bytes ∷ [])} back.0 refl
-      (record { not_over = refl; not_bad = refl; not_parted = refl })
+      (λ front rest e. tt) (record { not_over = refl; not_bad = refl; not_parted = refl })
       (order_heard (order.Request source target user) None l back.0 ∙ ap (λ f. on_request h.digests f (h.delayed source) l) e) refl refl
       (say back.1.0 (say back.1.1.0
       (hear_text {r = replies l awaits.Order []} back.1.1.1.0 refl
-      (record { not_over = refl; not_bad = refl; not_parted = refl }) refl refl refl rest)))
+      (λ front rest e. tt) (record { not_over = refl; not_bad = refl; not_parted = refl }) refl refl refl rest)))
   request_as_slave source target user (Some file) e delayed d name true next l ts back rest =
       hear_text {r = replies l awaits.GivenFileDone (the_giving file.mode (told_of h.digests (Some file)) ∷ the_file file.bytes ∷ [])} back.0 refl
-      (record { not_over = refl; not_bad = refl; not_parted = refl })
+      (λ front rest e. tt) (record { not_over = refl; not_bad = refl; not_parted = refl })
       (order_heard (order.Request source target user) None l back.0 ∙ ap (λ f. on_request h.digests f (h.delayed source) l) e) refl refl
       (say back.1.0 (say back.1.1.0
       (hear_text {r = replies l awaits.Order []} back.1.1.1.0 refl
-      (record { not_over = refl; not_bad = refl; not_parted = refl }) refl refl refl rest)))
+      (λ front rest e. tt) (record { not_over = refl; not_bad = refl; not_parted = refl }) refl refl refl rest)))
 
   -- ---- all jobs of the other end, at the slave's side: its own jobs don't move
 
-  job_as_slave : (others : Holdings) → HoldsFronts others h → (j : Job) (next : List Move) (l : Lists) (ts : List Turn) →
-      EachTurn (λ t. IsReadBack t.said) (exchange (other me) me others h j next ts) →
-      Fits h measure_of me (between l awaits.Order) [] ts →
-      Fits h measure_of me (between l awaits.Order) [] (exchange (other me) me others h j next ts)
-  job_as_slave others fronts (job.Send source target user temp) next l ts back rest =
-      let found = to_give others (fetched_by source temp) in
-      send_as_slave others.digests source target user temp found (front_held h others.digests (fetched_by source temp) found)
-      (λ file e. ap (λ z. front_held h others.digests (fetched_by source temp) z) (sym e))
-      (goes_behind others h fronts (fetched_by source temp) found refl) (h.verdict (h.landing source target)) refl
+  job_as_slave : HoldsFronts giver.holdings h → (j : Job) → Contains giver.jobs j → (next : List Move) (l : Lists) (ts : List Turn) →
+      EachTurn (λ t. IsReadBack t.said) (exchange (other me) me giver.holdings h j next ts) →
+      Fits giver h measure_of me (between l awaits.Order) [] ts →
+      Fits giver h measure_of me (between l awaits.Order) [] (exchange (other me) me giver.holdings h j next ts)
+  job_as_slave fronts (job.Send source target user temp) inside next l ts back rest =
+      let found = to_give giver.holdings (fetched_by source temp) in
+      send_as_slave source target user temp found refl inside (front_held h giver.holdings.digests (fetched_by source temp) found)
+      (λ file e. ap (λ z. front_held h giver.holdings.digests (fetched_by source temp) z) (sym e))
+      (goes_behind giver.holdings h fronts (fetched_by source temp) found refl) (h.verdict (h.landing source target)) refl
       (h.immovable (h.landing source target)) refl next l ts back rest
-  job_as_slave others fronts (job.Request source target user) next l ts back rest =
-      request_as_slave source target user (to_give h source) refl (h.delayed source) refl (others.landing source target)
-      (others.immovable (others.landing source target)) next l ts back rest
+  job_as_slave fronts (job.Request source target user) inside next l ts back rest =
+      request_as_slave source target user (to_give h source) refl (h.delayed source) refl (giver.holdings.landing source target)
+      (giver.holdings.immovable (giver.holdings.landing source target)) next l ts back rest
 
-  pub as_slave : (others : Holdings) → HoldsFronts others h → (jobs : List Job) (l : Lists) (ts : List Turn) →
-      EachTurn (λ t. IsReadBack t.said) (exchanges (other me) me others h jobs ts) →
-      Fits h measure_of me (between l awaits.Order) [] ts →
-      Fits h measure_of me (between l awaits.Order) [] (exchanges (other me) me others h jobs ts)
-  as_slave others fronts [] l ts back rest = rest
-  as_slave others fronts (j ∷ jobs) l ts back rest =
-      job_as_slave others fronts j (choice others jobs).failing l (exchanges (other me) me others h jobs ts) back
-      (as_slave others fronts jobs l ts
-      (behind_exchange (other me) me others h j (choice others jobs).failing (exchanges (other me) me others h jobs ts) back) rest)
+  pub as_slave : HoldsFronts giver.holdings h → (jobs : List Job) → ((j : Job) → Contains jobs j → Contains giver.jobs j) → (l : Lists) (ts : List Turn) →
+      EachTurn (λ t. IsReadBack t.said) (exchanges (other me) me giver.holdings h jobs ts) →
+      Fits giver h measure_of me (between l awaits.Order) [] ts →
+      Fits giver h measure_of me (between l awaits.Order) [] (exchanges (other me) me giver.holdings h jobs ts)
+  as_slave fronts [] inside l ts back rest = rest
+  as_slave fronts (j ∷ jobs) inside l ts back rest =
+      job_as_slave fronts j (inside j (Contains-head j jobs)) (choice giver.holdings jobs).failing l (exchanges (other me) me giver.holdings h jobs ts) back
+      (as_slave fronts jobs (λ k i. inside k (Contains-tail j jobs k i)) l ts
+      (behind_exchange (other me) me giver.holdings h j (choice giver.holdings jobs).failing (exchanges (other me) me giver.holdings h jobs ts) back) rest)

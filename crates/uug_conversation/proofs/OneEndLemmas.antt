@@ -7,6 +7,7 @@ use Rattle.uug_conversation.specs.DialogueState.{behind_first, is_empty, replied
 use Rattle.uug_conversation.specs.EarlierJobs.{behind, state_behind, reply_behind}
 use Rattle.uug_conversation.specs.Holdings.{Kept, Holdings}
 use Rattle.uug_conversation.specs.Jobs.{at_start, pending}
+use Rattle.uug_conversation.specs.Left.{IsLeft, left_of}
 use Rattle.uug_conversation.specs.Machine.{opening, step}
 use Rattle.uug_conversation.specs.Messages.{conversation_messages}
 use Rattle.uug_conversation.specs.OneEnd.{LinkedEnd, link_up, Act, sends, takes, after_act, after_acts, Allows, AllAllowed, FollowsConversation}
@@ -177,6 +178,19 @@ module _ (me : Side) (a b : Party) (struck failed : List Job) (kept : List Kept)
         let first = link_up me (party me a b) struck failed kept in
         follows (after_acts (party me a b).holdings first acts)
         (holds_after_all first acts (record { tracks = tracks_first; first = refl }) allowed)
+
+    -- what is left where the session ends
+    pub turn_leaves : (giver : Party) → ((k : ℕ) → IsLeft giver (party me a b).holdings (left_of (party me a b).holdings (progress_at me a b k).state)) →
+        (acts : List Act) → AllAllowed me a b (link_up me (party me a b) struck failed kept) acts →
+        IsLeft giver (party me a b).holdings (left_of (party me a b).holdings
+        (after_acts (party me a b).holdings (link_up me (party me a b) struck failed kept) acts).talk.machine)
+    turn_leaves giver left acts allowed =
+        let p = party me a b in
+        let first = link_up me p struck failed kept in
+        let s = after_acts p.holdings first acts in
+        let h = holds_after_all first acts (record { tracks = tracks_first; first = refl }) allowed in
+        subst (λ z. IsLeft giver p.holdings (left_of p.holdings z)) (sym h.tracks.machine)
+        (subst (λ z. IsLeft giver p.holdings (left_of p.holdings (progress_after me p z).state)) (sym h.first) (left (length s.taken)))
 
 -- ---- jobs
 

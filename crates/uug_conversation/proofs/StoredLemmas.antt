@@ -77,10 +77,10 @@ record Ends : Type 0 where
   pub others_jobs : List Job
 
 -- each struck job has an entry of its own, where these jobs are those that each end has yet to move
-Contains-head : (job : Job) (jobs : List Job) → Contains (job ∷ jobs) job
+pub Contains-head : (job : Job) (jobs : List Job) → Contains (job ∷ jobs) job
 Contains-head job jobs = (0, omega arith, refl)
 
-Contains-tail : (first : Job) (jobs : List Job) (job : Job) → Contains jobs job → Contains (first ∷ jobs) job
+pub Contains-tail : (first : Job) (jobs : List Job) (job : Job) → Contains jobs job → Contains (first ∷ jobs) job
 Contains-tail first jobs job i = (suc i.0, omega (arith, i.1), i.2)
 
 abbrev Own : Ends → (ahead others_ahead : List Job) → Claim

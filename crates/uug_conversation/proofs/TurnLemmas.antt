@@ -11,6 +11,8 @@ use Rattle.uug_conversation.specs.Told.{giving_said, order_said}
 use Rattle.uug_conversation.specs.declared.awaits.Awaits.{Awaits}
 use Rattle.uug_conversation.specs.Holdings.{Kept, Holdings}
 use Rattle.uug_conversation.specs.Jobs.{Lists, Move}
+use Rattle.uug_conversation.specs.Left.{IsLeft, left_of}
+use Rattle.uug_conversation.specs.Party.{Party}
 use Rattle.uug_conversation.specs.Machine.{State, Reply, between, kind_awaited, on_whole, on_gathered, on_part, gathered_with, on_gathering, step}
 use Rattle.uug_conversation.specs.Messages.{Message, turn_messages, messages}
 use Rattle.uug_conversation.specs.ReadBack.{IsReadBack}
@@ -35,15 +37,15 @@ seen-other Called bytes moves keeps = refl
 
 -- ---- a turn of one's own
 
-module _ (me : Side) (h : Holdings) (measure : Measure) (s : State) (said : Said) (moves : List Move) (keeps : List Kept) where
-  own_chunks : (cs left : List (List ℕ)) (rest : List Message) → Accords h measure s left (view me rest) →
-      Accords h measure s (cs ++ left) (view me (turn_messages (record { speaker = me; said = said; moves = moves; keeps = keeps }) cs rest))
+module _ (me : Side) (giver : Party) (h : Holdings) (measure : Measure) (s : State) (said : Said) (moves : List Move) (keeps : List Kept) where
+  own_chunks : (cs left : List (List ℕ)) (rest : List Message) → Accords giver h measure s left (view me rest) →
+      Accords giver h measure s (cs ++ left) (view me (turn_messages (record { speaker = me; said = said; moves = moves; keeps = keeps }) cs rest))
   own_chunks [] left rest a = a
   own_chunks (c ∷ []) left rest a =
-      subst (λ z. Accords h measure s (c ∷ left) (z ∷ view me rest)) (sym (seen-own me c moves keeps)) (left, refl, a)
+      subst (λ z. Accords giver h measure s (c ∷ left) (z ∷ view me rest)) (sym (seen-own me c moves keeps)) (left, refl, a)
   own_chunks (c ∷ d ∷ cs) left rest a =
       let t : Turn = record { speaker = me; said = said; moves = moves; keeps = keeps } in
-      subst (λ z. Accords h measure s (c ∷ (d ∷ cs) ++ left) (z ∷ view me (turn_messages t (d ∷ cs) rest)))
+      subst (λ z. Accords giver h measure s (c ∷ (d ∷ cs) ++ left) (z ∷ view me (turn_messages t (d ∷ cs) rest)))
       (sym (seen-own me c [] [])) ((d ∷ cs) ++ left, refl, own_chunks (d ∷ cs) left rest a)
 
   own_chunks_say : (c : List ℕ) (cs : List (List ℕ)) (rest : List Message) →
@@ -103,11 +105,11 @@ gathered_amid l w front m e =
     (gathered_kind (kind_awaited w) front)
 
 -- by what the step is
-hears_by : (h : Holdings) (measure : Measure) (s : State) (m : List ℕ) (moves : List Move) (keeps : List Kept) (v : List Seen)
-    (r : Reply) → step h s m ≡ r → Listens s [] (none_left (own_messages v)) → Does s.lists moves keeps r →
-    Accords h measure r.state (all_messages measure r.says) v → Accords h measure s [] (hears m moves keeps ∷ v)
-hears_by h measure s m moves keeps v r e listens does a =
-    let both = subst (λ z. Does s.lists moves keeps z × Accords h measure z.state (all_messages measure z.says) v) (sym e) (does, a) in
+hears_by : (giver : Party) (h : Holdings) (measure : Measure) (s : State) (m : List ℕ) (moves : List Move) (keeps : List Kept) (v : List Seen)
+    (r : Reply) → step h s m ≡ r → Listens giver h s [] (none_left (own_messages v)) → Does s.lists moves keeps r →
+    Accords giver h measure r.state (all_messages measure r.says) v → Accords giver h measure s [] (hears m moves keeps ∷ v)
+hears_by giver h measure s m moves keeps v r e listens does a =
+    let both = subst (λ z. Does s.lists moves keeps z × Accords giver h measure z.state (all_messages measure z.says) v) (sym e) (does, a) in
     (listens, both.0, both.1)
 
 module _ (me : Side) (said : Said) (moves : List Move) (keeps : List Kept) where
@@ -127,10 +129,15 @@ pub record Waits (w : Awaits) (no_more : Bool) : Type 0 where
   pub not_bad : is_bad w ≡ false
   pub parted : has_said_all w ≡ no_more
 
-listens_amid : (l : Lists) (w : Awaits) (front : List (List ℕ)) (no_more : Bool) → Waits w no_more →
-    Listens (amid l w front) [] no_more
-listens_amid l w front no_more x =
-    record { nothing_left = refl; not_over = x.not_over; not_bad = x.not_bad; parted = x.parted }
+listens_amid : (giver : Party) (h : Holdings) (l : Lists) (w : Awaits) (front : List (List ℕ)) (no_more : Bool) → Waits w no_more →
+    IsLeft giver h (left_of h (amid l w front)) → Listens giver h (amid l w front) [] no_more
+listens_amid giver h l w front no_more x fronts =
+    record { nothing_left = refl; not_over = x.not_over; not_bad = x.not_bad; parted = x.parted; fronts = fronts }
+
+-- wherever the turn's messages end for now, what is left of a file is a front of it
+abbrev pub LeavesFronts : (giver : Party) → Holdings → Lists → Awaits → (messages : List (List ℕ)) → Type 0
+LeavesFronts giver h l w messages =
+    (front rest : List (List ℕ)) → messages ≡ front ++ rest → IsLeft giver h (left_of h (amid l w front))
 
 one_more : (front : List (List ℕ)) (c : List ℕ) (cs : List (List ℕ)) → front ++ c ∷ cs ≡ (front ++ c ∷ []) ++ cs
 one_more front c cs = sym (append_assoc front (c ∷ []) cs)
@@ -138,22 +145,23 @@ one_more front c cs = sym (append_assoc front (c ∷ []) cs)
 not_none : (d : List ℕ) (ds : List (List ℕ)) → d ∷ ds ≢ []
 not_none d ds e = absurd cc
 
-module _ (me : Side) (h : Holdings) (measure : Measure) (l : Lists) (w : Awaits) (held : List ℕ)
+module _ (me : Side) (giver : Party) (h : Holdings) (measure : Measure) (l : Lists) (w : Awaits) (held : List ℕ)
     (said : Said) (moves : List Move) (keeps : List Kept) (rest : List Message) where
   hear_chunks : length held ≤ limit_of (kind_awaited w) → Waits w (none_left (own_messages (view me rest))) →
       Does l moves keeps (on_whole (kind_awaited w) h w held l) →
-      Accords h measure (on_whole (kind_awaited w) h w held l).state
+      Accords giver h measure (on_whole (kind_awaited w) h w held l).state
       (all_messages measure (on_whole (kind_awaited w) h w held l).says) (view me rest) →
-      (front : List (List ℕ)) (c : List ℕ) (cs : List (List ℕ)) → (gathered (kind_awaited w) front).whole ≡ false →
+      (whole : List (List ℕ)) → LeavesFronts giver h l w whole →
+      (front : List (List ℕ)) (c : List ℕ) (cs : List (List ℕ)) → whole ≡ front ++ c ∷ cs → (gathered (kind_awaited w) front).whole ≡ false →
       GathersBack (kind_awaited w) (front ++ c ∷ cs) held →
-      Accords h measure (amid l w front) []
+      Accords giver h measure (amid l w front) []
       (view me (turn_messages (record { speaker = other me; said = said; moves = moves; keeps = keeps }) (c ∷ cs) rest))
-  hear_chunks limit waits does a front c [] e back =
-      subst (λ z. Accords h measure (amid l w front) [] (z ∷ view me rest)) (sym (seen-other me c moves keeps))
-      (hears_by h measure (amid l w front) c moves keeps (view me rest) (on_whole (kind_awaited w) h w held l)
+  hear_chunks limit waits does a whole fronts front c [] is e back =
+      subst (λ z. Accords giver h measure (amid l w front) [] (z ∷ view me rest)) (sym (seen-other me c moves keeps))
+      (hears_by giver h measure (amid l w front) c moves keeps (view me rest) (on_whole (kind_awaited w) h w held l)
       (whole_step h (amid l w front) c (kind_awaited w) held (sym (gathered_amid l w front c e) ∙ back.whole) limit)
-      (listens_amid l w front _ waits) does a)
-  hear_chunks limit waits does a front c (d ∷ cs) e back =
+      (listens_amid giver h l w front _ waits (fronts front (c ∷ []) is)) does a)
+  hear_chunks limit waits does a whole fronts front c (d ∷ cs) is e back =
       let t : Turn = record { speaker = other me; said = said; moves = moves; keeps = keeps } in
       let next = gathered_amid l w front c e in
       let open_still : (gathered (kind_awaited w) (front ++ c ∷ [])).whole ≡ false =
@@ -165,19 +173,19 @@ module _ (me : Side) (h : Holdings) (measure : Measure) (l : Lists) (w : Awaits)
         back.within front (d ∷ cs) c refl,
         length-append (gathered (kind_awaited w) front).bytes (part_of (kind_awaited w) c),
       ) in
-      subst (λ z. Accords h measure (amid l w front) [] (z ∷ view me (turn_messages t (d ∷ cs) rest))) (sym (seen-other me c [] []))
-      (hears_by h measure (amid l w front) c [] [] (view me (turn_messages t (d ∷ cs) rest))
+      subst (λ z. Accords giver h measure (amid l w front) [] (z ∷ view me (turn_messages t (d ∷ cs) rest))) (sym (seen-other me c [] []))
+      (hears_by giver h measure (amid l w front) c [] [] (view me (turn_messages t (d ∷ cs) rest))
       (record { state = amid l w (front ++ c ∷ []); says = []; keeps = [] })
       (part_step h (amid l w front) c (sym (ap (λ g. g.whole) next) ∙ open_still) fits
       ∙ ap (λ z. record { state = record { lists = l; awaits = w; gathered = z }; says = []; keeps = [] })
       (sym (ap (λ g. g.bytes) next)))
-      (listens_amid l w front _ (record {
+      (listens_amid giver h l w front _ (record {
         not_over = waits.not_over;
         not_bad = waits.not_bad;
         parted = waits.parted ∙ sym (ap none_left (others_say_nothing me said moves keeps (d ∷ cs) rest));
-      }))
+      }) (fronts front (c ∷ d ∷ cs) is))
       (record { lists_moved = refl; kept = refl })
-      (hear_chunks limit waits does a (front ++ c ∷ []) d cs open_still
+      (hear_chunks limit waits does a whole fronts (front ++ c ∷ []) d cs (is ∙ one_more front c (d ∷ cs)) open_still
       (subst (λ z. GathersBack (kind_awaited w) z held) (one_more front c (d ∷ cs)) back)))
 
 -- ---- whole turns
@@ -219,8 +227,8 @@ not_whole_yet : {kind : Kind} {held : List ℕ} → GathersBack kind [] held →
 not_whole_yet {kind} {held} back = let e : false ≡ true = sym (nothing_whole kind) ∙ ap (λ g. g.whole) back.whole in cc
 
 -- an end accords with these turns, and has something to say in them
-pub record Fits (h : Holdings) (measure_of : Side → Measure) (me : Side) (s : State) (left : List (List ℕ)) (ts : List Turn) : Type 0 where
-  pub accords : Accords h (measure_of me) s left (view me (messages measure_of ts))
+pub record Fits (giver : Party) (h : Holdings) (measure_of : Side → Measure) (me : Side) (s : State) (left : List (List ℕ)) (ts : List Turn) : Type 0 where
+  pub accords : Accords giver h (measure_of me) s left (view me (messages measure_of ts))
   pub speaks : none_left (own_messages (view me (messages measure_of ts))) ≡ false
 
 -- it awaits something, and has not parted
@@ -230,65 +238,68 @@ pub record Open (w : Awaits) : Type 0 where
   pub not_parted : has_said_all w ≡ false
 
 module _ (measure_of : Side → Measure) (positive : (side : Side) → 0 < (measure_of side).size) (me : Side)
-    (h : Holdings) (said : Said) (moves : List Move) (keeps : List Kept) (ts : List Turn) where
+    (giver : Party) (h : Holdings) (said : Said) (moves : List Move) (keeps : List Kept) (ts : List Turn) where
   own_by : (s : State) (left cs : List (List ℕ)) → {kind : Kind} {held : List ℕ} → GathersBack kind cs held →
-      Accords h (measure_of me) s left (view me (messages measure_of ts)) →
-      (Accords h (measure_of me) s (cs ++ left)
+      Accords giver h (measure_of me) s left (view me (messages measure_of ts)) →
+      (Accords giver h (measure_of me) s (cs ++ left)
       (view me (turn_messages (record { speaker = me; said = said; moves = moves; keeps = keeps }) cs (messages measure_of ts))))
       × (none_left (own_messages
       (view me (turn_messages (record { speaker = me; said = said; moves = moves; keeps = keeps }) cs (messages measure_of ts)))) ≡ false)
   own_by s left [] back a = absurd (not_whole_yet back)
   own_by s left (c ∷ cs) back a = (
-    own_chunks me h (measure_of me) s said moves keeps (c ∷ cs) left (messages measure_of ts) a,
-    own_chunks_say me h (measure_of me) s said moves keeps c cs (messages measure_of ts),
+    own_chunks me giver h (measure_of me) s said moves keeps (c ∷ cs) left (messages measure_of ts) a,
+    own_chunks_say me giver h (measure_of me) s said moves keeps c cs (messages measure_of ts),
   )
 
   pub own_says : (s : State) (left : List (List ℕ)) → IsReadBack said →
-      Accords h (measure_of me) s left (view me (messages measure_of ts)) →
-      Fits h measure_of me s (said_messages (measure_of me) said ++ left)
+      Accords giver h (measure_of me) s left (view me (messages measure_of ts)) →
+      Fits giver h measure_of me s (said_messages (measure_of me) said ++ left)
       (record { speaker = me; said = said; moves = moves; keeps = keeps } ∷ ts)
   own_says s left r a =
       let both = own_by s left (said_messages (measure_of me) said) (said_back (measure_of me) (positive me) said r) a in
       record { accords = both.0; speaks = both.1 }
 
   other_by : (l : Lists) (w : Awaits) (held : List ℕ) (cs : List (List ℕ)) → length held ≤ limit_of (kind_awaited w) →
-      GathersBack (kind_awaited w) cs held → Waits w (none_left (own_messages (view me (messages measure_of ts)))) →
+      GathersBack (kind_awaited w) cs held → LeavesFronts giver h l w cs → Waits w (none_left (own_messages (view me (messages measure_of ts)))) →
       Does l moves keeps (on_whole (kind_awaited w) h w held l) →
-      Accords h (measure_of me) (on_whole (kind_awaited w) h w held l).state
+      Accords giver h (measure_of me) (on_whole (kind_awaited w) h w held l).state
       (all_messages (measure_of me) (on_whole (kind_awaited w) h w held l).says) (view me (messages measure_of ts)) →
-      Accords h (measure_of me) (between l w) []
+      Accords giver h (measure_of me) (between l w) []
       (view me (turn_messages (record { speaker = other me; said = said; moves = moves; keeps = keeps }) cs (messages measure_of ts)))
-  other_by l w held [] limit back waits does a = absurd (not_whole_yet back)
-  other_by l w held (c ∷ cs) limit back waits does a =
-      subst (λ z. Accords h (measure_of me) (record { lists = l; awaits = w; gathered = z }) []
+  other_by l w held [] limit back fronts waits does a = absurd (not_whole_yet back)
+  other_by l w held (c ∷ cs) limit back fronts waits does a =
+      subst (λ z. Accords giver h (measure_of me) (record { lists = l; awaits = w; gathered = z }) []
       (view me (turn_messages (record { speaker = other me; said = said; moves = moves; keeps = keeps }) (c ∷ cs) (messages measure_of ts))))
       (nothing_held (kind_awaited w))
-      (hear_chunks me h (measure_of me) l w held said moves keeps (messages measure_of ts) limit waits does a [] c cs
+      (hear_chunks me giver h (measure_of me) l w held said moves keeps (messages measure_of ts) limit waits does a (c ∷ cs) fronts [] c cs refl
       (nothing_whole (kind_awaited w)) back)
 
   -- by the reply to it
   pub other_hears : (l : Lists) (w : Awaits) → IsReadBack said → said_kind said ≡ kind_awaited w →
+      LeavesFronts giver h l w (said_messages (measure_of (other me)) said) →
       Waits w (none_left (own_messages (view me (messages measure_of ts)))) → (r : Reply) →
       on_whole (kind_awaited w) h w (said_bytes said) l ≡ r → Does l moves keeps r →
-      Accords h (measure_of me) r.state (all_messages (measure_of me) r.says) (view me (messages measure_of ts)) →
-      Accords h (measure_of me) (between l w) []
+      Accords giver h (measure_of me) r.state (all_messages (measure_of me) r.says) (view me (messages measure_of ts)) →
+      Accords giver h (measure_of me) (between l w) []
       (view me (messages measure_of (record { speaker = other me; said = said; moves = moves; keeps = keeps } ∷ ts)))
-  other_hears l w b k waits r e does a =
+  other_hears l w b k fronts waits r e does a =
       other_by l w (said_bytes said) (said_messages (measure_of (other me)) said)
       (subst (λ z. length (said_bytes said) ≤ limit_of z) k (said_fits said b))
       (subst (λ z. GathersBack z (said_messages (measure_of (other me)) said) (said_bytes said)) k
       (said_back (measure_of (other me)) (positive (other me)) said b))
+      fronts
       waits
       (subst (λ z. Does l moves keeps z) (sym e) does)
-      (subst (λ z. Accords h (measure_of me) z.state (all_messages (measure_of me) z.says) (view me (messages measure_of ts))) (sym e) a)
+      (subst (λ z. Accords giver h (measure_of me) z.state (all_messages (measure_of me) z.says) (view me (messages measure_of ts))) (sym e) a)
 
-  pub other_says : (l : Lists) (w : Awaits) → IsReadBack said → said_kind said ≡ kind_awaited w → Open w → (r : Reply) →
+  pub other_says : (l : Lists) (w : Awaits) → IsReadBack said → said_kind said ≡ kind_awaited w →
+      LeavesFronts giver h l w (said_messages (measure_of (other me)) said) → Open w → (r : Reply) →
       on_whole (kind_awaited w) h w (said_bytes said) l ≡ r → Does l moves keeps r →
-      Fits h measure_of me r.state (all_messages (measure_of me) r.says) ts →
-      Fits h measure_of me (between l w) []
+      Fits giver h measure_of me r.state (all_messages (measure_of me) r.says) ts →
+      Fits giver h measure_of me (between l w) []
       (record { speaker = other me; said = said; moves = moves; keeps = keeps } ∷ ts)
-  other_says l w b k o r e does f = record {
-    accords = other_hears l w b k
+  other_says l w b k fronts o r e does f = record {
+    accords = other_hears l w b k fronts
         (record { not_over = o.not_over; not_bad = o.not_bad; parted = o.not_parted ∙ sym f.speaks }) r e does f.accords;
     speaks = ap none_left (others_say_nothing me said moves keeps (said_messages (measure_of (other me)) said) (messages measure_of ts)) ∙ f.speaks;
   }

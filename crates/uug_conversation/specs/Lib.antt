@@ -15,6 +15,7 @@ pub mod HeldBytes
 pub mod Holdings
 pub mod Jobs
 pub mod Keeper
+pub mod Left
 pub mod Machine
 pub mod MemoryHoldings
 pub mod Messages

@@ -5,20 +5,25 @@ ghost use Rattle.uug_conversation.specs.Conversation.{conversation};
 ghost use Rattle.uug_conversation.specs.DialogueState.{DialogueState, replied, taking};
 ghost use Rattle.uug_conversation.specs.Holdings.{File, Holdings, Kept, to_give};
 ghost use Rattle.uug_conversation.specs.Jobs.{Lists, moved_once, pass};
+ghost use Rattle.uug_conversation.specs.Left.{IsLeft, left_of};
 ghost use Rattle.uug_conversation.specs.Machine.{State, gathered_with, goes_on, is_dropped, kind_awaited, on_past_limit, on_request_answer, on_text, opening, out_of_turn, reply_to, send_verdict, step};
 ghost use Rattle.uug_conversation.specs.OneEnd.{Act, AllAllowed, FollowsConversation, after_acts, link_up};
 ghost use Rattle.uug_conversation.specs.Party.{HoldFronts, Party, IsSound};
 ghost use Rattle.uug_conversation.specs.PlainMachine.{AreOff, awaits_plainly, plain_opening, plain_reply_to, plain_step};
 ghost use Rattle.uug_conversation.specs.ReadBack.{EachTurn, IsReadBack};
 ghost use Rattle.uug_conversation.specs.declared.side.Side.{Side};
+ghost use Rattle.uug_conversation.specs.Turns.{other};
 ghost use Rattle.uug_conversation.specs.View.{party};
 ghost use Rattle.uug_conversation.specs.declared.job.Job.{Job};
 ghost use Rattle.uug_conversation.specs.declared.awaits.Awaits.TheVariants.{GivenFileDone, Order, RequestAnswer, SendAnswer, SentFileDone};
 ghost use Rattle.uug_conversation.specs.Told.{fits, heard, told_of, told_with};
 ghost use Rattle.uug_digest.specs.Digests.{digest_of, told_by_answer, told_by_order};
 ghost use Rattle.uug_digest.specs.declared.file_digest.FileDigest.{FileDigest};
-ghost use Rattle.uug_talk.specs.declared.answer.Answer.TheVariants.{SendLater};
+ghost use Rattle.uug_talk.specs.declared.answer.Answer.TheVariants.{GiveYes, SendLater};
 ghost use Rattle.uug_talk.specs.declared.order.Order.{Order as Command};
+ghost use Rattle.uug_talk.specs.declared.order.Order.TheVariants.{Send};
+ghost use Rattle.uug_talk.specs.Lenient.{or_wished};
+ghost use Rattle.uug_conversation.specs.declared.verdict.Verdict.TheVariants.{Yes};
 ghost use Rattle.uug_talk.specs.declared.error.BadText.{BadText};
 ghost use Rattle.uug_talk.specs.Answer.{answer_of};
 ghost use Rattle.uug_talk.specs.Gathering.{limit_of};
@@ -107,6 +112,17 @@ pub fn kept_files_fit()
     ensures asked { (h : Holdings) (text : List ℕ) (l : Lists) (told : FileDigest)
         → told_awaited (on_text h RequestAnswer text l).state.awaits ≡ Some told
         → heard h.digests (told_by_answer text) ≡ Some told }
+    // And each that was read is awaited, if the file is to come.
+    ensures sent_awaited { (h : Holdings) (text : List ℕ) (l : Lists) (source target user : List ℕ)
+        (temp : Option (List ℕ)) (mode : ℕ)
+        → order_of text ≡ Ok (Send source target user temp mode)
+        → send_verdict h (h.landing source target) (heard h.digests (told_by_order text)) ≡ Yes
+        → told_awaited (on_text h Order text l).state.awaits
+        ≡ heard h.digests (told_by_order text) }
+    ensures asked_awaited { (h : Holdings) (text : List ℕ) (l : Lists) (mode : ℕ)
+        → or_wished (answer_of text) h.lenient text ≡ Ok (GiveYes mode)
+        → told_awaited (on_text h RequestAnswer text l).state.awaits
+        ≡ heard h.digests (told_by_answer text) }
 {}
 
 /// States that a digest announced with a command, or before a file, is that of the file that the spool gives, whatever
@@ -162,4 +178,14 @@ pub fn an_end_follows_the_conversation()
         (acts : List Act) → let p = party me a b in let first = link_up me p struck failed kept in
         AllAllowed me a b first acts
         → FollowsConversation me a b struck failed kept (after_acts p.holdings first acts) }
+{}
+
+/// States what is left of a file if the session ends now: a front of the file that a Send job of the other end gives.
+/// So what an end holds of the other's files stays fronts of them, from session to session.
+pub fn what_is_left_is_a_front()
+    ensures { (a b : Party) → HoldFronts a b → IsSound a → IsSound b → (me : Side) (struck failed : List Job)
+        (kept : List Kept) (acts : List Act) → let p = party me a b in let first = link_up me p struck failed kept in
+        AllAllowed me a b first acts
+        → IsLeft (party (other me) a b) p.holdings
+        (left_of p.holdings (after_acts p.holdings first acts).talk.machine) }
 {}

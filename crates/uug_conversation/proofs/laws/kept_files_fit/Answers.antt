@@ -1,4 +1,4 @@
-use Rattle.uug_conversation.proofs.ComparingLemmas.{answer_heard, order_heard, step_fits}
+use Rattle.uug_conversation.proofs.ComparingLemmas.{answer_awaited, answer_heard, order_awaited, order_heard, step_fits}
 use Rattle.uug_conversation.proofs.ToldLemmas.{fits_decides}
 use Rattle.uug_conversation.proofs.laws.kept_files_fit.Goals as goal
 
@@ -13,3 +13,9 @@ returns-clause-sent c = order_heard
 
 pub returns-clause-asked : goal.returns-clause-asked
 returns-clause-asked c = answer_heard
+
+pub returns-clause-sent_awaited : goal.returns-clause-sent_awaited
+returns-clause-sent_awaited c = order_awaited
+
+pub returns-clause-asked_awaited : goal.returns-clause-asked_awaited
+returns-clause-asked_awaited c = answer_awaited
