@@ -13,6 +13,7 @@ mod lenient;
 mod line;
 mod numbers;
 mod queues;
+mod resumed;
 mod script;
 mod sessions;
 mod wide_peers;
