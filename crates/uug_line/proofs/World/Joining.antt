@@ -107,7 +107,7 @@ pub record EndsJoined (setup : SetupValue) (brought : AtBoth Belongings) (side :
 -- the windows are windows; what the ends bring to a session is to be offered from the first job on, and is sound
 pub record IsSoundSession (setup : SetupValue) (brought : AtBoth Belongings) : Type 0 where
   pub window : (side : Side) → IsWindow (at side setup).own.window
-  pub party : (side : Side) → IsSound (party setup brought side)
   pub fronts : HoldFronts (party setup brought Caller) (party setup brought Called)
+  pub party : (side : Side) → IsSound (party setup brought side)
   pub renewed : (side : Side) → (at side brought).lists
       ≡ at_start (pending (at side brought).lists) (at side brought).lists.struck (at side brought).lists.failed
