@@ -24,8 +24,6 @@ pub mod OneEnd
 pub mod Outgoing
 pub mod OwnEntries
 pub mod OwnRequests
-pub mod PartialView
-pub mod Partials
 pub mod Party
 pub mod PlainMachine
 pub mod Reactions

@@ -1,5 +1,5 @@
 -- Whatever comes to a node: what it keeps is what was told of, and what it tells is so.
-use Rattle.std.proofs.Common.{◌≡◌, ℕ, List, [], ◌++◌, subst}
+use Rattle.std.proofs.Common.{ℕ, List, [], ◌++◌, subst}
 use Rattle.uug_talk.specs.Chunks.{Measure}
 use Rattle.uug_conversation.specs.DialogueState.{DialogueState, end_keeper, is_empty, opened_with, taking}
 use Rattle.uug_conversation.specs.DialogueValue.{dialogue_of}
