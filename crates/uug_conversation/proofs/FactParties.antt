@@ -35,7 +35,7 @@ holdings name file exception = record {
   immovable = fixed_by exception;
   delayed = λ name. false;
   landing = λ source target. target;
-  held = λ source told. [];
+  partials = None;
   lenient = false;
   digests = false;
 }

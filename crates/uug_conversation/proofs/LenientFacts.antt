@@ -17,7 +17,7 @@ use Rattle.uug_conversation.proofs.MachineFacts.{ahead, asking, first_passed, fi
 
 -- has one file, x, and is lenient
 abbrev lenient_x : Holdings
-lenient_x = record { file = has_x.file; delayed = λ name. false; verdict = has_x.verdict; immovable = has_x.immovable; landing = has_x.landing; held = has_x.held; lenient = true; digests = has_x.digests }
+lenient_x = record { file = has_x.file; delayed = λ name. false; verdict = has_x.verdict; immovable = has_x.immovable; landing = has_x.landing; partials = has_x.partials; lenient = true; digests = has_x.digests }
 
 -- ---- commands that can't be read
 

@@ -26,6 +26,7 @@ pub mod OneEndLemmas
 pub mod OutgoingLemmas
 pub mod OwnEntryLemmas
 mod PartLemmas
+pub mod PartialLemmas
 mod PlainLemmas
 mod QueueLemmas
 pub mod ReadBackLemmas

@@ -6,7 +6,9 @@ use Rattle.uug_conversation.specs.declared.job.Job.{Job}
 use Rattle.uug_conversation.specs.declared.job.Job.TheVariants as job
 use Rattle.uug_conversation.specs.Choice.{fetched_by}
 use Rattle.uug_conversation.specs.Holdings.{File, Kept, Holdings, to_give, kept_as}
-use Rattle.uug_conversation.specs.OwnEntries.{OwnEntries, none, not_struck, sent, asked_for, giver_asked, receiver_sent, Struck, by_giver, by_receiver, Brought, brought, HasOwnEntries}
+use Rattle.uug_conversation.specs.Partial.{Partial}
+use Rattle.uug_conversation.specs.Partials.{holding}
+use Rattle.uug_conversation.specs.OwnEntries.{IsOfSendJob, OwnEntries, none, not_struck, sent, asked_for, giver_asked, receiver_sent, Struck, by_giver, by_receiver, Brought, brought, HasOwnEntries}
 
 -- ---- more jobs, and sessions one after the other
 
@@ -235,3 +237,28 @@ by_places h others jobs g r e (receiver_sent {g = g1} {r = r1} {e = e1} {source 
       entry = receiver_sent_has h others g1 r1 e1 s t u c q;
       own = receiver_sent_own h others g1 r1 e1 s t u c q;
     }
+
+-- ---- whatever the ends hold of files that were cut off
+
+of_job_for_base : (ps qs : Option (List Partial)) (h others : Holdings) (jobs : List Job) (entry : Kept) →
+    IsOfSendJob (holding ps h) (holding qs others) jobs entry → IsOfSendJob h others jobs entry
+of_job_for_base ps qs h others jobs entry is = record {
+  source = is.source;
+  target = is.target;
+  user = is.user;
+  temp = is.temp;
+  file = is.file;
+  is_job = is.is_job;
+  is_given = is.is_given;
+  is_entry = is.is_entry;
+}
+
+pub own_for_base : (ps qs : Option (List Partial)) (h others : Holdings) (jobs givers receivers : List Job) (entries : List Kept) →
+    OwnEntries (holding ps h) (holding qs others) jobs givers receivers entries → OwnEntries h others jobs givers receivers entries
+own_for_base ps qs h others jobs givers receivers entries none = none
+own_for_base ps qs h others jobs givers receivers entries (not_struck is more) =
+    not_struck (of_job_for_base ps qs h others jobs _ is) (own_for_base ps qs h others jobs givers receivers _ more)
+own_for_base ps qs h others jobs givers receivers entries (sent given more) = sent given (own_for_base ps qs h others jobs _ receivers _ more)
+own_for_base ps qs h others jobs givers receivers entries (asked_for given more) = asked_for given (own_for_base ps qs h others jobs givers _ _ more)
+own_for_base ps qs h others jobs givers receivers entries (giver_asked more) = giver_asked (own_for_base ps qs h others jobs _ receivers entries more)
+own_for_base ps qs h others jobs givers receivers entries (receiver_sent more) = receiver_sent (own_for_base ps qs h others jobs givers _ entries more)

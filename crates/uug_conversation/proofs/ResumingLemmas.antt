@@ -6,7 +6,11 @@ use Rattle.uug_digest.specs.Positions.{consent_text, position_told}
 use Rattle.uug_digest.specs.declared.file_digest.FileDigest.{FileDigest}
 use Rattle.uug_talk.specs.declared.gather.TheConstants.{FILE_MAX}
 use Rattle.uug_conversation.specs.Holdings.{File, Holdings, to_give}
-use Rattle.uug_conversation.specs.Party.{HoldsFronts, HoldsNone}
+use Rattle.uug_conversation.specs.Left.{IsLeft}
+use Rattle.uug_conversation.specs.Partial.{Key, Partial}
+use Rattle.uug_conversation.specs.Partials.{bytes_under, held_among, holding, is_key, none_of, partials_then, put}
+use Rattle.uug_conversation.specs.Party.{HoldsFronts, HoldsNone, Party}
+use Rattle.uug_conversation.proofs.PartialLemmas.{key_decides, put_displaces_none, put_is_held}
 use Rattle.uug_conversation.specs.Resuming.{IsFront, front_held, front_of, front_where, position_heard, rest_from, rest_where}
 use Rattle.uug_conversation.specs.Told.{heard, told_of}
 use Rattle.uug_conversation.proofs.LimitLemmas.{given_file}
@@ -86,12 +90,75 @@ rest_sent digests front file well told found e =
 
 -- ---- nothing is held
 
-front_of_none : (h : Holdings) → HoldsNone h → (source : List ℕ) (told : Option FileDigest) →
-    front_of h source told ≡ []
+none_among : (partials : Option (List Partial)) (source : List ℕ) (told : FileDigest) → held_among (none_of partials) source told ≡ []
+none_among None source told = refl
+none_among (Some ps) source told = refl
+
+front_of_none : (h : Holdings) → HoldsNone h → (source : List ℕ) (told : Option FileDigest) → front_of h source told ≡ []
 front_of_none h none source None = refl
 front_of_none h none source (Some told) =
-    ap (λ z. front_where (nat_le (length z) told.size && nat_le told.size FILE_MAX) z) (none source told)
+    ap (λ z. front_where (nat_le (length z) told.size && nat_le told.size FILE_MAX) z)
+    (ap (λ ps. held_among ps source told) none ∙ none_among h.partials source told)
+
+pub none_again : (partials : Option (List Partial)) → none_of partials ≡ none_of (none_of partials)
+none_again None = refl
+none_again (Some ps) = refl
+
+pub stays_without_left : (partials : Option (List Partial)) → partials ≡ partials_then partials None
+stays_without_left None = refl
+stays_without_left (Some ps) = refl
 
 pub holds_no_fronts : (giver taker : Holdings) → HoldsNone taker → HoldsFronts giver taker
 holds_no_fronts giver taker none source file e =
     (file.bytes, sym (ap (λ z. z ++ file.bytes) (front_of_none taker none source (heard taker.digests (told_of giver.digests (Some file))))))
+
+-- ---- behind a session
+
+filtered_front : (within : Bool) (bytes whole : List ℕ) → IsFront bytes whole → IsFront (front_where within bytes) whole
+filtered_front within [] whole is = is
+filtered_front true (b ∷ bytes) whole is = is
+filtered_front false (b ∷ bytes) whole is = (whole, refl)
+
+-- what is held of a file takes the place of what was held of it, and displaces nothing else
+front_put : (h : Holdings) (ps : List Partial) (p : Partial) (source : List ℕ) (told : FileDigest) (whole : List ℕ) (same : Bool) →
+    is_key p.key (record { source = source; told = told }) ≡ same → (p.key ≡ record { source = source; told = told } → IsFront p.bytes whole) →
+    h.partials ≡ Some ps → IsFront (front_of h source (Some told)) whole → IsFront (front_of (holding (Some (put p ps)) h) source (Some told)) whole
+front_put h ps p source told whole true e own are is =
+    let key : Key = record { source = source; told = told } in
+    let k : p.key ≡ key = (key_decides p.key key).0 e in
+    subst (λ z. IsFront (front_where (nat_le (length z) told.size && nat_le told.size FILE_MAX) z) whole)
+    (sym (ap (λ z. bytes_under z (put p ps)) (sym k) ∙ put_is_held p ps))
+    (filtered_front (nat_le (length p.bytes) told.size && nat_le told.size FILE_MAX) p.bytes whole (own k))
+front_put h ps p source told whole false e own are is =
+    let key : Key = record { source = source; told = told } in
+    subst (λ z. IsFront (front_where (nat_le (length z) told.size && nat_le told.size FILE_MAX) z) whole)
+    (ap (λ z. held_among z source told) are ∙ sym (put_displaces_none key p ps e)) is
+
+front_then : (h : Holdings) (partials : Option (List Partial)) (left : Option Partial) (source : List ℕ) (told : Option FileDigest) (whole : List ℕ) →
+    h.partials ≡ partials → ((p : Partial) → left ≡ Some p → p.key.source ≡ source → IsFront p.bytes whole) →
+    IsFront (front_of h source told) whole → IsFront (front_of (holding (partials_then partials left) h) source told) whole
+front_then h partials left source None whole are own is = is
+front_then h None left source (Some told) whole are own is = (whole, refl)
+front_then h (Some ps) None source (Some told) whole are own is =
+    subst (λ z. IsFront (front_where (nat_le (length (held_among z source told)) told.size && nat_le told.size FILE_MAX) (held_among z source told)) whole) are is
+front_then h (Some ps) (Some p) source (Some told) whole are own is =
+    front_put h ps p source told whole (is_key p.key (record { source = source; told = told })) refl
+    (λ k. own p refl (ap (λ (key : Key). key.source) k)) are is
+
+left_front : (giver : Party) (taker : Holdings) (left : Option Partial) → IsLeft giver taker left → (source : List ℕ) (file : File) →
+    to_give giver.holdings source ≡ Some file → (p : Partial) → left ≡ Some p → p.key.source ≡ source → IsFront p.bytes file.bytes
+left_front giver taker None is source file given p e same = absurd cc
+left_front giver taker (Some q) is source file given p e same =
+    let same_partial : q ≡ p = cc in
+    let given_so : Some is.file ≡ Some file = sym is.is_given ∙ ap (λ (z : Partial). to_give giver.holdings z.key.source) same_partial
+    ∙ ap (to_give giver.holdings) same ∙ given in
+    let same_file : is.file ≡ file = cc in
+    subst (λ (z : Partial). IsFront z.bytes file.bytes) same_partial
+    (subst (λ (z : File). IsFront q.bytes z.bytes) same_file is.front)
+
+-- what an end holds stays fronts of the other's files
+pub fronts_then : (giver : Party) (taker : Holdings) (left : Option Partial) → HoldsFronts giver.holdings taker → IsLeft giver taker left →
+    HoldsFronts giver.holdings (holding (partials_then taker.partials left) taker)
+fronts_then giver taker left fronts is source file given =
+    front_then taker taker.partials left source (heard taker.digests (told_of giver.holdings.digests (Some file))) file.bytes refl
+    (left_front giver taker left is source file given) (fronts source file given)

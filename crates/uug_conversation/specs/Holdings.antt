@@ -1,7 +1,7 @@
 -- What a spool gives and accepts, and whether its end is lenient, and tells and compares digests (this project's profile). It does not change in a session.
 use Rattle.std.specs.Prelude.{◌≡◌, ℕ, ◌≤◌, Bool, List, length, nat_le, Option, Some, None, if◌then◌else◌}
 use Rattle.uug_conversation.specs.declared.verdict.Verdict.{Verdict}
-use Rattle.uug_digest.specs.declared.file_digest.FileDigest.{FileDigest}
+use Rattle.uug_conversation.specs.Partial.{Partial}
 use Rattle.uug_talk.specs.declared.gather.TheConstants.{FILE_MAX}
 use Rattle.uug_talk.specs.declared.mode.TheConstants.{MODE_MAX}
 
@@ -28,8 +28,8 @@ pub record Holdings : Type 0 where
   pub immovable : List ℕ → Bool
   -- under which name a file of this name is kept that is sent to this one
   pub landing : (source target : List ℕ) → List ℕ
-  -- the bytes that have come before of the file of this name of which this was told
-  pub held : (source : List ℕ) → FileDigest → List ℕ
+  -- what it holds of files that were cut off, of each name and digest one; none where it does not resume
+  pub partials : Option (List Partial)
   -- whether the end refuses what it can't read, and goes on
   pub lenient : Bool
   -- whether it tells digests of its files, and compares those that it is told

@@ -7,20 +7,17 @@ use Rattle.uug_conversation.specs.declared.job.Job.TheVariants as job
 use Rattle.uug_conversation.specs.Choice.{fetched_by}
 use Rattle.uug_conversation.specs.Holdings.{File, Holdings, to_give}
 use Rattle.uug_conversation.specs.Machine.{State}
+use Rattle.uug_conversation.specs.Partial.{Partial}
 use Rattle.uug_conversation.specs.Party.{Party}
 use Rattle.uug_conversation.specs.Resuming.{IsFront, front_of}
 use Rattle.uug_conversation.specs.Told.{heard, told_of}
 
--- the first bytes of a file: the name by which its giver fetches it, and what was told of it
-pub record Partial : Type 0 where
-  pub source : List ℕ
-  pub told : FileDigest
-  pub bytes : List ℕ
-
 -- of the file that a slave awaits, where it was told of it: what was held, and what has come behind that
 abbrev pub left_by : Holdings → Awaits → (gathered : List ℕ) → Option Partial
-left_by h (awaits.SentFile source target mode (Some told)) gathered =
-    Some (record { source = source; told = told; bytes = front_of h source (Some told) ++ gathered })
+left_by h (awaits.SentFile source target mode (Some told)) gathered = Some (record {
+  key = record { source = source; told = told };
+  bytes = front_of h source (Some told) ++ gathered;
+})
 left_by h _ gathered = None
 
 -- where the session ends now
@@ -35,9 +32,9 @@ pub record IsLeftOf (giver : Party) (taker : Holdings) (p : Partial) : Type 0 wh
   pub temp : Option (List ℕ)
   pub file : File
   pub is_job : Contains giver.jobs (job.Send source target user temp)
-  pub is_source : fetched_by source temp ≡ p.source
-  pub is_given : to_give giver.holdings p.source ≡ Some file
-  pub is_told : heard taker.digests (told_of giver.holdings.digests (Some file)) ≡ Some p.told
+  pub is_source : fetched_by source temp ≡ p.key.source
+  pub is_given : to_give giver.holdings p.key.source ≡ Some file
+  pub is_told : heard taker.digests (told_of giver.holdings.digests (Some file)) ≡ Some p.key.told
   pub front : IsFront p.bytes file.bytes
 
 -- if anything is left, it is so

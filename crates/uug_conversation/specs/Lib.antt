@@ -24,6 +24,9 @@ pub mod OneEnd
 pub mod Outgoing
 pub mod OwnEntries
 pub mod OwnRequests
+pub mod Partial
+pub mod PartialView
+pub mod Partials
 pub mod Party
 pub mod PlainMachine
 pub mod Reactions

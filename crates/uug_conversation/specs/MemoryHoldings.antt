@@ -7,6 +7,7 @@ use Rattle.uug_conversation.specs.declared.stored.Stored.{Stored}
 use Rattle.uug_conversation.specs.declared.verdict.Verdict.{Verdict}
 use Rattle.uug_conversation.specs.declared.verdict.Verdict.TheVariants.{Yes, Never, Later}
 use Rattle.uug_conversation.specs.Holdings.{File, Kept, Holdings}
+use Rattle.uug_conversation.specs.Partial.{Partial}
 
 pub record MemoryHoldings : Type 0 where
   -- the files that it has to give, in the order in which they were added
@@ -17,13 +18,15 @@ pub record MemoryHoldings : Type 0 where
   pub immovable : List (List ℕ)
   -- the files that it has kept, in the order in which it did
   pub stored : List Kept
+  -- what it holds of files that were cut off; none where it does not resume
+  pub partials : Option (List Partial)
   -- it refuses what it can't read, and goes on
   pub lenient : Bool
   -- it tells digests of its files, and compares those that it is told
   pub digests : Bool
 
 abbrev pub no_holdings : MemoryHoldings
-no_holdings = record { files = []; denied = []; postponed = []; immovable = []; stored = []; lenient = false; digests = false }
+no_holdings = record { files = []; denied = []; postponed = []; immovable = []; stored = []; partials = None; lenient = false; digests = false }
 
 -- whether a name is among these
 abbrev pub has_name : List (List ℕ) → List ℕ → Bool
@@ -48,7 +51,7 @@ holdings_of m = record {
   verdict = verdict_on m.denied m.postponed;
   immovable = has_name m.immovable;
   landing = λ source target. target;
-  held = λ source told. [];
+  partials = m.partials;
   lenient = m.lenient;
   digests = m.digests;
 }
@@ -65,6 +68,7 @@ held_by m = record {
   postponed = m.postponed.items;
   immovable = m.immovable.items;
   stored = map kept_of m.stored.items;
+  partials = m.partials;
   lenient = m.lenient;
   digests = m.digests;
 }

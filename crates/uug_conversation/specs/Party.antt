@@ -1,9 +1,9 @@
 -- An end as it comes to a session (this project's profile).
 use Rattle.std.specs.Prelude.{◌≡◌, ◌<◌, ℕ, List, [], All, Some}
-use Rattle.uug_digest.specs.declared.file_digest.FileDigest.{FileDigest}
 use Rattle.uug_conversation.specs.declared.job.Job.{Job}
 use Rattle.uug_conversation.specs.declared.job.Job.TheVariants as job
 use Rattle.uug_conversation.specs.Holdings.{File, Holdings, AreModes, to_give}
+use Rattle.uug_conversation.specs.Partials.{none_of}
 use Rattle.uug_conversation.specs.Resuming.{IsFront, front_held}
 use Rattle.uug_talk.specs.Chunks.{Measure}
 use Rattle.uug_talk.specs.Order.{AreNames, IsCopy}
@@ -28,7 +28,7 @@ pub record IsSound (p : Party) : Type 0 where
 
 -- nothing is held of a file of an earlier session
 abbrev pub HoldsNone : Holdings → Type 0
-HoldsNone h = (source : List ℕ) (told : FileDigest) → h.held source told ≡ []
+HoldsNone h = h.partials ≡ none_of h.partials
 
 -- what the taker holds of each file of the giver is a front of it
 abbrev pub HoldsFronts : (giver taker : Holdings) → Type 0

@@ -3,6 +3,9 @@ ghost use Rattle.std.specs.Bool.{OnTrue, OnFalse};
 ghost use Rattle.uug_talk.specs.declared.gather.TheConstants.{FILE_MAX};
 ghost use Rattle.uug_talk.specs.Gathering.{OfFile};
 ghost use Rattle.uug_conversation.specs.Jobs.{Lists, at_start, pending};
+ghost use Rattle.uug_conversation.specs.Left.{left_of};
+ghost use Rattle.uug_conversation.specs.MemoryHoldings.{held_by, holdings_of};
+ghost use Rattle.uug_conversation.specs.Partials.{partials_then};
 ghost use Rattle.uug_conversation.specs.Machine.{between, kind_awaited, on_past_limit, opening, replies, reply_to, step};
 ghost use Rattle.uug_conversation.specs.Outgoing.{IsSayable, sayings_of};
 ghost use Rattle.uug_conversation.specs.Party.{HasNames};
@@ -12,13 +15,15 @@ ghost use Rattle.uug_conversation.specs.DialogueState.{asks_spool, first_of, ope
 ghost use Rattle.uug_conversation.specs.DialogueValue.{IsPart, state_of, dialogue_of, told_as, dialogue_has_parted, dialogue_is_through};
 
 use crate::awaits::Awaits;
+use crate::choice::front_of;
 use crate::machine::{go_on, on_text};
+use crate::memory_spool::MemorySpool;
 use crate::outgoing::{Outgoing, SAYINGS_MAX};
 use crate::queue::Queue;
 use crate::reaction::Reaction;
 use crate::side::Side;
 use crate::spool::Spool;
-use crate::whole_file::{FileFault, on_file};
+use crate::whole_file::{FileFault, joined, on_file};
 use std::alloc::{AllocError, Allocator};
 use std::marker::Model;
 use uug_talk::{BadText, Gather, MESSAGE_MAX, Message, Progress};
@@ -269,6 +274,29 @@ impl<A: Allocator + Copy> Dialogue<A> {
             Awaits::NothingMore => true,
             Awaits::LastHangUp => self.outgoing.is_silent(),
             _ => false,
+        }
+    }
+
+    /// Lets the spool hold what is left of a file if the session has ended in its middle and the end resumes: what was
+    /// held of it, and what came behind that. Without memory nothing changes.
+    pub fn leave(&self, spool: &mut MemorySpool<A>) -> Result<(), AllocError>
+        ensures ok { OnOk result (held_by spool.new ≡ record (held_by spool.old) {
+          partials = partials_then (held_by spool.old).partials
+              (left_of (holdings_of (held_by spool.old)) self.now.machine);
+        }) }
+        ensures err { OnErr result (held_by spool.new ≡ held_by spool.old) }
+    {
+        match self.awaits {
+            Awaits::SentFile {
+                source,
+                told: Some(told),
+                ..
+            } => {
+                let front = front_of(spool, &source, &Some(told));
+                let whole = joined(front, self.gather.bytes(), self.alloc)?;
+                spool.hold(source, told, whole)
+            }
+            _ => Ok(()),
         }
     }
 

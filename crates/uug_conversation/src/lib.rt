@@ -12,6 +12,8 @@ mod machine;
 mod memory_spool;
 mod outgoing;
 mod part;
+mod partial_file;
+mod partials;
 mod queue;
 mod reaction;
 mod side;

@@ -1,9 +1,12 @@
-ghost use Rattle.std.specs.Prelude.{◌≡◌, ℕ, ◌≤◌, [], ◌∷◌, ◌++◌, map, OnOk, OnErr};
+ghost use Rattle.std.specs.Prelude.{◌≡◌, ℕ, ◌≤◌, [], ◌∷◌, ◌++◌, map, Some, None, if◌then◌else◌, OnOk, OnErr};
 ghost use Rattle.uug_conversation.specs.FileView.{shown_file};
 ghost use Rattle.uug_conversation.specs.Holdings.{kept_file};
+ghost use Rattle.uug_conversation.specs.Partials.{none_of, partials_then};
+ghost use Rattle.uug_conversation.specs.PartialView.{key_of};
 ghost use Rattle.uug_conversation.specs.MemoryHoldings.{no_holdings, has_name, first_named, holdings_of, kept_of, held_by};
 ghost use Rattle.uug_conversation.specs.Code.StoredModes.{modes_in_range};
 
+use crate::partials::Partials;
 use crate::spool::{FileView, KeepFault, Spool};
 use crate::stored::Stored;
 use crate::verdict::Verdict;
@@ -19,6 +22,8 @@ pub struct MemorySpool<A: Allocator> {
     postponed: Vec<Name, A>,
     immovable: Vec<Name, A>,
     stored: Vec<Stored<A>, A>,
+    /// None if the end doesn't resume files that were cut off.
+    partials: Option<Partials<A>>,
     lenient: bool,
     digests: bool,
     alloc: A,
@@ -35,6 +40,7 @@ impl<A: Allocator + Copy> MemorySpool<A> {
             postponed: Vec::new(alloc),
             immovable: Vec::new(alloc),
             stored: Vec::new(alloc),
+            partials: None,
             lenient: false,
             digests: false,
             alloc,
@@ -98,6 +104,51 @@ impl<A: Allocator + Copy> MemorySpool<A> {
         self.digests = digests;
     }
 
+    /// Sets whether the end resumes files that are cut off, and forgets what it held of such files.
+    pub fn set_resumes(&mut self, resumes: bool)
+        ensures { held_by self.new ≡ record (held_by self.old) {
+          partials = if resumes then Some [] else None;
+        } }
+    {
+        self.partials = if resumes {
+            Some(Partials::new(self.alloc))
+        } else {
+            None
+        };
+    }
+
+    /// Forgets what is held of files that were cut off.
+    pub fn forget_partials(&mut self)
+        ensures { held_by self.new ≡ record (held_by self.old) {
+          partials = none_of (held_by self.old).partials;
+        } }
+    {
+        let resumes = self.partials.is_some();
+        self.set_resumes(resumes);
+    }
+
+    /// Holds the first bytes of a file, in place of those that were held of it, if the end resumes. Without memory
+    /// nothing changes.
+    pub(crate) fn hold(
+        &mut self,
+        source: Name,
+        told: FileDigest,
+        bytes: Vec<u8, A>,
+    ) -> Result<(), AllocError>
+        ensures ok { OnOk result (held_by self.new ≡ record (held_by self.old) {
+          partials = partials_then (held_by self.old).partials (Some (record {
+            key = key_of source told;
+            bytes = bytes.items;
+          }));
+        }) }
+        ensures err { OnErr result (held_by self.new ≡ held_by self.old) }
+    {
+        match &mut self.partials {
+            Some(partials) => partials.put(source, told, bytes),
+            None => Ok(()),
+        }
+    }
+
     /// Returns the kept files, in the order in which they were kept.
     pub fn stored(&self) -> &[Stored<A>]
         ensures { map kept_of result.now ≡ (held_by self.now).stored }
@@ -135,8 +186,11 @@ impl<A: Allocator + Copy> Spool for MemorySpool<A> {
         false
     }
 
-    fn held(&self, _source: &Name, _told: &FileDigest) -> &[u8] {
-        &[]
+    fn held(&self, source: &Name, told: &FileDigest) -> &[u8] {
+        match &self.partials {
+            Some(partials) => partials.held(source, told),
+            None => &[],
+        }
     }
 
     fn keep(&mut self, name: &Name, mode: u16, bytes: &[u8]) -> Result<(), KeepFault> {

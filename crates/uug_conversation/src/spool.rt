@@ -1,6 +1,7 @@
 ghost use Rattle.std.specs.Prelude.{◌≡◌, ◌≢◌, ℕ, ◌^◌, ◌-◌, ◌≤◌, ◌<◌, ◌⊎◌, List, [], ◌∷◌, ◌++◌, true, OnOk, OnErr, ◌↔◌};
 ghost use Rattle.uug_conversation.specs.Holdings.{Holdings, Kept, AreModes, kept_file};
 ghost use Rattle.uug_conversation.specs.FileView.{shown_file};
+ghost use Rattle.uug_conversation.specs.Partials.{held_among};
 
 use crate::verdict::Verdict;
 use thiserror::Error;
@@ -59,7 +60,7 @@ pub trait Spool {
     /// Returns the bytes that came before of the file with this name at its giver and this announced digest. They are
     /// none if nothing is held of it.
     fn held(&self, source: &Name, told: &FileDigest) -> &[u8]
-        ensures { result.now ≡ (holdings self.now).held source.now told.now };
+        ensures { result.now ≡ held_among (holdings self.now).partials source.now told.now };
 
     /// Keeps a file under this name. `Refused` is checked first. An error leaves the kept files as they were. Lack of
     /// memory is reported before the device is touched, so the count of faults also stays as it was.

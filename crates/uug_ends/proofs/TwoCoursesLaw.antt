@@ -41,7 +41,7 @@ setup_end b = record {
   name = b.me;
   own = b.own;
   holdings = b.holdings;
-  belongings = record { lists = b.lists; kept = b.kept; number = b.number };
+  belongings = record { lists = b.lists; kept = b.kept; partials = b.holdings.partials; number = b.number };
 }
 
 abbrev setup_of : AtBoth EndBeginning → SetupValue

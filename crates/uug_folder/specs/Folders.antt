@@ -44,7 +44,7 @@ folder_holdings barred files = record {
   verdict = λ name. if is_hidden name then Never else Yes;
   immovable = λ name. if is_hidden name then true else barred name;
   landing = λ source target. target;
-  held = λ source told. [];
+  partials = None;
   lenient = false;
   digests = false;
 }

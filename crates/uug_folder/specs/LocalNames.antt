@@ -70,7 +70,7 @@ local_holdings lenient digests delayed h = record {
   verdict = λ name. verdict_by h (local_name name);
   immovable = λ name. immovable_by h (local_name name);
   landing = local_landing;
-  held = h.held;
+  partials = h.partials;
   lenient = lenient;
   digests = digests;
 }

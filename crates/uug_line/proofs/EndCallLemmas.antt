@@ -29,7 +29,7 @@ use Rattle.uug_session.specs.TextsHeld.{TextsHeld}
 use Rattle.uug_conversation.specs.DialogueValue.{dialogue_has_parted}
 use Rattle.uug_line.specs.JournalValue.{JournalValue, log_of}
 use Rattle.uug_line.specs.LineEndState.{LineEndState, after_call, called_with, holding, nothing_done}
-use Rattle.uug_line.specs.LineEndValue.{AreWritten, BeginsAgain, HasBegun, HasRoom, HoldsOn, IsCalled, IsNoted, IsOrdered, LineEndValue, hearer_of, line_end_of, player_of, state_of}
+use Rattle.uug_line.specs.LineEndValue.{AreWritten, BeginsAgain, HasBegun, HasRoom, HoldsOn, IsCalled, IsNoted, IsOrdered, LineEndValue, hearer_of, leaves_spool, line_end_of, player_of, state_of}
 use Rattle.uug_line.proofs.SpokenLemmas.{Calls, does_so, steps_so}
 use Rattle.uug_events.proofs.HeldLemmas.{held_late, same_bytes}
 use Rattle.uug_session.proofs.CallLemmas.{late_beside, lost_beside, begun_with}
@@ -194,7 +194,7 @@ begun_so id own number l called new announces session nothing_held journal line 
 -- the next one begins
 pub begun_again : (old called new : LineEndValue) → IsOrdered old
     → BeginsSession old.node.engine.identity old.node.engine.own old.node.engine.number (all_ahead old.node.engine.dialogue.machine.lists) old.node.engine.outbox.entries
-    called.node.engine → HoldsNothing called.node → called.spool ≡ old.spool
+    called.node.engine → HoldsNothing called.node → called.spool ≡ leaves_spool old
     → called.journal ≡ nothing_done → called.line ≡ [] → IsNoted called new → BeginsAgain old new
 begun_again old called new ordered session nothing_held spool journal line noted_so =
     let e = old.node.engine in

@@ -193,12 +193,12 @@ module _ (setup : SetupValue) (brought : AtBoth Belongings) (side : Side) (far :
   sends_by_talker : (m : Moment) (message : List ℕ) (j : J m) → IsUp m.link → length m.link.unacked < m.link.window →
       m.talk ≡ talk_at setup brought side (talker_at setup brought side j.two) →
       (more : List (List ℕ)) × ((talker_at setup brought side j.two).waiting ≡ message ∷ more) →
-      J (moved m (to_send message) ((end_keeper side (at side setup).holdings).sent m.talk))
+      J (moved m (to_send message) ((end_keeper side (party setup brought side).holdings).sent m.talk))
   sends_by_talker m message j at_up room talk waits =
       let t = talker_at setup brought side j.two in
       let acted : Acted setup brought side sends j.two =
       acts setup brought side sends j.two j.reached (message, waits.0, waits.1) in
-      let then_m = moved m (to_send message) ((end_keeper side (at side setup).holdings).sent m.talk) in
+      let then_m = moved m (to_send message) ((end_keeper side (party setup brought side).holdings).sent m.talk) in
       record {
         links = run_moves near_first far_first far m (to_send message) then_m.talk j.links (
           (at_up, room),
@@ -207,7 +207,7 @@ module _ (setup : SetupValue) (brought : AtBoth Belongings) (side : Side) (far :
         ) tt;
         two = acted.then_two;
         reached = acted.reached;
-        near_talk = inr (ap (λ (x : DialogueState). (end_keeper side (at side setup).holdings).sent x) talk
+        near_talk = inr (ap (λ (x : DialogueState). (end_keeper side (party setup brought side).holdings).sent x) talk
             ∙ talk_sends (party setup brought side) t own.lists.struck own.lists.failed own.kept
             ∙ ap (λ (x : Talker). talk_at setup brought side x) (sym acted.near));
         near_sent = ap (λ (x : Talker). x.sent) acted.near ∙ ap (λ (l : List (List ℕ)). t.sent ++ take 1 l) waits.1
@@ -223,8 +223,8 @@ module _ (setup : SetupValue) (brought : AtBoth Belongings) (side : Side) (far :
       }
 
   pub joined_sends : (m : Moment) (message : List ℕ) → J m → has_room m.link ≡ true →
-      (end_keeper side (at side setup).holdings).next m.talk ≡ Some message →
-      J (moved m (to_send message) ((end_keeper side (at side setup).holdings).sent m.talk))
+      (end_keeper side (party setup brought side).holdings).next m.talk ≡ Some message →
+      J (moved m (to_send message) ((end_keeper side (party setup brought side).holdings).sent m.talk))
   joined_sends m message j room next =
       let at_up = up_with_room m.link room in
       let talk = is_behind m j at_up in
@@ -236,7 +236,7 @@ module _ (setup : SetupValue) (brought : AtBoth Belongings) (side : Side) (far :
   -- ---- a packet is heard
 
   abbrev heard : Moment → PacketValue → (place : ℕ) → OutcomeValue → Moment
-  heard m p place o = heard_by (end_keeper side (at side setup).holdings) m p place o
+  heard m p place o = heard_by (end_keeper side (party setup brought side).holdings) m p place o
 
   -- what was sent stays
   same_sent : (m : Moment) (p : PacketValue) → m.sent ≡ m.sent ++ messages_sent (packets (step m.link (packet_found p)).emitted)
@@ -250,10 +250,10 @@ module _ (setup : SetupValue) (brought : AtBoth Belongings) (side : Side) (far :
 
   opens_behind : (talk : DialogueState) (t : Talker) (measure : Measure) → talk ≡ unopened own.lists own.kept →
       t ≡ first_talker side (party setup brought side) → measure ≡ (party setup brought side).measure →
-      (end_keeper side (at side setup).holdings).opened measure talk ≡ talk_at setup brought side t
+      (end_keeper side (party setup brought side).holdings).opened measure talk ≡ talk_at setup brought side t
   opens_behind talk t measure talk_is t_is measure_is =
       let me = side in
-      let h : Holdings = (at side setup).holdings in
+      let h : Holdings = (party setup brought side).holdings in
       ap (λ (x : DialogueState). opened_with me h measure x) talk_is
       ∙ ap (λ (x : Measure). opened_with me h x (unopened own.lists own.kept)) measure_is
       ∙ ap (λ (l : Lists). opened_with me h (party setup brought side).measure (unopened l own.kept)) brought_lists
@@ -305,7 +305,7 @@ module _ (setup : SetupValue) (brought : AtBoth Belongings) (side : Side) (far :
         links = runs;
         two = acted.then_two;
         reached = acted.reached;
-        near_talk = inr (ap (λ (x : DialogueState). (end_keeper side (at side setup).holdings).taking message x)
+        near_talk = inr (ap (λ (x : DialogueState). (end_keeper side (party setup brought side).holdings).taking message x)
             (is_behind m j before)
             ∙ talk_takes (party setup brought side) t message own.lists.struck own.lists.failed own.kept
             ∙ ap (λ (x : Talker). talk_at setup brought side x) (sym acted.near));

@@ -1,5 +1,5 @@
 -- What happens to the program's run is what happens in the definitions' one.
-use Rattle.std.proofs.Common.{◌≡◌, ℕ, suc, ◌+◌, ◌<◌, ◌≤◌, Bool, true, false, List, [], ◌∷◌, ◌++◌, length, get_or, map, take, drop, ap, sym, subst, ◌∙◌, refl, arith, Option, ap₂}
+use Rattle.std.proofs.Common.{◌≡◌, ℕ, suc, ◌+◌, ◌<◌, ◌≤◌, Bool, true, false, List, [], ◌∷◌, ◌++◌, length, get_or, map, take, drop, ap, sym, subst, ◌∙◌, refl, arith, Option, None, ap₂}
 use Rattle.std.proofs.lemmas.List.{drop_all, drop_more, map-append, take_all}
 use Rattle.uug_reader.specs.declared.reader.TheConstants.{READER_SIZE}
 use Rattle.uug_link.specs.Announced.{Announced}
@@ -10,7 +10,12 @@ use Rattle.uug_session.specs.EndStep.{EndEvent, EndState, Identity, Stage, haili
 use Rattle.uug_conversation.specs.Count.{Count}
 use Rattle.uug_conversation.specs.Holdings.{Holdings, Kept}
 use Rattle.uug_conversation.specs.Jobs.{Lists}
+use Rattle.uug_conversation.specs.Left.{left_of}
+use Rattle.uug_conversation.specs.Machine.{State}
 use Rattle.uug_conversation.specs.MemoryHoldings.{MemoryHoldings, holdings_of}
+use Rattle.uug_conversation.specs.Partial.{Partial}
+use Rattle.uug_conversation.specs.Partials.{holding, partials_then}
+use Rattle.uug_conversation.specs.Party.{Party}
 use Rattle.uug_session.specs.Node.{held_bytes}
 use Rattle.uug_conversation.specs.Keeper.{Keeper}
 use Rattle.uug_conversation.specs.DialogueState.{DialogueState, end_keeper, unopened}
@@ -22,12 +27,12 @@ use Rattle.uug_conversation.specs.declared.side.Side.{Side}
 use Rattle.uug_conversation.specs.declared.side.Side.TheVariants.{Caller, Called}
 use Rattle.uug_line.specs.declared.verdict.LineVerdict.{LineVerdict}
 use Rattle.uug_line.specs.declared.verdict.LineVerdict.TheVariants.{Clean, Fooled}
-use Rattle.uug_line.specs.Belongings.{Belongings, SetupValue, renewed}
+use Rattle.uug_line.specs.Belongings.{Belongings, SetupValue, identity, party, renewed}
 use Rattle.uug_line.specs.JournalValue.{packet_in}
 use Rattle.uug_line.specs.LineEndState.{LineEndState, Participant, begins, called_with, changed_line}
 use Rattle.uug_line.specs.LineEndValue.{AreWritten, BeginsAgain, HasBegun, IsCalled, IsOrdered, LineEndValue, Standing, hearer_of, line_end_of, player_of, standing_of, taker_of, told_of}
 use Rattle.uug_line.specs.Report.{end_now, report_of_end}
-use Rattle.uug_line.specs.Run.{Run, flipped, after_event, after_hearing, calls, end_at, first_run, goes_through, hears_next, hung_up, participant, unless_fooled, with_end_at, with_line_to}
+use Rattle.uug_line.specs.Run.{Run, parties, flipped, after_event, after_hearing, calls, end_at, first_run, goes_through, hears_next, hung_up, participant, unless_fooled, with_end_at, with_line_to}
 use Rattle.uug_line.specs.RunKeeper.{by_themselves}
 use Rattle.uug_line.specs.RunValue.{CallsAgain, ChangesLine, EndsAs, Happens, HappensAt, IsEnd, IsLastEnd, IsSteadyEnd, IsSteady, Passes, RunValue, StandsAs, hearing_side, held_parts, owned_parts, parts_now, standing_at, told_in_all, with_line}
 use Rattle.uug_line.specs.Shown.{end_shown, session_shown}
@@ -45,7 +50,7 @@ use Rattle.uug_line.proofs.SideLemmas.{at_each_is, counted_at, each, each_are, w
 player_by : Standing → Participant DialogueState
 player_by s = record { identity = s.identity; keeper = end_keeper s.identity.side s.holdings }
 
-who_is : (setup : SetupValue) (run : Run DialogueState) (side : Side) (e : LineEndValue) → standing_of e ≡ standing_at setup side
+who_is : (setup : SetupValue) (run : Run DialogueState) (side : Side) (e : LineEndValue) → standing_of e ≡ standing_at setup run.brought side
     → player_of e ≡ participant by_themselves setup run side
 unfolding player_by
 who_is setup run Caller e standing = ap player_by standing
@@ -104,20 +109,20 @@ happens_steady Call old new steady happens =
 -- ---- one end becomes another
 
 changes_end : (side : Side) (setup : SetupValue) (run : Run DialogueState) (old new : RunValue) (here : Buffered (LineEndState DialogueState))
-    → StandsAs setup run old → IsSteady new → IsEnd setup side here (at side new.ends)
+    → StandsAs setup run old → IsSteady new → IsEnd setup run.brought side here (at side new.ends)
     → (at (other side) new.ends ≡ at (other side) old.ends) × (new.past ≡ old.past) → StandsAs setup (with_end_at side here run) new
 changes_end side setup run old new here stands steady is same = record {
   past = stands.past ∙ sym same.1;
-  ends = with_here (λ (s : Side) (h far : Buffered (LineEndState DialogueState)). IsEnd setup s h (at s new.ends)) side here run.ends is
-      (subst (λ (e : LineEndValue). IsEnd setup (other side) (end_at (other side) run) e) (sym same.0) (stands.ends (other side)));
+  ends = with_here (λ (s : Side) (h far : Buffered (LineEndState DialogueState)). IsEnd setup run.brought s h (at s new.ends)) side here run.ends is
+      (subst (λ (e : LineEndValue). IsEnd setup run.brought (other side) (end_at (other side) run) e) (sym same.0) (stands.ends (other side)));
   steady = steady;
   clean = stands.clean;
 }
 
 -- by a call
 end_called : (event : EndEvent) (side : Side) (setup : SetupValue) (run : Run DialogueState) (old new : LineEndValue)
-    → IsEnd setup side (end_at side run) old → IsCalled event old new
-    → IsEnd setup side (called_with (participant by_themselves setup run side) event (end_at side run)) new
+    → IsEnd setup run.brought side (end_at side run) old → IsCalled event old new
+    → IsEnd setup run.brought side (called_with (participant by_themselves setup run side) event (end_at side run)) new
 end_called event side setup run old new was is = record {
   hearer = ap (λ (p : Participant DialogueState). called_with p event (end_at side run)) (sym (who_is setup run side old was.standing))
       ∙ ap (called_with (player_of old) event) was.hearer ∙ sym is.hearer;
@@ -131,9 +136,9 @@ at_called event side setup run old new stands steady happens =
     (end_called event side setup run (at side old.ends) (at side new.ends) (stands.ends side) happens.0) (happens.1, happens.2)
 
 -- by what becomes of the bytes on the line
-end_changed : (change : List ℕ → List ℕ) (side : Side) (setup : SetupValue) (h : Buffered (LineEndState DialogueState)) (old new : LineEndValue)
-    → IsEnd setup side h old → new ≡ with_line change old → IsEnd setup side (changed_line change h) new
-end_changed change side setup h old new was is = record {
+end_changed : (change : List ℕ → List ℕ) (side : Side) (setup : SetupValue) (brought : AtBoth Belongings) (h : Buffered (LineEndState DialogueState)) (old new : LineEndValue)
+    → IsEnd setup brought side h old → new ≡ with_line change old → IsEnd setup brought side (changed_line change h) new
+end_changed change side setup brought h old new was is = record {
   hearer = ap (changed_line change) was.hearer ∙ ap hearer_of (sym is);
   standing = ap standing_of is ∙ was.standing;
 }
@@ -142,7 +147,7 @@ line_changed : (change : List ℕ → List ℕ) (side : Side) (setup : SetupValu
     → IsSteady new → HappensAt side (ChangesLine change) old new → StandsAs setup (with_end_at side (changed_line change (end_at side run)) run) new
 line_changed change side setup run old new stands steady happens =
     changes_end side setup run old new (changed_line change (end_at side run)) stands steady
-    (end_changed change side setup (end_at side run) (at side old.ends) (at side new.ends) (stands.ends side) happens.0) (happens.1, happens.2)
+    (end_changed change side setup run.brought (end_at side run) (at side old.ends) (at side new.ends) (stands.ends side) happens.0) (happens.1, happens.2)
 
 -- ---- a piece comes
 
@@ -168,9 +173,9 @@ passed_on side n number setup run old new stands steady passes =
     let there = end_at (other side) run in
     let after : StandsAs setup (after_hearing number side (all_taken heard) (with_line_to side (drop n) run)) new = record {
       past = stands.past ∙ sym passes.2;
-      ends = with_both (λ (s : Side) (h far : Buffered (LineEndState DialogueState)). IsEnd setup s h (at s new.ends)) side heard (changed_line (drop n) there) run.ends
+      ends = with_both (λ (s : Side) (h far : Buffered (LineEndState DialogueState)). IsEnd setup run.brought s h (at s new.ends)) side heard (changed_line (drop n) there) run.ends
           (record { hearer = refl; standing = is.standing ∙ (stands.ends side).standing })
-          (end_changed (drop n) (other side) setup there (at (other side) old.ends) (at (other side) new.ends) (stands.ends (other side)) passes.1);
+          (end_changed (drop n) (other side) setup run.brought there (at (other side) old.ends) (at (other side) new.ends) (stands.ends (other side)) passes.1);
       steady = steady;
       clean = stands.clean;
     } in
@@ -180,13 +185,13 @@ passed_on side n number setup run old new stands steady passes =
 -- ---- what the ends still hold
 
 -- as they stop
-last_end : (setup : SetupValue) (side : Side) (h : Buffered (LineEndState DialogueState)) (e : LineEndValue) → IsEnd setup side h e → IsOrdered e
-    → IsLastEnd setup side h.end e
-last_end setup side h e is ordered =
+last_end : (setup : SetupValue) (brought : AtBoth Belongings) (side : Side) (h : Buffered (LineEndState DialogueState)) (e : LineEndValue) → IsEnd setup brought side h e → IsOrdered e
+    → IsLastEnd setup brought side h.end e
+last_end setup brought side h e is ordered =
     record { end_is = ap (λ (x : Buffered (LineEndState DialogueState)). x.end) is.hearer; standing = is.standing; ordered = ordered }
 
-all_held : (setup : SetupValue) (side : Side) (h : Buffered (LineEndState DialogueState)) (e : LineEndValue) → IsEnd setup side h e → held_bytes e.node ≡ h.held
-all_held setup side h e is = sym (ap (λ (x : Buffered (LineEndState DialogueState)). x.held) is.hearer)
+all_held : (setup : SetupValue) (brought : AtBoth Belongings) (side : Side) (h : Buffered (LineEndState DialogueState)) (e : LineEndValue) → IsEnd setup brought side h e → held_bytes e.node ≡ h.held
+all_held setup brought side h e is = sym (ap (λ (x : Buffered (LineEndState DialogueState)). x.held) is.hearer)
 
 all_fits : (bytes held : List ℕ) → bytes ≡ held → length bytes < READER_SIZE → bytes ≡ take READER_SIZE held
 all_fits bytes held is room =
@@ -200,12 +205,12 @@ clean_holds : (setup : SetupValue) (run : Run DialogueState) (r : RunValue) → 
 clean_holds setup run r stands = record { fits = fits; all = λ clean. all }
   where
     all : (side : Side) → at side (held_parts r) ≡ (end_at side run).held
-    all side = held_at r side ∙ all_held setup side (end_at side run) (at side r.ends) (stands.ends side)
+    all side = held_at r side ∙ all_held setup run.brought side (end_at side run) (at side r.ends) (stands.ends side)
 
     fits : (side : Side) → at side (held_parts r) ≡ take READER_SIZE (end_at side run).held
     fits side = held_at r side
         ∙ all_fits (held_bytes (at side r.ends).node) (end_at side run).held
-        (all_held setup side (end_at side run) (at side r.ends) (stands.ends side)) (ready_at r stands.steady side).room
+        (all_held setup run.brought side (end_at side run) (at side r.ends) (stands.ends side)) (ready_at r stands.steady side).room
 
 -- so it is in the world
 pub held_counted : (run : Run DialogueState) (held : AtBoth (List ℕ)) → HoldWhatIsLeft run held → HoldWhatIsLeft (counted run) held
@@ -222,16 +227,16 @@ fooled_at side n number setup run old new stands passes =
     let stop : Buffered (LineEndState DialogueState) = record { held = is.held; end = line_end_of (at side new.ends) } in
     let there = changed_line (drop n) (end_at (other side) run) in
     let far = at (other side) new.ends in
-    let changed : IsEnd setup (other side) there far =
-    end_changed (drop n) (other side) setup (end_at (other side) run) (at (other side) old.ends) far (stands.ends (other side)) passes.1 in
+    let changed : IsEnd setup run.brought (other side) there far =
+    end_changed (drop n) (other side) setup run.brought (end_at (other side) run) (at (other side) old.ends) far (stands.ends (other side)) passes.1 in
     let ready = line_ready (drop n) (at (other side) old.ends) far passes.1 (ready_at old stands.steady (other side)) in
     let fits = with_both (λ (s : Side) (h far : Buffered (LineEndState DialogueState)). held_bytes (at s new.ends).node ≡ take READER_SIZE h.held) side stop there run.ends is.fits
-    (all_fits (held_bytes far.node) there.held (all_held setup (other side) there far changed) ready.room) in
+    (all_fits (held_bytes far.node) there.held (all_held setup run.brought (other side) there far changed) ready.room) in
     let after : EndsAs setup (after_hearing number side (stopped stop) (with_line_to side (drop n) run)) (Fooled number side) new = record {
       past = stands.past ∙ sym passes.2;
-      ends = with_both (λ (s : Side) (h far : Buffered (LineEndState DialogueState)). IsLastEnd setup s h.end (at s new.ends)) side stop there run.ends
+      ends = with_both (λ (s : Side) (h far : Buffered (LineEndState DialogueState)). IsLastEnd setup run.brought s h.end (at s new.ends)) side stop there run.ends
           (record { end_is = refl; standing = is.standing ∙ (stands.ends side).standing; ordered = is.ordered })
-          (last_end setup (other side) there far changed ready.ordered);
+          (last_end setup run.brought (other side) there far changed ready.ordered);
       verdict_is = refl;
       held = record {
         fits = λ s. held_at new s ∙ fits s;
@@ -263,26 +268,63 @@ number_as_lost old lost is =
     ap (λ (h : Buffered (LineEndState DialogueState)). h.end.state.number) is.hearer
     ∙ lost_number (player_of old).keeper (player_of old).identity old.node.engine.stage (line_end_of old).state
 
-owned_by_talk : (number : Option ℕ) → DialogueState → Belongings
-owned_by_talk number talk = record { lists = talk.machine.lists; kept = talk.kept; number = number }
+owned_by_talk : Option (List Partial) → Holdings → (number : Option ℕ) → DialogueState → Belongings
+owned_by_talk partials h number talk = record {
+  lists = talk.machine.lists;
+  kept = talk.kept;
+  partials = partials_then partials (left_of h talk.machine);
+  number = number;
+}
 
--- at an end that has begun again
-end_begun : (setup : SetupValue) (side : Side) (old lost new : LineEndValue) (now : Buffered (LineEndState DialogueState)) → IsEnd setup side now old
-    → IsCalled line_lost old lost → BeginsAgain lost new
-    → IsEnd setup side (begins (begins_session (standing_at setup side).identity (standing_at setup side).own now.end.state.number
-    (by_themselves.first (renewed (owned_by_talk now.end.state.number now.end.state.keeper))))) new
+-- what an end of the run has is what the program's end has
+owned_is : (setup : SetupValue) (run : Run DialogueState) (side : Side) (e : LineEndValue) → standing_of e ≡ standing_at setup run.brought side →
+    (number : Option ℕ) (talk : DialogueState) →
+    owned_by_talk (at side run.brought).partials (at side (parties setup run.brought)).holdings number talk
+    ≡ owned_by_talk e.spool.partials (holdings_of e.spool) number talk
+owned_is setup run side e standing number talk =
+    let same : (party setup run.brought side).holdings ≡ holdings_of e.spool = sym (ap (λ (s : Standing). s.holdings) standing) in
+    ap₂ (λ ps h. owned_by_talk ps h number talk) (ap (λ (h : Holdings). h.partials) same)
+    (ap (λ (p : Party). p.holdings) (at_each_is (party setup run.brought) side) ∙ same)
+
+-- an end that has begun again, to which this was brought
+record Begun (setup : SetupValue) (side : Side) (brought : Belongings) (e : LineEndValue) : Type 0 where
+  hearer : begins (begins_session (identity setup side) (at side setup).own brought.number (by_themselves.first brought)) ≡ hearer_of e
+  standing : standing_of e ≡ record {
+    identity = identity setup side;
+    own = (at side setup).own;
+    holdings = holding brought.partials (at side setup).holdings;
+  }
+
+-- what is held behind a session, by what was held in it and how its machine stands
+abbrev held_then : Holdings → State → Holdings
+held_then h x = holding (partials_then h.partials (left_of h x)) h
+
+end_begun : (setup : SetupValue) (run : Run DialogueState) (side : Side) (old lost new : LineEndValue) (now : Buffered (LineEndState DialogueState))
+    → IsEnd setup run.brought side now old → IsCalled line_lost old lost → BeginsAgain lost new
+    → Begun setup side (renewed (owned_by_talk (at side run.brought).partials (at side (parties setup run.brought)).holdings
+    now.end.state.number now.end.state.keeper)) new
 unfolding owned_by_talk
-end_begun setup side old lost new now was lost_is begun =
+end_begun setup run side old lost new now was lost_is begun =
     let first : Standing → Option ℕ → DialogueState → Buffered (LineEndState DialogueState) =
-    λ s number talk. begins (begins_session s.identity s.own number (by_themselves.first (renewed (owned_by_talk number talk)))) in
+    λ s number talk. begins (begins_session s.identity s.own number (by_themselves.first (renewed (owned_by_talk None s.holdings number talk)))) in
     let standing = lost_is.standing ∙ was.standing in
+    let there : Standing = standing_at setup run.brought side in
+    let talk_is : (line_end_of lost).state.keeper ≡ now.end.state.keeper =
+    kept_as_lost old lost lost_is ∙ sym (ap (λ (h : Buffered (LineEndState DialogueState)). h.end.state.keeper) was.hearer) in
+    let holdings_are : holdings_of lost.spool ≡ there.holdings = ap (λ (s : Standing). s.holdings) standing in
+    let party_is : (at side (parties setup run.brought)).holdings ≡ there.holdings = ap (λ (p : Party). p.holdings) (at_each_is (party setup run.brought) side) in
+    let held : held_then (holdings_of lost.spool) (line_end_of lost).state.keeper.machine
+    ≡ holding (partials_then (at side run.brought).partials (left_of (at side (parties setup run.brought)).holdings now.end.state.keeper.machine)) (at side setup).holdings =
+    ap₂ held_then holdings_are (ap (λ (t : DialogueState). t.machine) talk_is)
+    ∙ ap (λ (h : Holdings). holding (partials_then (at side run.brought).partials (left_of h now.end.state.keeper.machine)) (at side setup).holdings) (sym party_is) in
     record {
-      hearer = ap (λ (h : Buffered (LineEndState DialogueState)). first (standing_at setup side) h.end.state.number h.end.state.keeper) was.hearer
-          ∙ ap (λ (n : Option ℕ). first (standing_at setup side) n (line_end_of old).state.keeper) (sym (number_as_lost old lost lost_is))
-          ∙ ap (first (standing_at setup side) (line_end_of lost).state.number) (sym (kept_as_lost old lost lost_is))
+      hearer = ap (λ (h : Buffered (LineEndState DialogueState)). first there h.end.state.number h.end.state.keeper) was.hearer
+          ∙ ap (λ (n : Option ℕ). first there n (line_end_of old).state.keeper) (sym (number_as_lost old lost lost_is))
+          ∙ ap (first there (line_end_of lost).state.number) (sym (kept_as_lost old lost lost_is))
           ∙ ap (λ (s : Standing). first s (line_end_of lost).state.number (line_end_of lost).state.keeper) (sym standing)
           ∙ sym begun.hearer;
-      standing = begun.standing ∙ standing;
+      standing = begun.standing
+          ∙ ap₂ (λ (s : Standing) (h : Holdings). record { identity = s.identity; own = s.own; holdings = h }) standing held;
     }
 
 -- what is told of an end is told as the program tells it
@@ -315,17 +357,19 @@ called_again : (setup : SetupValue) (run : Run DialogueState) (old new : RunValu
     → StandsAs setup (after_event by_themselves setup 0 Call run) new
 unfolding owned_by_talk
 called_again setup run old new stands steady again =
-    let hung : (side : Side) → IsEnd setup side (hung_up by_themselves setup run side) (at side again.lost) =
+    let hung : (side : Side) → IsEnd setup run.brought side (hung_up by_themselves setup run side) (at side again.lost) =
     λ side. end_called line_lost side setup run (at side old.ends) (at side again.lost) (stands.ends side) (again.hangs_up side) in
     let begun = λ (side : Side).
-    end_begun setup side (at side old.ends) (at side again.lost) (at side new.ends) (end_at side run) (stands.ends side) (again.hangs_up side) (again.begins side) in
+    end_begun setup run side (at side old.ends) (at side again.lost) (at side new.ends) (end_at side run) (stands.ends side) (again.hangs_up side) (again.begins side) in
     record {
       past = one_more_session run.past (at_each (λ side. report_of_end (hung_up by_themselves setup run side).end)) old.past
           (at_each (λ side. told_of (at side again.lost))) stands.past
           (both_told (λ side. (hung_up by_themselves setup run side).end) again.lost
           (λ side. ap (λ (h : Buffered (LineEndState DialogueState)). h.end) (hung side).hearer) (λ side. (again.hangs_up side).ordered))
           ∙ sym again.past;
-      ends = each (λ side. IsEnd setup side (end_at side (after_event by_themselves setup 0 Call run)) (at side new.ends)) (begun Caller) (begun Called);
+      ends = each (λ side. IsEnd setup (after_event by_themselves setup 0 Call run).brought side (end_at side (after_event by_themselves setup 0 Call run)) (at side new.ends))
+          (record { hearer = (begun Caller).hearer; standing = (begun Caller).standing })
+          (record { hearer = (begun Called).hearer; standing = (begun Called).standing });
       steady = steady;
       clean = refl;
     }
@@ -380,7 +424,7 @@ pub record StillRuns (events : List Event) (number : ℕ) (setup : SetupValue) (
 pub ends_clean : (run : Run DialogueState) (setup : SetupValue) (r : RunValue) → StandsAs setup run r → EndsAs setup run Clean r
 ends_clean run setup r stands = record {
   past = stands.past;
-  ends = λ side. last_end setup side (end_at side run) (at side r.ends) (stands.ends side) (ready_at r stands.steady side).ordered;
+  ends = λ side. last_end setup run.brought side (end_at side run) (at side r.ends) (stands.ends side) (ready_at r stands.steady side).ordered;
   verdict_is = stands.clean;
   held = clean_holds setup run r stands;
 }
@@ -429,15 +473,17 @@ told_as setup run verdict r ends =
     let now : Side → LineEndState DialogueState = λ side. (end_at side run).end in
     let told : Side → SpelledEnd = λ side. told_of (at side r.ends) in
     let stand : Side → EndNow = λ side. parts_now (at side r.ends) in
-    let own : LineEndState DialogueState → Belongings = λ e. owned_by_talk e.state.number e.state.keeper in
+    let own : Side → LineEndState DialogueState → Belongings = λ side e.
+    owned_by_talk (at side run.brought).partials (at side (parties setup run.brought)).holdings e.state.number e.state.keeper in
     let tells : List (AtBoth SpelledEnd) → AtBoth EndNow → AtBoth Belongings → LineVerdict → SpelledReport =
     λ sessions at_ends belongings says. record { sessions = sessions; ends = at_ends; belongings = belongings; verdict = says } in
-    ap₂ (λ sessions at_ends. tells sessions at_ends (at_each (λ side. own (now side))) run.verdict)
+    ap₂ (λ sessions at_ends. tells sessions at_ends (at_each (λ side. own side (now side))) run.verdict)
     (one_more_session run.past (at_each (λ side. report_of_end (now side))) r.past (at_each told) ends.past
     (both_told now r.ends (λ side. (ends.ends side).end_is) (λ side. (ends.ends side).ordered)))
     (each_are (λ side. end_now (now side)) stand (λ side. ap (λ (e : LineEndState DialogueState). end_now e) (ends.ends side).end_is))
     ∙ ap₂ (tells (r.past ++ at_each told ∷ []) (at_each stand))
-    (each_are (λ side. own (now side)) (λ side. owned_parts (at side r.ends)) (λ side. ap own (ends.ends side).end_is))
+    (each_are (λ side. own side (now side)) (λ side. owned_parts (at side r.ends)) (λ side. ap (own side) (ends.ends side).end_is
+    ∙ owned_is setup run side (at side r.ends) (ends.ends side).standing (line_end_of (at side r.ends)).state.number (line_end_of (at side r.ends)).state.keeper))
     ends.verdict_is
 
 -- a run that ends so is what the two ends do, and what the world tells
@@ -454,43 +500,47 @@ told_by_world setup events verdict r ends same = told_by_ends setup events verdi
 pub give_as_set_up : (setup : SetupValue) (run : Run DialogueState) (verdict : LineVerdict) (r : RunValue) → EndsAs setup run verdict r
     → GiveAsSetUp setup (whole_report r verdict).spools
 give_as_set_up setup run verdict r ends side =
-    ap holdings_of (at_each_is (λ (s : Side). (at s r.ends).spool) side) ∙ ap (λ (s : Standing). s.holdings) (ends.ends side).standing
+    ap (λ (m : MemoryHoldings). holding None (holdings_of m)) (at_each_is (λ (s : Side). (at s r.ends).spool) side)
+    ∙ ap (λ (s : Standing). holding None s.holdings) (ends.ends side).standing
 
 -- ---- the first session
 
 -- of an end that is set up so
-end_starts : (setup : SetupValue) (side : Side) (spool : MemoryHoldings) (e : LineEndValue) → (at side setup).holdings ≡ holdings_of spool
-    → (at side setup).belongings.kept ≡ spool.stored
-    → HasBegun (standing_at setup side).identity (standing_at setup side).own (at side setup).belongings.number (renewed (at side setup).belongings).lists spool e
-    → IsEnd setup side (begins (begins_session (standing_at setup side).identity (standing_at setup side).own (at side setup).belongings.number
-    (by_themselves.first (renewed (at side setup).belongings)))) e
+end_starts : (setup : SetupValue) (side : Side) (spool : MemoryHoldings) (e : LineEndValue)
+    → holding (at side setup).belongings.partials (at side setup).holdings ≡ holdings_of spool → (at side setup).belongings.kept ≡ spool.stored
+    → HasBegun (identity setup side) (at side setup).own (at side setup).belongings.number (renewed (at side setup).belongings).lists spool e
+    → Begun setup side (renewed (at side setup).belongings) e
 end_starts setup side spool e holdings kept begun =
-    let standing = standing_at setup side in
     let belongings = (at side setup).belongings in
     record {
-      hearer = ap (λ (files : List Kept). begins (begins_session standing.identity standing.own belongings.number (unopened (renewed belongings).lists files))) kept
+      hearer = ap (λ (files : List Kept). begins (begins_session (identity setup side) (at side setup).own belongings.number (unopened (renewed belongings).lists files))) kept
           ∙ sym begun.hearer;
-      standing = begun.standing ∙ ap (λ (h : Holdings). record { identity = standing.identity; own = standing.own; holdings = h }) (sym holdings);
+      standing = begun.standing ∙ ap (λ (h : Holdings). record { identity = identity setup side; own = (at side setup).own; holdings = h }) (sym holdings);
     }
 
 -- of both
 pub starts_as : (setup : SetupValue) (caller_spool called_spool : MemoryHoldings) (r : RunValue) → r.past ≡ []
-    → setup.at_caller.holdings ≡ holdings_of caller_spool → setup.at_called.holdings ≡ holdings_of called_spool
+    → holding setup.at_caller.belongings.partials setup.at_caller.holdings ≡ holdings_of caller_spool
+    → holding setup.at_called.belongings.partials setup.at_called.holdings ≡ holdings_of called_spool
     → setup.at_caller.belongings.kept ≡ caller_spool.stored → setup.at_called.belongings.kept ≡ called_spool.stored
-    → HasBegun (standing_at setup Caller).identity (standing_at setup Caller).own setup.at_caller.belongings.number (renewed setup.at_caller.belongings).lists caller_spool r.ends.at_caller
-    → HasBegun (standing_at setup Called).identity (standing_at setup Called).own setup.at_called.belongings.number (renewed setup.at_called.belongings).lists called_spool r.ends.at_called
+    → HasBegun (identity setup Caller) setup.at_caller.own setup.at_caller.belongings.number (renewed setup.at_caller.belongings).lists caller_spool r.ends.at_caller
+    → HasBegun (identity setup Called) setup.at_called.own setup.at_called.belongings.number (renewed setup.at_called.belongings).lists called_spool r.ends.at_called
     → StandsAs setup (first_run by_themselves setup) r
-starts_as setup caller_spool called_spool r none caller_holdings called_holdings caller_kept called_kept caller called = record {
-  past = sym none;
-  ends = each (λ side. IsEnd setup side (end_at side (first_run by_themselves setup)) (at side r.ends))
-      (end_starts setup Caller caller_spool r.ends.at_caller caller_holdings caller_kept caller)
-      (end_starts setup Called called_spool r.ends.at_called called_holdings called_kept called);
-  steady = record {
-    at_caller = record { ordered = caller.ordered; room = caller.room };
-    at_called = record { ordered = called.ordered; room = called.room };
-  };
-  clean = refl;
-}
+starts_as setup caller_spool called_spool r none caller_holdings called_holdings caller_kept called_kept caller called =
+    let first = first_run by_themselves setup in
+    let caller_begun = end_starts setup Caller caller_spool r.ends.at_caller caller_holdings caller_kept caller in
+    let called_begun = end_starts setup Called called_spool r.ends.at_called called_holdings called_kept called in
+    record {
+      past = sym none;
+      ends = each (λ side. IsEnd setup first.brought side (end_at side first) (at side r.ends))
+          (record { hearer = caller_begun.hearer; standing = caller_begun.standing })
+          (record { hearer = called_begun.hearer; standing = called_begun.standing });
+      steady = record {
+        at_caller = record { ordered = caller.ordered; room = caller.room };
+        at_called = record { ordered = called.ordered; room = called.room };
+      };
+      clean = refl;
+    }
 
 -- ---- the program's reports and loop
 

@@ -6,6 +6,13 @@ use Rattle.uug_conversation.specs.EarlierJobs.{behind}
 use Rattle.uug_session.specs.EndStep.{first_link}
 use Rattle.uug_conversation.specs.Holdings.{Kept}
 use Rattle.uug_conversation.specs.Jobs.{Lists}
+use Rattle.uug_conversation.specs.Left.{IsLeft, left_of}
+use Rattle.uug_conversation.specs.Machine.{State}
+use Rattle.uug_conversation.specs.Partial.{Partial}
+use Rattle.uug_conversation.specs.Partials.{partials_then}
+use Rattle.uug_conversation.specs.Runs.{Progress, progress_at}
+use Rattle.uug_conversation.proofs.FirstLaw.{left_law}
+use Rattle.uug_conversation.proofs.ResumingLemmas.{stays_without_left}
 use Rattle.uug_conversation.specs.DialogueState.{DialogueState, end_keeper}
 use Rattle.uug_conversation.specs.Turns.{other}
 use Rattle.uug_session.specs.TwoEnds.{Talker, at_first, first_two, talker}
@@ -62,7 +69,7 @@ module _ (setup : SetupValue) (brought : AtBoth Belongings) where
         near_passed = joined.far_passed;
         far_passed = joined.near_passed;
         near_spoken = joined.far_spoken;
-        far_spoken = subst (λ (s : Side). Spoken setup s e) back joined.near_spoken;
+        far_spoken = subst (λ (s : Side). Spoken setup brought s e) back joined.near_spoken;
       }
 
   -- ---- a session starts
@@ -95,9 +102,9 @@ module _ (setup : SetupValue) (brought : AtBoth Belongings) where
     far_most = omega arith;
     near_passed = refl;
     far_passed = refl;
-    near_spoken = spoken_at_first (end_keeper Caller setup.at_caller.holdings) (identity setup Caller) setup.at_caller.own
+    near_spoken = spoken_at_first (end_keeper Caller (party setup brought Caller).holdings) (identity setup Caller) setup.at_caller.own
         brought.at_caller.number (by_themselves.first brought.at_caller);
-    far_spoken = spoken_at_first (end_keeper Called setup.at_called.holdings) (identity setup Called) setup.at_called.own
+    far_spoken = spoken_at_first (end_keeper Called (party setup brought Called).holdings) (identity setup Called) setup.at_called.own
         brought.at_called.number (by_themselves.first brought.at_called);
   }
 
@@ -117,15 +124,23 @@ module _ (setup : SetupValue) (brought : AtBoth Belongings) (sound : IsSoundSess
   has_behind : (side : Side) (number : Option ℕ) (t : Talker) (taken : List (List ℕ)) →
       t.taken ≡ taken →
       t.state.lists ≡ lists_after side (party setup brought Caller) (party setup brought Called) (length t.taken) →
-      t.kept ≡ kept_after (length t.taken) (seen_at setup brought side) → (sent : ℕ) →
+      t.kept ≡ kept_after (length t.taken) (seen_at setup brought side) →
+      t.state ≡ (progress_at side (party setup brought Caller) (party setup brought Called) (length t.taken)).state → (sent : ℕ) →
       HasSame side number (talk_at setup brought side t) sent (length taken)
-  has_behind side number t taken told lists kept sent =
+  has_behind side number t taken told lists kept stands sent =
       let b : Belongings = at side brought in
-      let having : (Lists → List Kept → Belongings) = λ l k.
-      record { lists = behind b.lists.struck b.lists.failed l; kept = b.kept ++ k; number = number } in
+      let h = (at side (parties setup brought)).holdings in
+      let at_last = (progress_at side (party setup brought Caller) (party setup brought Called) (length t.taken)).state in
+      let having : (Lists → List Kept → State → Belongings) = λ l k x. record {
+        lists = behind b.lists.struck b.lists.failed l;
+        kept = b.kept ++ k;
+        partials = partials_then b.partials (left_of h x);
+        number = number;
+      } in
       ap (λ (l : List (List ℕ)). has_by true (parties setup brought) side b number (length l)) (sym told)
-      ∙ ap (λ (l : Lists). having l (kept_after (length t.taken) (seen_at setup brought side))) (sym lists)
-      ∙ ap (λ (k : List Kept). having t.state.lists k) (sym kept)
+      ∙ ap (λ (l : Lists). having l (kept_after (length t.taken) (seen_at setup brought side)) at_last) (sym lists)
+      ∙ ap (λ (k : List Kept). having t.state.lists k at_last) (sym kept)
+      ∙ ap (λ (x : State). having t.state.lists t.kept x) (sym stands)
 
   pub has_joined : (side : Side) (e f : LineEndState DialogueState) → EndsJoined setup brought side e f →
       by_numbers.has (parties setup brought) side (at side brought) e.state.number (count_of e)
@@ -136,13 +151,19 @@ module _ (setup : SetupValue) (brought : AtBoth Belongings) (sound : IsSoundSess
           (talker_at setup brought side joined.joined.two) →
           HasSame side e.state.number e.state.keeper (length e.log.sent) (length e.log.taken)
       by (inl fresh) =
-          subst (λ (x : DialogueState). HasSame side e.state.number x (length e.log.sent) (length e.log.taken)) (sym fresh.0) refl
+          subst (λ (x : DialogueState). HasSame side e.state.number x (length e.log.sent) (length e.log.taken)) (sym fresh.0)
+          (ap (λ (ps : Option (List Partial)). record {
+            lists = (at side brought).lists;
+            kept = (at side brought).kept;
+            partials = ps;
+            number = e.state.number;
+          }) (stays_without_left (at side brought).partials))
       by (inr is_behind) =
           let two = joined.joined.two in
           let told : IsToldAt setup brought side two = told_at setup brought sound side two joined.joined.reached in
           subst (λ (x : DialogueState). HasSame side e.state.number x (length e.log.sent) (length e.log.taken)) (sym is_behind)
           (has_behind side e.state.number (talker_at setup brought side two) e.log.taken
-          joined.joined.near_taken told.stands.lists told.stands.kept (length e.log.sent))
+          joined.joined.near_taken told.stands.lists told.stands.kept (ap (λ (p : Progress). p.state) told.machine) (length e.log.sent))
 
   -- ---- how far the ends have come
 
@@ -164,3 +185,30 @@ module _ (setup : SetupValue) (brought : AtBoth Belongings) (sound : IsSoundSess
       let told : IsToldAt setup brought side j.two = told_at setup brought sound side j.two j.reached in
       subst (λ (l : List (List ℕ)). length l ≤ floor (length e.log.taken) v) j.near_sent
       (subst (λ (l : List (List ℕ)). length t.sent ≤ floor (length l) v) j.near_taken told.sent_to_floor)
+
+  -- ---- what is left of a file, were the session to end now
+
+  left_at_number : (side : Side) (k : ℕ) →
+      IsLeft (party setup brought (other side)) (party setup brought side).holdings
+      (left_of (party setup brought side).holdings (progress_at side (party setup brought Caller) (party setup brought Called) k).state)
+  left_at_number Caller k = left_law (party setup brought Caller) (party setup brought Called) sound.fronts (sound.party Caller) (sound.party Called) Caller k
+  left_at_number Called k = left_law (party setup brought Caller) (party setup brought Called) sound.fronts (sound.party Caller) (sound.party Called) Called k
+
+  abbrev Leaves : Side → DialogueState → Type 0
+  Leaves side talk = IsLeft (party setup brought (other side)) (party setup brought side).holdings
+      (left_of (party setup brought side).holdings talk.machine)
+
+  pub left_joined : (side : Side) (e f : LineEndState DialogueState) → EndsJoined setup brought side e f →
+      IsLeft (party setup brought (other side)) (party setup brought side).holdings
+      (left_of (party setup brought side).holdings e.state.keeper.machine)
+  left_joined side e f joined = by joined.joined.near_talk
+    where
+      by : IsTalk side (party setup brought side) (at side brought) e.state.keeper (talker_at setup brought side joined.joined.two) → Leaves side e.state.keeper
+      by (inl fresh) = subst (Leaves side) (sym fresh.0) tt
+      by (inr is_behind) =
+          let two = joined.joined.two in
+          let told : IsToldAt setup brought side two = told_at setup brought sound side two joined.joined.reached in
+          subst (Leaves side) (sym is_behind)
+          (subst (λ (x : State). IsLeft (party setup brought (other side)) (party setup brought side).holdings
+          (left_of (party setup brought side).holdings x))
+          (sym (ap (λ (p : Progress). p.state) told.machine)) (left_at_number side (length (talker_at setup brought side two).taken)))

@@ -10,8 +10,10 @@ use Rattle.uug_session.specs.Arriving.{held_in, Buffered, Arrival, all_taken, st
 use Rattle.uug_conversation.specs.Count.{Count}
 use Rattle.uug_session.specs.EndStep.{EndEvent, time_ran_out, line_lost}
 use Rattle.uug_conversation.specs.Jobs.{at_start, pending}
-use Rattle.uug_conversation.specs.Party.{IsSound}
-use Rattle.uug_conversation.proofs.ResumingLemmas.{holds_no_fronts}
+use Rattle.uug_conversation.specs.Party.{HoldsFronts, IsSound}
+use Rattle.uug_conversation.specs.Left.{left_of}
+use Rattle.uug_conversation.proofs.ResumingLemmas.{fronts_then, holds_no_fronts}
+use Rattle.uug_line.proofs.SessionLemmas.{left_joined}
 use Rattle.uug_conversation.specs.DialogueState.{DialogueState}
 use Rattle.uug_line.specs.declared.event.Event.{Event}
 use Rattle.uug_line.specs.declared.event.Event.TheVariants.{Pass, Drop, Flip, Insert, Timeout, HangUp, Call}
@@ -123,7 +125,7 @@ module _ (setup : SetupValue) where
   counted_with Caller x run = refl
   counted_with Called x run = refl
 
-  player_is : (run : Run DialogueState) (side : Side) → talk_player setup side ≡ participant by_themselves setup run side
+  player_is : (run : Run DialogueState) (side : Side) → talk_player setup run.brought side ≡ participant by_themselves setup run side
   player_is run Caller = refl
   player_is run Called = refl
 
@@ -151,9 +153,9 @@ module _ (setup : SetupValue) where
       let steps = steps_of run s in
       subst (λ (p : Participant DialogueState). Goes setup (with_end_at side (called_with p event here) run) (calls by_numbers setup side event (counted run)))
       (player_is run side) (record {
-        stands = one_becomes side run (called_with (talk_player setup side) event here) s
+        stands = one_becomes side run (called_with (talk_player setup run.brought side) event here) s
             (steps.does_joined side event here.end there no_packet (s.joined side));
-        counted_is = counted_with side (called_with (talk_player setup side) event here) run
+        counted_is = counted_with side (called_with (talk_player setup run.brought side) event here) run
             ∙ ap (λ (z : LineEndState Count). with_end_at side (record { held = held_in z.state.stage here.held; end = z }) (counted run))
             (steps.does_counted side event here.end there no_packet (s.joined side))
             ∙ ap (λ (z : Buffered (LineEndState Count)). with_end_at side (called_with (count_player setup run.brought side) event z) (counted run))
@@ -205,7 +207,7 @@ module _ (setup : SetupValue) where
       let there = (end_at (other side) run).end in
       let piece = take n there.line in
       let taken = taken_piece setup run.brought s.sound side there piece here (s.joined side) in
-      let came = takes_piece (line_taker (talk_player setup side) there.log.packets) piece here in
+      let came = takes_piece (line_taker (talk_player setup run.brought side) there.log.packets) piece here in
       subst (λ (p : Participant DialogueState). Goes setup
       (after_hearing number side (takes_piece (line_taker p there.log.packets) piece here) (with_line_to side (drop n) run))
       (after_event by_numbers setup number (Pass side n) (counted run))) (player_is run side) (record {
@@ -299,15 +301,15 @@ module _ (setup : SetupValue) where
 
   -- both ends have hung up
   hung_up_joined : (run : Run DialogueState) → Stands setup run →
-      EndsJoined setup run.brought Caller (does (talk_player setup Caller) line_lost run.ends.at_caller.end)
-      (does (talk_player setup Called) line_lost run.ends.at_called.end)
+      EndsJoined setup run.brought Caller (does (talk_player setup run.brought Caller) line_lost run.ends.at_caller.end)
+      (does (talk_player setup run.brought Called) line_lost run.ends.at_called.end)
   hung_up_joined run s =
       let steps = steps_of run s in
       let e = run.ends.at_caller.end in
       let f = run.ends.at_called.end in
-      let e' = does (talk_player setup Caller) line_lost e in
+      let e' = does (talk_player setup run.brought Caller) line_lost e in
       let first = steps.does_joined Caller line_lost e f tt (s.joined Caller) in
-      steps.turned Called (does (talk_player setup Called) line_lost f) e'
+      steps.turned Called (does (talk_player setup run.brought Called) line_lost f) e'
       (steps.does_joined Called line_lost f e' tt (steps.turned Caller e' f first))
 
   abbrev brings : Run DialogueState → AtBoth Belongings
@@ -318,9 +320,19 @@ module _ (setup : SetupValue) where
     window = s.sound.window;
     party = party_sound;
     renewed = renewed_so;
-    fronts = record { of_caller = s.sound.fronts.of_caller; of_called = s.sound.fronts.of_called };
+    fronts = record { of_caller = fronts_of_caller; of_called = fronts_of_called };
   }
     where
+      fronts_of_caller : HoldsFronts (party setup (brings run) Caller).holdings (party setup (brings run) Called).holdings
+      fronts_of_caller = fronts_then (party setup run.brought Caller) (party setup run.brought Called).holdings
+          (left_of (party setup run.brought Called).holdings run.ends.at_called.end.state.keeper.machine) s.sound.fronts.of_caller
+          (left_joined setup run.brought s.sound Called run.ends.at_called.end run.ends.at_caller.end (s.joined Called))
+
+      fronts_of_called : HoldsFronts (party setup (brings run) Called).holdings (party setup (brings run) Caller).holdings
+      fronts_of_called = fronts_then (party setup run.brought Called) (party setup run.brought Caller).holdings
+          (left_of (party setup run.brought Caller).holdings run.ends.at_caller.end.state.keeper.machine) s.sound.fronts.of_called
+          (left_joined setup run.brought s.sound Caller run.ends.at_caller.end run.ends.at_called.end (s.joined Caller))
+
       party_sound : (side : Side) → IsSound (party setup (brings run) side)
       party_sound Caller = record {
         names = names_now setup run.brought s.sound Caller run.ends.at_caller.end run.ends.at_called.end (s.joined Caller) refl
@@ -389,8 +401,8 @@ module _ (setup : SetupValue) where
       Goes setup (calls_again by_themselves setup run) (calls_again by_numbers setup (counted run))
   again run s =
       let past = run.past ++ told run ∷ [] in
-      let kept = session_kept run.brought s.sound (does (talk_player setup Caller) line_lost run.ends.at_caller.end)
-      (does (talk_player setup Called) line_lost run.ends.at_called.end) (hung_up_joined run s) in
+      let kept = session_kept run.brought s.sound (does (talk_player setup run.brought Caller) line_lost run.ends.at_caller.end)
+      (does (talk_player setup run.brought Called) line_lost run.ends.at_called.end) (hung_up_joined run s) in
       goes_to (calls_again by_themselves setup run) (session_begins by_numbers setup past (brings run))
       (calls_again by_numbers setup (counted run))
       (begins_so past (brings run) (brings_sound run s) (All-push (IsKept setup) run.past (told run) s.past kept)
@@ -437,8 +449,8 @@ module _ (setup : SetupValue) where
     party = party_sound;
     renewed = renewed_so;
     fronts = record {
-      of_caller = holds_no_fronts setup.at_caller.holdings setup.at_called.holdings (sound Called).holds_none;
-      of_called = holds_no_fronts setup.at_called.holdings setup.at_caller.holdings (sound Caller).holds_none;
+      of_caller = holds_no_fronts (party setup (set_up setup) Caller).holdings (party setup (set_up setup) Called).holdings (sound Called).holds_none;
+      of_called = holds_no_fronts (party setup (set_up setup) Called).holdings (party setup (set_up setup) Caller).holdings (sound Caller).holds_none;
     };
   }
     where

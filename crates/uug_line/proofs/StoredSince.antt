@@ -26,6 +26,8 @@ use Rattle.uug_line.proofs.World.Steps.{Steps}
 use Rattle.uug_conversation.proofs.StoredLemmas.{called_store, caller_store, nothing_struck_at_first, nothing_stored_at_first}
 use Rattle.uug_conversation.proofs.OwnEntryLemmas.{of_sessions, by_places}
 use Rattle.uug_conversation.proofs.SharingLemmas.{lists_are_shared, AreShared-All}
+use Rattle.uug_conversation.specs.Partials.{holding}
+use Rattle.uug_conversation.proofs.OwnEntryLemmas.{own_for_base}
 use Rattle.uug_line.proofs.World.JoinedSteps.{steps}
 
 -- ---- in a session of these parties
@@ -183,8 +185,8 @@ module _ (setup : SetupValue) (brought : AtBoth Belongings) (sound : IsSoundSess
       let front = all_steps.front side e f near in
       omega (arith, all_steps.to_floor (other side) f e far, ap length front.1, length-append e.log.taken front.0)
 
-  own_now : (giver : Side) (now : AtBoth Belongings) (e f : LineEndState DialogueState) → (at giver (parties setup brought)).holdings ≡ (at giver setup).holdings →
-      (at (other giver) (parties setup brought)).holdings ≡ (at (other giver) setup).holdings →
+  own_now : (giver : Side) (now : AtBoth Belongings) (e f : LineEndState DialogueState) → (at giver (parties setup brought)).holdings ≡ holding (at giver brought).partials (at giver setup).holdings →
+      (at (other giver) (parties setup brought)).holdings ≡ holding (at (other giver) brought).partials (at (other giver) setup).holdings →
       (at giver now ≡ has giver e) → (at (other giver) now ≡ has (other giver) f) →
       EndsJoined setup brought giver e f → EndsJoined setup brought (other giver) f e →
       length f.log.taken ≤ floor (length e.log.taken) (view_at (parties setup brought) giver) →
@@ -194,10 +196,11 @@ module _ (setup : SetupValue) (brought : AtBoth Belongings) (sound : IsSoundSess
       (ap (λ (b : Belongings). b.lists.struck) near_has ∙ struck_now giver e f near)
       (ap (λ (b : Belongings). b.lists.struck) far_has ∙ struck_now (other giver) f e far)
       (ap (λ (b : Belongings). b.kept) far_has ∙ stored_now (other giver) f e far)
+      (own_for_base (at giver brought).partials (at (other giver) brought).partials (at giver setup).holdings (at (other giver) setup).holdings _ _ _ _
       (subst₂ (λ h others. OwnEntries h others (at giver (parties setup brought)).jobs (struck_in (parties setup brought) giver (length e.log.taken))
       (struck_in (parties setup brought) (other giver) (length f.log.taken)) (stored_in (parties setup brought) (other giver) (length f.log.taken)))
       same same_there
-      (session_own (parties setup brought) giver (length e.log.taken) (length f.log.taken) (to_floor giver e f near far) behind))
+      (session_own (parties setup brought) giver (length e.log.taken) (length f.log.taken) (to_floor giver e f near far) behind)))
 
   -- of both ends
   pub own_of_both : (giver : Side) (now : AtBoth Belongings) (e f : LineEndState DialogueState) → EndsJoined setup brought Caller e f →

@@ -6,19 +6,28 @@ use Rattle.uug_link.specs.Terms.{size_of_code}
 use Rattle.uug_session.specs.EndStep.{Identity}
 use Rattle.uug_conversation.specs.Holdings.{Kept, Holdings}
 use Rattle.uug_conversation.specs.Jobs.{Lists, at_start, pending}
+use Rattle.uug_conversation.specs.Partial.{Partial}
+use Rattle.uug_conversation.specs.Partials.{holding}
 use Rattle.uug_conversation.specs.Party.{Party}
 use Rattle.uug_conversation.specs.declared.side.Side.{Side}
 use Rattle.uug_conversation.specs.Sides.{AtBoth, at}
 
--- an end's jobs, all that its spool has kept, and the number of its conversations, where it keeps one
+-- an end's jobs, all that its spool has kept, what it holds of files that were cut off, where it resumes, and the number of its
+-- conversations, where it keeps one
 pub record Belongings : Type 0 where
   pub lists : Lists
   pub kept : List Kept
+  pub partials : Option (List Partial)
   pub number : Option ℕ
 
 -- at a session's start all pending jobs are to be offered
 abbrev pub renewed : Belongings → Belongings
-renewed b = record { lists = at_start (pending b.lists) b.lists.struck b.lists.failed; kept = b.kept; number = b.number }
+renewed b = record {
+  lists = at_start (pending b.lists) b.lists.struck b.lists.failed;
+  kept = b.kept;
+  partials = b.partials;
+  number = b.number;
+}
 
 -- an end as it is set up: its name, what the other end shall use, what its spool gives and accepts, and what it has
 pub record EndSetupValue : Type 0 where
@@ -41,6 +50,6 @@ identity setup side =
 abbrev pub party : SetupValue → (brought : AtBoth Belongings) → Side → Party
 party setup brought side = record {
   jobs = pending (at side brought).lists;
-  holdings = (at side setup).holdings;
+  holdings = holding (at side brought).partials (at side setup).holdings;
   measure = record { size = size_of_code (at (other side) setup).own.size_code; short = (at side setup).own.short };
 }

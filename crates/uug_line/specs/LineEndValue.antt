@@ -13,7 +13,9 @@ use Rattle.uug_session.specs.Engine.{CountsFaults, all_ahead, end_of, with_outbo
 use Rattle.uug_conversation.specs.Holdings.{Holdings}
 use Rattle.uug_session.specs.InRange.{IsEndInRange}
 use Rattle.uug_conversation.specs.Jobs.{Lists}
+use Rattle.uug_conversation.specs.Left.{left_of}
 use Rattle.uug_conversation.specs.MemoryHoldings.{MemoryHoldings, held_by, holdings_of}
+use Rattle.uug_conversation.specs.Partials.{partials_then}
 use Rattle.uug_session.specs.Node.{NodeState, TakesShown, bytes_at, held_bytes, node_of}
 use Rattle.uug_conversation.specs.DialogueState.{DialogueState, end_keeper, unopened}
 use Rattle.uug_line.specs.declared.line_end.LineEnd.{LineEnd}
@@ -203,8 +205,14 @@ pub record StillHears (others : List (List ℕ)) (piece rest : List ℕ) (old no
 abbrev pub told_of : LineEndValue → SpelledEnd
 told_of e = told_by e.journal (phase_at e.node.engine.stage e.node.engine.link.phase)
 
+-- its spool holds what is left of a file
+abbrev pub leaves_spool : LineEndValue → MemoryHoldings
+leaves_spool e = record e.spool {
+  partials = partials_then e.spool.partials (left_of (holdings_of e.spool) e.node.engine.dialogue.machine);
+}
+
 -- the next session of an end whose session is over has begun
 abbrev pub BeginsAgain : (old new : LineEndValue) → Type 0
 BeginsAgain old new =
     HasBegun old.node.engine.identity old.node.engine.own old.node.engine.number (all_ahead old.node.engine.dialogue.machine.lists)
-    old.spool new
+    (leaves_spool old) new

@@ -5,7 +5,10 @@ use Rattle.std.specs.Prelude.{ℕ, Bool, true, false, List, ◌++◌, Option}
 use Rattle.uug_conversation.specs.Count.{Count, nothing_yet, count_keeper}
 use Rattle.uug_conversation.specs.EarlierJobs.{behind}
 use Rattle.uug_conversation.specs.Keeper.{Keeper}
+use Rattle.uug_conversation.specs.Left.{left_of}
+use Rattle.uug_conversation.specs.Partials.{partials_then}
 use Rattle.uug_conversation.specs.Party.{Party}
+use Rattle.uug_conversation.specs.Runs.{progress_at}
 use Rattle.uug_conversation.specs.DialogueState.{DialogueState, unopened, end_keeper}
 use Rattle.uug_conversation.specs.View.{Seen, conversation_view, kept_after, lists_after}
 use Rattle.uug_conversation.specs.declared.side.Side.{Side}
@@ -26,7 +29,12 @@ abbrev pub by_themselves : RunKeeper DialogueState
 by_themselves = record {
   keeper = λ parties side. end_keeper side (at side parties).holdings;
   first = λ brought. unopened brought.lists brought.kept;
-  has = λ parties side brought number talk. record { lists = talk.machine.lists; kept = talk.kept; number = number };
+  has = λ parties side brought number talk. record {
+    lists = talk.machine.lists;
+    kept = talk.kept;
+    partials = partials_then brought.partials (left_of (at side parties).holdings talk.machine);
+    number = number;
+  };
 }
 
 -- ---- two numbers an end, in the conversation of the two parties
@@ -35,12 +43,14 @@ abbrev pub view_at : AtBoth Party → Side → List Seen
 view_at parties side = conversation_view side parties.at_caller parties.at_called
 
 -- what an end has, whose link has come up, after so many messages of the other's: its jobs and files of earlier
--- sessions stay in front
+-- sessions stay in front, and what is left of a file takes the place of what was held of it
 abbrev pub has_after : AtBoth Party → Side → (brought : Belongings) → (number : Option ℕ) → (taken : ℕ) → Belongings
 has_after parties side brought number taken = record {
   lists = behind brought.lists.struck brought.lists.failed
       (lists_after side parties.at_caller parties.at_called taken);
   kept = brought.kept ++ kept_after taken (view_at parties side);
+  partials = partials_then brought.partials
+      (left_of (at side parties).holdings (progress_at side parties.at_caller parties.at_called taken).state);
   number = number;
 }
 

@@ -11,9 +11,9 @@ use Rattle.uug_conversation.specs.declared.side.Side.{Side}
 use Rattle.uug_conversation.specs.declared.side.Side.TheVariants.{Caller}
 use Rattle.uug_line.specs.declared.verdict.LineVerdict.{LineVerdict}
 use Rattle.uug_line.specs.declared.verdict.LineVerdict.TheVariants.{Clean}
-use Rattle.uug_line.specs.Belongings.{Belongings, SetupValue, identity}
+use Rattle.uug_line.specs.Belongings.{Belongings, SetupValue, identity, party}
 use Rattle.uug_line.specs.LineEndState.{LineEndState}
-use Rattle.uug_line.specs.LineEndValue.{BeginsAgain, HasRoom, HearsPiece, IsCalled, IsOrdered, LineEndValue, Standing, hearer_of, line_end_of, live_end_value, standing_of, told_of}
+use Rattle.uug_line.specs.LineEndValue.{BeginsAgain, HasRoom, HearsPiece, IsCalled, IsOrdered, LineEndValue, Standing, hearer_of, line_end_of, live_end_value, leaves_spool, standing_of, told_of}
 use Rattle.uug_line.specs.Told.{EndNow, SpelledEnd, SpelledReport}
 use Rattle.uug_line.specs.Run.{Run, end_at, flipped}
 use Rattle.uug_line.specs.Shown.{session_shown}
@@ -91,21 +91,21 @@ hearing_side _ = Caller
 
 -- ---- it is the run of the definitions
 
-abbrev pub standing_at : SetupValue → Side → Standing
-standing_at setup side = record {
+abbrev pub standing_at : SetupValue → (brought : AtBoth Belongings) → Side → Standing
+standing_at setup brought side = record {
   identity = identity setup side;
   own = (at side setup).own;
-  holdings = (at side setup).holdings;
+  holdings = (party setup brought side).holdings;
 }
 
 -- an end of it is the program's
-pub record IsEnd (setup : SetupValue) (side : Side) (h : Buffered (LineEndState DialogueState)) (e : LineEndValue) : Type 0 where
+pub record IsEnd (setup : SetupValue) (brought : AtBoth Belongings) (side : Side) (h : Buffered (LineEndState DialogueState)) (e : LineEndValue) : Type 0 where
   pub hearer : h ≡ hearer_of e
-  pub standing : standing_of e ≡ standing_at setup side
+  pub standing : standing_of e ≡ standing_at setup brought side
 
 pub record StandsAs (setup : SetupValue) (run : Run DialogueState) (r : RunValue) : Type 0 where
   pub past : map spelled_session run.past ≡ r.past
-  pub ends : (side : Side) → IsEnd setup side (end_at side run) (at side r.ends)
+  pub ends : (side : Side) → IsEnd setup run.brought side (end_at side run) (at side r.ends)
   pub steady : IsSteady r
   pub clean : run.verdict ≡ Clean
 
@@ -113,15 +113,15 @@ abbrev pub held_parts : RunValue → AtBoth (List ℕ)
 held_parts r = record { at_caller = held_bytes r.ends.at_caller.node; at_called = held_bytes r.ends.at_called.node }
 
 -- as it stops, whatever bytes it holds
-pub record IsLastEnd (setup : SetupValue) (side : Side) (end : LineEndState DialogueState) (e : LineEndValue) : Type 0 where
+pub record IsLastEnd (setup : SetupValue) (brought : AtBoth Belongings) (side : Side) (end : LineEndState DialogueState) (e : LineEndValue) : Type 0 where
   pub end_is : end ≡ line_end_of e
-  pub standing : standing_of e ≡ standing_at setup side
+  pub standing : standing_of e ≡ standing_at setup brought side
   pub ordered : IsOrdered e
 
 -- of the bytes that were not taken up it holds those that fit
 pub record EndsAs (setup : SetupValue) (run : Run DialogueState) (verdict : LineVerdict) (r : RunValue) : Type 0 where
   pub past : map spelled_session run.past ≡ r.past
-  pub ends : (side : Side) → IsLastEnd setup side (end_at side run).end (at side r.ends)
+  pub ends : (side : Side) → IsLastEnd setup run.brought side (end_at side run).end (at side r.ends)
   pub verdict_is : run.verdict ≡ verdict
   pub held : HoldWhatIsLeft run (held_parts r)
 
@@ -129,7 +129,12 @@ pub record EndsAs (setup : SetupValue) (run : Run DialogueState) (verdict : Line
 
 abbrev pub owned_parts : LineEndValue → Belongings
 owned_parts e =
-    record { lists = e.node.engine.dialogue.machine.lists; kept = e.spool.stored; number = e.node.engine.number }
+    record {
+      lists = e.node.engine.dialogue.machine.lists;
+      kept = e.spool.stored;
+      partials = (leaves_spool e).partials;
+      number = e.node.engine.number;
+    }
 
 abbrev pub parts_now : LineEndValue → EndNow
 parts_now e = record { stage = e.node.engine.stage; link = e.node.engine.link }

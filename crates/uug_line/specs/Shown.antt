@@ -2,7 +2,9 @@
 use Rattle.std.specs.Prelude.{◌≡◌, ℕ, List, [], map, Vec}
 use Rattle.uug_conversation.specs.declared.memory_spool.MemorySpool.{MemorySpool}
 use Rattle.uug_session.specs.declared.node.Node.{Node}
-use Rattle.uug_conversation.specs.MemoryHoldings.{MemoryHoldings, held_by}
+use Rattle.uug_conversation.specs.MemoryHoldings.{MemoryHoldings, held_by, holdings_of}
+use Rattle.uug_conversation.specs.Left.{left_of}
+use Rattle.uug_conversation.specs.Partials.{partials_then}
 use Rattle.uug_session.specs.Node.{held_bytes, node_of}
 use Rattle.uug_line.specs.declared.report.EndReport.{EndReport}
 use Rattle.uug_line.specs.declared.report.SessionReport.{SessionReport}
@@ -31,6 +33,8 @@ abbrev pub owned_by : {A : Type 0} → Node (MemorySpool A) A → Belongings
 owned_by node = record {
   lists = (node_of node).engine.dialogue.machine.lists;
   kept = (held_by node.spool).stored;
+  partials = partials_then (held_by node.spool).partials
+      (left_of (holdings_of (held_by node.spool)) (node_of node).engine.dialogue.machine);
   number = (node_of node).engine.number;
 }
 

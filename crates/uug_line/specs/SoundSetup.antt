@@ -4,6 +4,7 @@ use Rattle.uug_link.specs.Terms.{IsWindow}
 use Rattle.uug_conversation.specs.Holdings.{AreModes}
 use Rattle.uug_conversation.specs.Jobs.{pending}
 use Rattle.uug_conversation.specs.Party.{HasNames, HoldsNone}
+use Rattle.uug_conversation.specs.Partials.{holding}
 use Rattle.uug_conversation.specs.declared.side.Side.{Side}
 use Rattle.uug_line.specs.Belongings.{EndSetupValue, SetupValue}
 use Rattle.uug_conversation.specs.Sides.{at}
@@ -13,7 +14,7 @@ pub record IsSoundEnd (e : EndSetupValue) : Type 0 where
   pub window : IsWindow e.own.window
   pub modes : AreModes e.holdings
   pub names : All HasNames (pending e.belongings.lists)
-  pub holds_none : HoldsNone e.holdings
+  pub holds_none : HoldsNone (holding e.belongings.partials e.holdings)
 
 abbrev pub IsSoundSetup : SetupValue → Type 0
 IsSoundSetup setup = (side : Side) → IsSoundEnd (at side setup)

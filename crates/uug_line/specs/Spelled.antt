@@ -1,7 +1,8 @@
 -- What is told of a run as a program tells it: a packet is kept as it is spelled (this project's profile).
-use Rattle.std.specs.Prelude.{◌≡◌, map}
+use Rattle.std.specs.Prelude.{◌≡◌, map, None}
 use Rattle.uug_packet.specs.Spelling.{canonical}
 use Rattle.uug_conversation.specs.MemoryHoldings.{MemoryHoldings, holdings_of}
+use Rattle.uug_conversation.specs.Partials.{holding}
 use Rattle.uug_conversation.specs.declared.side.Side.{Side}
 use Rattle.uug_line.specs.Belongings.{SetupValue}
 use Rattle.uug_conversation.specs.Sides.{AtBoth, at}
@@ -28,6 +29,7 @@ spelled r = record {
   verdict = r.verdict;
 }
 
--- the spools give and accept what they did when the ends were set up
+-- the spools give and accept what they did when the ends were set up, whatever they hold of files that were cut off
 abbrev pub GiveAsSetUp : SetupValue → AtBoth MemoryHoldings → Type 0
-GiveAsSetUp setup spools = (side : Side) → holdings_of (at side spools) ≡ (at side setup).holdings
+GiveAsSetUp setup spools = (side : Side) →
+    holding None (holdings_of (at side spools)) ≡ holding None (at side setup).holdings

@@ -92,7 +92,8 @@ impl<A: Allocator + Copy> LineEnd<A> {
         Ok(())
     }
 
-    /// Begins the next session, with nothing on the line. Returns the report of the last session, which is over.
+    /// Begins the next session, with nothing on the line. An end that resumes brings to it what is left of a file.
+    /// Returns the report of the last session, which is over.
     pub(crate) fn call_again(&mut self, alloc: A) -> Result<EndReport<A>, AllocError>
         requires ended { IsEnded (live_end_value self.old).node.engine.stage }
         requires ordered { IsOrdered (live_end_value self.old) }
@@ -100,6 +101,7 @@ impl<A: Allocator + Copy> LineEnd<A> {
         ensures report { IfOk result (λ report. end_shown report ≡ told_of (live_end_value self.old)) }
     {
         let phase = self.node.phase();
+        self.node.hold_what_is_left()?;
         self.node.call_again()?;
         let journal = mem::replace(&mut self.journal, Journal::new(alloc));
         self.line.clear();

@@ -13,7 +13,7 @@ ghost use Rattle.uug_line.specs.OfSomeRun.{IsOfSomeRun, IsRunOf};
 ghost use Rattle.uug_line.specs.Run.{Run, end_at, first_run, flipped, goes_through};
 ghost use Rattle.uug_line.specs.RunKeeper.{by_themselves};
 ghost use Rattle.uug_line.specs.RunValue.{AllIsSaid, CallsAgain, ChangesLine, EndsAs, Happens, HappensAt, IsSteady, Passes, StandsAs, hearing_side, run_value, with_line};
-ghost use Rattle.uug_line.specs.Setup.{setup_of};
+ghost use Rattle.uug_line.specs.Setup.{setup_of, with_nothing_held};
 ghost use Rattle.uug_line.specs.Shown.{lists_in};
 ghost use Rattle.uug_conversation.specs.Sides.{AtBoth};
 ghost use Rattle.uug_line.specs.Spelled.{GiveAsSetUp, spelled};
@@ -37,7 +37,7 @@ use crate::setup::{EndSetup, Setup};
 use crate::soundness::look_at_setup;
 use crate::verdict::LineVerdict;
 use std::alloc::{AllocError, Allocator};
-use uug_session::{Node, Place, Side};
+use uug_session::{MemorySpool, Node, Place, Side};
 
 /// The state of a run.
 #[derive(Drop)]
@@ -316,6 +316,14 @@ fn place_of<A: Allocator>(one: &EndSetup<A>, other: &EndSetup<A>) -> Place
     }
 }
 
+/// Returns the spool with nothing held of files of earlier sessions.
+fn forgetting<A: Allocator + Copy>(mut spool: MemorySpool<A>) -> MemorySpool<A>
+    ensures { held_by result ≡ with_nothing_held (held_by spool) }
+{
+    spool.forget_partials();
+    spool
+}
+
 fn start_caller<A: Allocator + Copy>(
     alloc: A,
     place: Place,
@@ -324,9 +332,11 @@ fn start_caller<A: Allocator + Copy>(
     ensures { IfOk result (λ end.
         HasBegun (record { side = Caller; me = place.me; peer = place.peer })
         (announced place.announce)
-        place.number (all_ahead setup.queue) (held_by setup.spool) (live_end_value end)) }
+        place.number (all_ahead setup.queue) (with_nothing_held (held_by setup.spool))
+        (live_end_value end)) }
 {
-    let Ok(node) = Node::caller(alloc, place, setup.queue, setup.spool) else {
+    let spool = forgetting(setup.spool);
+    let Ok(node) = Node::caller(alloc, place, setup.queue, spool) else {
         return Err(AllocError);
     };
     let end = LineEnd::start(alloc, node)?;
@@ -341,9 +351,11 @@ fn start_called<A: Allocator + Copy>(
     ensures { IfOk result (λ end.
         HasBegun (record { side = Called; me = place.me; peer = place.peer })
         (announced place.announce)
-        place.number (all_ahead setup.queue) (held_by setup.spool) (live_end_value end)) }
+        place.number (all_ahead setup.queue) (with_nothing_held (held_by setup.spool))
+        (live_end_value end)) }
 {
-    let Ok(node) = Node::called(alloc, place, setup.queue, setup.spool) else {
+    let spool = forgetting(setup.spool);
+    let Ok(node) = Node::called(alloc, place, setup.queue, spool) else {
         return Err(AllocError);
     };
     let end = LineEnd::start(alloc, node)?;

@@ -1,5 +1,5 @@
 -- What an end over a spool gives and takes (this project's profile).
-use Rattle.std.specs.Prelude.{ℕ, Bool, true, false, List, [], is_none, Option, Some, None, if◌then◌else◌}
+use Rattle.std.specs.Prelude.{ℕ, Bool, true, false, List, is_none, Option, Some, None, if◌then◌else◌}
 use Rattle.uug_conversation.specs.Holdings.{File, Holdings, Kept}
 use Rattle.uug_conversation.specs.MemoryHoldings.{first_named, has_name}
 use Rattle.uug_conversation.specs.declared.verdict.Verdict.TheVariants.{Never, Yes}
@@ -34,7 +34,7 @@ mail_holdings lenient digests public files = record {
   verdict = λ name. if is_refused public name then Never else Yes;
   immovable = is_refused public;
   landing = landing public;
-  held = λ source told. [];
+  partials = None;
   lenient = lenient;
   digests = digests;
 }

@@ -14,6 +14,9 @@ ghost use Rattle.uug_conversation.specs.DialogueState.{end_keeper};
 ghost use Rattle.uug_session.specs.Phases.{phase_at, timeouts_in};
 ghost use Rattle.uug_conversation.specs.DialogueValue.{dialogue_of, dialogue_has_parted};
 
+ghost use Rattle.uug_conversation.specs.Left.{left_of};
+ghost use Rattle.uug_conversation.specs.MemoryHoldings.{held_by, holdings_of};
+ghost use Rattle.uug_conversation.specs.Partials.{partials_then};
 use crate::end::End;
 use crate::greeting::{Greeted, Greeting, number_behind};
 use crate::greeting_text::say;
@@ -22,7 +25,7 @@ use crate::place::Place;
 use crate::stage::Stage;
 use std::alloc::{AllocError, Allocator};
 use std::marker::Model;
-use uug_conversation::{Dialogue, FileFault, Queue, SAYINGS_MAX, Side, Spool};
+use uug_conversation::{MemorySpool, Dialogue, FileFault, Queue, SAYINGS_MAX, Side, Spool};
 use uug_link::{Announce, Link, LinkFault, Outbox, Outcome, TIMEOUTS_MAX, WINDOW_MAX};
 use uug_packet::Packet;
 use uug_talk::{Message, Name};
@@ -604,6 +607,17 @@ impl<A: Allocator + Copy> Engine<A> {
         ensures spare { OnOk result (1 ≤ self.new.outbox.spare) }
     {
         self.outbox.reserve(1)
+    }
+
+    /// Lets the spool hold what is left of a file.
+    pub(crate) fn leave(&self, spool: &mut MemorySpool<A>) -> Result<(), AllocError>
+        ensures ok { OnOk result (held_by spool.new ≡ record (held_by spool.old) {
+          partials = partials_then (held_by spool.old).partials
+              (left_of (holdings_of (held_by spool.old)) self.now.dialogue.machine);
+        }) }
+        ensures err { OnErr result (held_by spool.new ≡ held_by spool.old) }
+    {
+        self.dialogue.leave(spool)
     }
 
     /// Begins the next session: drops what was left of the last one. Every pending job is to be offered.

@@ -6,6 +6,9 @@ ghost use Rattle.uug_session.specs.EndStep.{unmoved};
 ghost use Rattle.uug_session.specs.Node.{node_of, spool_of};
 ghost use Rattle.uug_session.specs.Sessions.{HoldsNothing};
 ghost use Rattle.uug_session.specs.TextsHeld.{nothing_held};
+ghost use Rattle.uug_conversation.specs.Left.{left_of};
+ghost use Rattle.uug_conversation.specs.MemoryHoldings.{held_by, holdings_of};
+ghost use Rattle.uug_conversation.specs.Partials.{partials_then};
 ghost use Rattle.uug_conversation.specs.declared.side.Side.TheVariants.{Caller, Called};
 
 use crate::engine::Engine;
@@ -15,7 +18,7 @@ use crate::texts::Texts;
 use std::alloc::{AllocError, Allocator};
 use std::fmt;
 use thiserror::Error;
-use uug_conversation::{Queue, Side, Spool};
+use uug_conversation::{MemorySpool, Queue, Side, Spool};
 use uug_link::Outbox;
 use uug_reader::Reader;
 
@@ -37,6 +40,23 @@ impl<S: Spool, A: Allocator> fmt::Debug for NotMade<S, A> {
         f.debug_struct("NotMade")
             .field("place", &self.place)
             .finish_non_exhaustive()
+    }
+}
+
+impl<A: Allocator + Copy> Node<MemorySpool<A>, A> {
+    /// Lets the spool hold what is left of a file if the session has ended in its middle and the end resumes. The next
+    /// session begins with it. Without memory nothing changes.
+    pub fn hold_what_is_left(&mut self) -> Result<(), AllocError>
+        ensures node { node_of self.new ≡ node_of self.old }
+        ensures held { OnOk result (held_by (spool_of self.new)
+            ≡ record (held_by (spool_of self.old)) {
+              partials = partials_then (held_by (spool_of self.old)).partials
+                  (left_of (holdings_of (held_by (spool_of self.old)))
+                  (node_of self.old).engine.dialogue.machine);
+            }) }
+        ensures err { OnErr result (held_by (spool_of self.new) ≡ held_by (spool_of self.old)) }
+    {
+        self.engine.leave(&mut self.spool)
     }
 }
 

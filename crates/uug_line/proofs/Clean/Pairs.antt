@@ -16,7 +16,7 @@ use Rattle.uug_session.specs.TwoEnds.{Two}
 use Rattle.uug_conversation.specs.View.{floor, others_messages}
 use Rattle.uug_conversation.specs.declared.side.Side.{Side}
 use Rattle.uug_conversation.specs.declared.side.Side.TheVariants.{Caller, Called}
-use Rattle.uug_line.specs.Belongings.{Belongings, SetupValue}
+use Rattle.uug_line.specs.Belongings.{Belongings, SetupValue, party}
 use Rattle.uug_line.specs.LineEndState.{LineEndState, does}
 use Rattle.uug_conversation.specs.Sides.{AtBoth, at}
 use Rattle.uug_line.specs.Speaking.{HasSpoken}
@@ -41,8 +41,8 @@ pub data IsPair (setup : SetupValue) (brought : AtBoth Belongings) : Side → Li
 
 said_by_numbers : (side : Side) (setup : SetupValue) (brought : AtBoth Belongings) (stage : Stage) (s : State) (talk : DialogueState)
     (count : Count) →
-    (end_keeper side (at side setup).holdings).next talk ≡ (count_keeper (seen setup brought side)).next count →
-    SaidAt (end_keeper side (at side setup).holdings) stage s talk →
+    (end_keeper side (party setup brought side).holdings).next talk ≡ (count_keeper (seen setup brought side)).next count →
+    SaidAt (end_keeper side (party setup brought side).holdings) stage s talk →
     SaidAt (count_keeper (seen setup brought side)) stage s count
 said_by_numbers side setup brought (hailing greeting) s talk count same said = said
 said_by_numbers side setup brought linked s talk count same (inl full) = inl full
@@ -51,8 +51,8 @@ said_by_numbers side setup brought (ended how) s talk count same said = said
 
 goes_on_by_numbers : (side : Side) (setup : SetupValue) (brought : AtBoth Belongings) (stage : Stage) (s : State) (talk : DialogueState)
     (count : Count) →
-    (end_keeper side (at side setup).holdings).is_over talk ≡ (count_keeper (seen setup brought side)).is_over count →
-    GoesOnAt (end_keeper side (at side setup).holdings) stage s talk →
+    (end_keeper side (party setup brought side).holdings).is_over talk ≡ (count_keeper (seen setup brought side)).is_over count →
+    GoesOnAt (end_keeper side (party setup brought side).holdings) stage s talk →
     GoesOnAt (count_keeper (seen setup brought side)) stage s count
 goes_on_by_numbers side setup brought (hailing greeting) s talk count same goes = goes
 goes_on_by_numbers side setup brought linked s talk count same goes = λ live. sym same ∙ goes live
@@ -98,13 +98,13 @@ module _ (setup : SetupValue) (brought : AtBoth Belongings) (sound : IsSoundSess
       Pair side (packet_taken_up (count_player setup brought side) p place x) y
   pair_hears side p place x y on there (pair s e f joined) =
       subst (λ (z : LineEndState Count). Pair s z (counted_end f)) (all_steps.packet_counted s p place e f on there joined)
-      (pair s (packet_taken_up (talk_player setup s) p place e) f (all_steps.packet_joined s p place e f on there joined))
+      (pair s (packet_taken_up (talk_player setup brought s) p place e) f (all_steps.packet_joined s p place e f on there joined))
 
   pair_waits : (side : Side) (x y : LineEndState Count) → Pair side x y →
       Pair side (does (count_player setup brought side) time_ran_out x) y
   pair_waits side x y (pair s e f joined) =
       subst (λ (z : LineEndState Count). Pair s z (counted_end f)) (all_steps.does_counted s time_ran_out e f tt joined)
-      (pair s (does (talk_player setup s) time_ran_out e) f (all_steps.does_joined s time_ran_out e f tt joined))
+      (pair s (does (talk_player setup brought s) time_ran_out e) f (all_steps.does_joined s time_ran_out e f tt joined))
 
   pair_run : (side : Side) (x y : LineEndState Count) → Pair side x y →
       IsRun (at side setup).own (at (other side) setup).own (record { near = as_end x; far = as_end y })

@@ -33,7 +33,7 @@ end_of_size size_code name jobs spool = record {
   name = name;
   own = record { window = 2; size_code = size_code; quiet = false; short = false };
   holdings = holdings_of spool;
-  belongings = record { lists = at_start jobs [] []; kept = []; number = None };
+  belongings = record { lists = at_start jobs [] []; kept = []; partials = None; number = None };
 }
 
 -- the size is 32

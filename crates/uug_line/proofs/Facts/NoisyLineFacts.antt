@@ -230,6 +230,7 @@ abbrev had_before : Belongings
 had_before = record {
   lists = record { passed = request ∷ []; ahead = send ∷ []; struck = send_copy ∷ []; failed = [] };
   kept = file q [] ∷ [];
+  partials = None;
   number = None;
 }
 
@@ -241,6 +242,7 @@ abbrev has_then : Belongings
 has_then = record {
   lists = record { passed = []; ahead = []; struck = send_copy ∷ request ∷ send ∷ []; failed = [] };
   kept = file q [] ∷ file y [] ∷ [];
+  partials = None;
   number = None;
 }
 

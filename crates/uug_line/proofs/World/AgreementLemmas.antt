@@ -24,7 +24,7 @@ pub record SaysSame (me : Side) (h : Holdings) (v : List Seen) (talk : DialogueS
 module _ (setup : SetupValue) (brought : AtBoth Belongings) (sound : IsSoundSession setup brought) (side : Side) where
   abbrev SaysSameAt : DialogueState → (sent taken : ℕ) → Type 0
   SaysSameAt talk sent taken =
-      SaysSame side (at side setup).holdings (seen_at setup brought side) talk sent taken
+      SaysSame side (party setup brought side).holdings (seen_at setup brought side) talk sent taken
 
   -- before the link is up
   unopened_same : (talk : DialogueState) (sent taken : ℕ) → talk ≡ unopened (at side brought).lists (at side brought).kept →
@@ -35,7 +35,7 @@ module _ (setup : SetupValue) (brought : AtBoth Belongings) (sound : IsSoundSess
 
   -- behind what it brought
   behind_same : (talk : DialogueState) (t : Talker) (sent taken : List (List ℕ)) → talk ≡ talk_at setup brought side t →
-      Agrees side (at side setup).holdings (seen_at setup brought side) (talk_at setup brought side t) t →
+      Agrees side (party setup brought side).holdings (seen_at setup brought side) (talk_at setup brought side t) t →
       t.sent ≡ sent → t.taken ≡ taken → SaysSameAt talk (length sent) (length taken)
   behind_same talk t sent taken is agree sent_is taken_is =
       subst (λ (x : DialogueState). SaysSameAt x (length sent) (length taken)) (sym is)
@@ -54,7 +54,7 @@ module _ (setup : SetupValue) (brought : AtBoth Belongings) (sound : IsSoundSess
             behind_same m.talk (talker_at setup brought side j.two) m.sent m.taken behind
             (agrees_at setup brought side j.two (told_at setup brought sound side j.two j.reached)) j.near_sent j.near_taken
 
-    pub is_invariant : IsInvariant side (at side setup).holdings (seen_at setup brought side)
+    pub is_invariant : IsInvariant side (party setup brought side).holdings (seen_at setup brought side)
         (λ m. Joined setup brought side m far) (StandsThere far)
     is_invariant = record {
       next = λ m j. (says_same m j).next;

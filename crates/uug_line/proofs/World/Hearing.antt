@@ -58,7 +58,7 @@ module _ (setup : SetupValue) (brought : AtBoth Belongings) (sound : IsSoundSess
   all_steps = steps setup brought sound
 
   abbrev talks : Receiver (LineEndState DialogueState)
-  talks = line_taker (talk_player setup side) f.log.packets
+  talks = line_taker (talk_player setup brought side) f.log.packets
 
   abbrev counts : Receiver (LineEndState Count)
   counts = line_taker (count_player setup brought side) f.log.packets
@@ -84,12 +84,12 @@ module _ (setup : SetupValue) (brought : AtBoth Belongings) (sound : IsSoundSess
 
   taken_if : (n : ℕ) → AreTaken n → (p : PacketValue) (place : Option ℕ) (from behind : List ℕ) (e : LineEndState DialogueState) →
       e.state.stage ≡ linked → place_of p f.log.packets e.log.passed ≡ place → EndsJoined setup brought side e f →
-      IsTaken (takes_if (takes_up_to n talks) talks (takes_sent (talk_player setup side) p place e) from behind e)
+      IsTaken (takes_if (takes_up_to n talks) talks (takes_sent (talk_player setup brought side) p place e) from behind e)
       (takes_if (takes_up_to n counts) counts (takes_sent (count_player setup brought side) p place (counted_end e)) from behind
       (counted_end e))
   taken_if n more p None from behind e on_link is joined = record { joined = joined; counted = refl }
   taken_if n more p (Some place) from behind e on_link is joined =
-      taken_behind n more behind (packet_taken_up (talk_player setup side) p place e)
+      taken_behind n more behind (packet_taken_up (talk_player setup brought side) p place e)
       (packet_taken_up (count_player setup brought side) p place (counted_end e))
       (all_steps.packet_joined side p place e f on_link is joined) (all_steps.packet_counted side p place e f on_link is joined)
 
@@ -98,7 +98,7 @@ module _ (setup : SetupValue) (brought : AtBoth Belongings) (sound : IsSoundSess
       IsTaken (takes_up (takes_up_to n talks) talks what e) (takes_up (takes_up_to n counts) counts what (counted_end e))
   taken_so n more (finds_nothing rest) e found_at joined = record { joined = joined; counted = refl }
   taken_so n more (finds event behind) e no_packet joined =
-      taken_behind n more behind (does (talk_player setup side) event e)
+      taken_behind n more behind (does (talk_player setup brought side) event e)
       (does (count_player setup brought side) event (counted_end e))
       (all_steps.does_joined side event e f no_packet joined) (all_steps.does_counted side event e f no_packet joined)
   taken_so n more (finds_packet p from behind) e on_link joined =

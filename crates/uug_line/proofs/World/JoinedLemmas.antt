@@ -9,7 +9,7 @@ use Rattle.uug_conversation.specs.Count.{Count, count_keeper}
 use Rattle.uug_session.specs.EndStep.{EndEffect, EndEvent, packet_found_whole, end_step, first_link, linked, message_of}
 use Rattle.uug_conversation.specs.DialogueState.{DialogueState, end_keeper}
 use Rattle.uug_conversation.specs.declared.side.Side.{Side}
-use Rattle.uug_line.specs.Belongings.{Belongings, SetupValue, identity}
+use Rattle.uug_line.specs.Belongings.{Belongings, SetupValue, identity, party}
 use Rattle.uug_line.specs.LineEndState.{LineEndState, JournalState, after_call, does, found_at, took}
 use Rattle.uug_conversation.specs.Sides.{AtBoth, at}
 use Rattle.uug_line.specs.Taking.{packet_taken_up}
@@ -95,7 +95,7 @@ module _ (setup : SetupValue) (brought : AtBoth Belongings) (sound : IsSoundSess
 
   call_done : (e f : LineEndState DialogueState) (log : JournalState) (x : EndEffect DialogueState) (y : EndEffect Count) → EndsJoined setup brought side e f →
       log.most ≡ e.log.most → HasPassed log →
-      ((IsUp x.state.link → x.state.link.window ≤ WINDOW_MAX) → HasSpoken (end_keeper side (at side setup).holdings) x.state) →
+      ((IsUp x.state.link → x.state.link.window ≤ WINDOW_MAX) → HasSpoken (end_keeper side (party setup brought side).holdings) x.state) →
       DoesAlike (λ m. Joined setup brought side m (moment_of f)) (first_link side (at side setup).own)
       (moment_with log e.state.link e.state.keeper) x y →
       DoneSo setup brought side f (after_call log e.line x) (after_call log e.line y)
@@ -119,13 +119,13 @@ module _ (setup : SetupValue) (brought : AtBoth Belongings) (sound : IsSoundSess
   -- ---- every event but a packet
 
   pub does_joined : (e f : LineEndState DialogueState) (event : EndEvent) → IsNoPacket event → EndsJoined setup brought side e f →
-      DoneSo setup brought side f (does (talk_player setup side) event e)
+      DoneSo setup brought side f (does (talk_player setup brought side) event e)
       (does (count_player setup brought side) event (counted_end e))
   does_joined e f event none joined =
-      call_done e f e.log (end_step (end_keeper side (at side setup).holdings) (identity setup side) event e.state)
+      call_done e f e.log (end_step (end_keeper side (party setup brought side).holdings) (identity setup side) event e.state)
       (end_step (count_keeper (seen_at setup brought side)) (identity setup side) event (counted_end e).state) joined refl joined.near_passed
-      (λ within. spoken_after (end_keeper side (at side setup).holdings) (identity setup side) event e.state within joined.near_spoken)
-      (step_alike side (at side setup).holdings (seen_at setup brought side)
+      (λ within. spoken_after (end_keeper side (party setup brought side).holdings) (identity setup side) event e.state within joined.near_spoken)
+      (step_alike side (party setup brought side).holdings (seen_at setup brought side)
       (λ m. Joined setup brought side m (moment_of f)) (StandsThere (moment_of f))
       (is_invariant setup brought sound side (moment_of f)) (at side setup).own (at side setup).name
       (at (other side) setup).name e.state.number (moment_of e) e.state.stage event none joined.joined joined.near_hails)
@@ -134,7 +134,7 @@ module _ (setup : SetupValue) (brought : AtBoth Belongings) (sound : IsSoundSess
 
   packet_done : (e f : LineEndState DialogueState) (p : PacketValue) (place : ℕ) (x : EndEffect DialogueState) (y : EndEffect Count) →
       EndsJoined setup brought side e f → x.took ≡ y.took →
-      ((IsUp x.state.link → x.state.link.window ≤ WINDOW_MAX) → HasSpoken (end_keeper side (at side setup).holdings) x.state) →
+      ((IsUp x.state.link → x.state.link.window ≤ WINDOW_MAX) → HasSpoken (end_keeper side (party setup brought side).holdings) x.state) →
       DoesAlike (λ m. Joined setup brought side m (moment_of f)) (first_link side (at side setup).own)
       (found (moment_of e) place (taken_if x.took (message_of p) e.log.taken)) x y →
       DoneSo setup brought side f (after_call (took x.took (message_of p) (found_at place e.log)) e.line x)
@@ -152,17 +152,17 @@ module _ (setup : SetupValue) (brought : AtBoth Belongings) (sound : IsSoundSess
   pub packet_joined : (e f : LineEndState DialogueState) (p : PacketValue) (place : ℕ) → e.state.stage ≡ linked →
       place_of p f.log.packets e.log.passed ≡ Some place →
       EndsJoined setup brought side e f →
-      DoneSo setup brought side f (packet_taken_up (talk_player setup side) p place e)
+      DoneSo setup brought side f (packet_taken_up (talk_player setup brought side) p place e)
       (packet_taken_up (count_player setup brought side) p place (counted_end e))
   packet_joined e f p place on_link found_there joined =
       let event = packet_found_whole false p in
-      let x = end_step (end_keeper side (at side setup).holdings) (identity setup side) event e.state in
+      let x = end_step (end_keeper side (party setup brought side).holdings) (identity setup side) event e.state in
       let y = end_step (count_keeper (seen_at setup brought side)) (identity setup side) event (counted_end e).state in
-      let alike = packet_step_alike side (at side setup).holdings (seen_at setup brought side)
+      let alike = packet_step_alike side (party setup brought side).holdings (seen_at setup brought side)
       (λ m. Joined setup brought side m (moment_of f)) (StandsThere (moment_of f))
       (is_invariant setup brought sound side (moment_of f)) (at side setup).own (at side setup).name
       (at (other side) setup).name e.state.number (moment_of e) p place e.state.stage on_link
       (place_found p f.log.packets e.log.passed place found_there) joined.joined in
       packet_done e f p place x y joined (sym (ap (λ (z : EndEffect Count). z.took) alike.same))
-      (λ within. spoken_after (end_keeper side (at side setup).holdings) (identity setup side) event e.state within joined.near_spoken)
+      (λ within. spoken_after (end_keeper side (party setup brought side).holdings) (identity setup side) event e.state within joined.near_spoken)
       alike

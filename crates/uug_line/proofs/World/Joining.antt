@@ -88,8 +88,8 @@ abbrev pub HasPassed : JournalState → Type 0
 HasPassed log = log.passed ≡ passed_at log.arrivals 0
 
 -- it has said what it can
-abbrev pub Spoken : SetupValue → Side → LineEndState DialogueState → Type 0
-Spoken setup side e = HasSpoken (end_keeper side (at side setup).holdings) e.state
+abbrev pub Spoken : SetupValue → (brought : AtBoth Belongings) → Side → LineEndState DialogueState → Type 0
+Spoken setup brought side e = HasSpoken (end_keeper side (party setup brought side).holdings) e.state
 
 pub record EndsJoined (setup : SetupValue) (brought : AtBoth Belongings) (side : Side) (e f : LineEndState DialogueState) : Type 0 where
   pub joined : Joined setup brought side (moment_of e) (moment_of f)
@@ -99,8 +99,8 @@ pub record EndsJoined (setup : SetupValue) (brought : AtBoth Belongings) (side :
   pub far_most : f.log.most ≤ (at side setup).own.window
   pub near_passed : HasPassed e.log
   pub far_passed : HasPassed f.log
-  pub near_spoken : Spoken setup side e
-  pub far_spoken : Spoken setup (other side) f
+  pub near_spoken : Spoken setup brought side e
+  pub far_spoken : Spoken setup brought (other side) f
 
 -- ---- what a set-up's types say
 

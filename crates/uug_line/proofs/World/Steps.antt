@@ -12,7 +12,7 @@ use Rattle.uug_link.specs.TwoLinks.{IsFrontOf}
 use Rattle.uug_conversation.specs.View.{floor}
 use Rattle.uug_conversation.specs.declared.side.Side.{Side}
 use Rattle.uug_conversation.specs.declared.side.Side.TheVariants.{Caller, Called}
-use Rattle.uug_line.specs.Belongings.{Belongings, SetupValue, identity}
+use Rattle.uug_line.specs.Belongings.{Belongings, SetupValue, identity, party}
 use Rattle.uug_line.specs.LineEndState.{LineEndState, Participant, does}
 use Rattle.uug_line.specs.Run.{first_end, parties}
 use Rattle.uug_line.specs.RunKeeper.{by_themselves, by_numbers, view_at}
@@ -22,9 +22,9 @@ use Rattle.uug_line.specs.World.{count_of, counted_end}
 use Rattle.uug_line.proofs.World.Joining.{EndsJoined}
 
 -- the end on the side, itself and by numbers
-abbrev pub talk_player : SetupValue → Side → Participant DialogueState
-talk_player setup side =
-    record { identity = identity setup side; keeper = end_keeper side (at side setup).holdings }
+abbrev pub talk_player : SetupValue → (brought : AtBoth Belongings) → Side → Participant DialogueState
+talk_player setup brought side =
+    record { identity = identity setup side; keeper = end_keeper side (party setup brought side).holdings }
 
 abbrev pub count_player : SetupValue → (brought : AtBoth Belongings) → Side → Participant Count
 count_player setup brought side =
@@ -46,20 +46,20 @@ pub record Steps (setup : SetupValue) (brought : AtBoth Belongings) : Type 0 whe
       counted_end (first_end by_themselves setup brought side).end ≡ (first_end by_numbers setup brought side).end
   -- each step
   pub does_joined : (side : Side) (event : EndEvent) (e f : LineEndState DialogueState) → IsNoPacket event →
-      EndsJoined setup brought side e f → EndsJoined setup brought side (does (talk_player setup side) event e) f
+      EndsJoined setup brought side e f → EndsJoined setup brought side (does (talk_player setup brought side) event e) f
   pub does_counted : (side : Side) (event : EndEvent) (e f : LineEndState DialogueState) → IsNoPacket event →
       EndsJoined setup brought side e f →
-      counted_end (does (talk_player setup side) event e) ≡ does (count_player setup brought side) event (counted_end e)
+      counted_end (does (talk_player setup brought side) event e) ≡ does (count_player setup brought side) event (counted_end e)
   pub packet_joined : (side : Side) (p : PacketValue) (place : ℕ) (e f : LineEndState DialogueState) →
       e.state.stage ≡ linked →
       place_of p f.log.packets e.log.passed ≡ Some place →
       EndsJoined setup brought side e f →
-      EndsJoined setup brought side (packet_taken_up (talk_player setup side) p place e) f
+      EndsJoined setup brought side (packet_taken_up (talk_player setup brought side) p place e) f
   pub packet_counted : (side : Side) (p : PacketValue) (place : ℕ) (e f : LineEndState DialogueState) →
       e.state.stage ≡ linked →
       place_of p f.log.packets e.log.passed ≡ Some place →
       EndsJoined setup brought side e f →
-      counted_end (packet_taken_up (talk_player setup side) p place e)
+      counted_end (packet_taken_up (talk_player setup brought side) p place e)
       ≡ packet_taken_up (count_player setup brought side) p place (counted_end e)
   -- what an end has, and how far it may be
   pub has_counted : (side : Side) (e f : LineEndState DialogueState) → EndsJoined setup brought side e f →

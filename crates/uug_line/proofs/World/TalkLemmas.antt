@@ -92,7 +92,7 @@ module _ (setup : SetupValue) (brought : AtBoth Belongings) where
       (party setup brought side).measure t
 
   pub agrees_at : (side : Side) (two : Two) → IsToldAt side two →
-      Agrees side (at side setup).holdings (seen_at side) (talk_at side (talker_at side two)) (talker_at side two)
+      Agrees side (party setup brought side).holdings (seen_at side) (talk_at side (talker_at side two)) (talker_at side two)
   agrees_at Caller two told =
       agrees Caller (party setup brought Caller) (party setup brought Called) two.caller_end two.called_end
       brought.at_caller.lists.struck brought.at_caller.lists.failed brought.at_caller.kept told

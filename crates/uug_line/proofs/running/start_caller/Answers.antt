@@ -1,4 +1,4 @@
-use Rattle.std.proofs.Common.{ap, subst}
+use Rattle.std.proofs.Common.{ap, subst, ◌∙◌}
 use Rattle.uug_link.proofs.InRangeLemmas.{announcement_right}
 use Rattle.uug_link.specs.Announced.{announced}
 use Rattle.uug_session.specs.EndStep.{Identity}
@@ -14,5 +14,5 @@ returns g c =
     let id : Identity = record { side = Caller; me = place.me; peer = place.peer } in
     let own = announced place.announce in
     let jobs = all_ahead c.args.setup.queue in
-    subst (λ (m : MemoryHoldings). HasBegun id own place.number jobs m (live_end_value c.in_ok-end.end)) (ap held_by c.in-Ok.ensures.spool)
+    subst (λ (m : MemoryHoldings). HasBegun id own place.number jobs m (live_end_value c.in_ok-end.end)) (ap held_by c.in-Ok.ensures.spool ∙ c.forgetting-spool.ensures)
     (c.in_ok-end.ensures id own place.number jobs (announcement_right place.announce) c.in-Ok.ensures.session c.in-Ok.ensures.nothing_held)

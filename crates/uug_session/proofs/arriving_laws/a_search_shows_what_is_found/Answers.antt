@@ -1,4 +1,4 @@
-use Rattle.std.proofs.Common.{[], None, false}
+use Rattle.std.proofs.Common.{None, false}
 use Rattle.uug_conversation.specs.declared.verdict.Verdict.TheVariants as verdicts
 use Rattle.uug_session.proofs.NodeSearchLemmas.{searched_rests}
 use Rattle.uug_session.proofs.ShownItemLemmas.{item_found, nothing_found, one_item}
@@ -15,4 +15,4 @@ returns-clause-none c = nothing_found
 
 pub returns-clause-rests : goal.returns-clause-rests
 returns-clause-rests c =
-    searched_rests (record { file = λ name. None; delayed = λ name. false; verdict = λ name. verdicts.Yes; immovable = λ name. false; landing = λ source target. target; held = λ source told. []; lenient = false; digests = false })
+    searched_rests (record { file = λ name. None; delayed = λ name. false; verdict = λ name. verdicts.Yes; immovable = λ name. false; landing = λ source target. target; partials = None; lenient = false; digests = false })

@@ -1,0 +1,14 @@
+-- How the program keeps what an end holds of files that were cut off.
+use Rattle.std.specs.Prelude.{ℕ, List, map}
+use Rattle.uug_digest.specs.declared.file_digest.FileDigest.{FileDigest}
+use Rattle.uug_conversation.specs.declared.partial_file.PartialFile.{PartialFile}
+use Rattle.uug_conversation.specs.Partial.{Key, Partial}
+
+abbrev pub key_of : (source : List ℕ) → FileDigest → Key
+key_of source told = record { source = source; told = told }
+
+abbrev pub partial_of : {A : Type 0} → PartialFile A → Partial
+partial_of p = record { key = key_of p.source p.told; bytes = p.bytes.items }
+
+abbrev pub partials_of : {A : Type 0} → List (PartialFile A) → List Partial
+partials_of ps = map partial_of ps

@@ -1,0 +1,92 @@
+ghost use Rattle.std.specs.Prelude.{◌≡◌, ◌≤◌, [], OnOk, OnErr, vec_capacity, vec_len};
+ghost use Rattle.uug_conversation.specs.Partial.{Partial};
+ghost use Rattle.uug_conversation.specs.Partials.{bytes_under, put, without};
+ghost use Rattle.uug_conversation.specs.PartialView.{key_of, partials_of};
+
+use crate::partial_file::PartialFile;
+use std::alloc::{AllocError, Allocator};
+use std::marker::Model;
+use uug_digest::FileDigest;
+use uug_talk::Name;
+
+/// The first bytes of files that were cut off, one of each name and digest.
+#[derive(Drop)]
+pub(crate) struct Partials<A: Allocator> {
+    files: Vec<PartialFile<A>, A>,
+}
+
+impl<A: Allocator> Model for Partials<A> {
+    ghost use Rattle.std.specs.Prelude.{List};
+    ghost use Rattle.uug_conversation.specs.Partial.{Partial};
+    ghost use Rattle.uug_conversation.specs.PartialView.{partials_of};
+
+    ghost Value = { List Partial };
+
+    ghost view = { λ p. partials_of p.files.items };
+}
+
+impl<A: Allocator> Partials<A> {
+    /// Makes an empty collection. It takes no memory.
+    pub(crate) fn new(alloc: A) -> Self
+        ensures { result ≡ [] }
+    {
+        Partials {
+            files: Vec::new(alloc),
+        }
+    }
+
+    /// Returns the bytes that are held of the file with this name at its giver and this announced digest. They are none if
+    /// nothing is held of it.
+    pub(crate) fn held(&self, source: &Name, told: &FileDigest) -> &[u8]
+        ensures { result.now ≡ bytes_under (key_of source.now told.now) self.now }
+    {
+        bytes_under(self.files.as_slice(), source, told)
+    }
+
+    /// Holds these bytes of a file, in place of those that were held of it. Without memory nothing changes.
+    pub(crate) fn put(
+        &mut self,
+        source: Name,
+        told: FileDigest,
+        bytes: Vec<u8, A>,
+    ) -> Result<(), AllocError>
+        ensures ok { OnOk result (self.new ≡ put (record {
+          key = key_of source told;
+          bytes = bytes.items;
+        }) self.old) }
+        ensures err { OnErr result (self.new ≡ self.old) }
+    {
+        self.files.reserve(1)?;
+        drop_under(&mut self.files, &source, &told);
+        self.files.push_reserved(PartialFile {
+            source,
+            told,
+            bytes,
+        });
+        Ok(())
+    }
+}
+
+fn bytes_under<'a, A: Allocator>(
+    files: &'a [PartialFile<A>],
+    source: &Name,
+    told: &FileDigest,
+) -> &'a [u8]
+    ensures { result.now ≡ bytes_under (key_of source.now told.now) (partials_of files.now) }
+{
+    for file in files {
+        if file.is_of(source, told) {
+            return file.bytes.as_slice();
+        }
+    }
+    &[]
+}
+
+fn drop_under<A: Allocator>(files: &mut Vec<PartialFile<A>, A>, source: &Name, told: &FileDigest)
+    ensures files { partials_of files.new.items
+        ≡ without (key_of source.now told.now) (partials_of files.old.items) }
+    ensures room { vec_capacity files.new ≡ vec_capacity files.old }
+    ensures len { vec_len files.new ≤ vec_len files.old }
+{
+    files.retain(|file| !file.is_of(source, told));
+}
