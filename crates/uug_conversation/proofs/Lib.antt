@@ -14,6 +14,7 @@ pub mod FirstLaw
 pub mod FitLemmas
 pub mod FloorLemmas
 mod FrontLemmas
+mod GoingOnLemmas
 mod LandingFacts
 mod LenientFacts
 mod LimitLemmas

@@ -1,5 +1,5 @@
 -- What is left of a file whose session ends in its middle (this project's profile).
-use Rattle.std.specs.Prelude.{◌≡◌, ℕ, List, ◌++◌, Contains, Option, Some, None}
+use Rattle.std.specs.Prelude.{◌≡◌, ℕ, List, [], ◌∷◌, ◌++◌, length, drop, Contains, Option, Some, None}
 use Rattle.uug_digest.specs.declared.file_digest.FileDigest.{FileDigest}
 use Rattle.uug_conversation.specs.declared.awaits.Awaits.{Awaits}
 use Rattle.uug_conversation.specs.declared.awaits.Awaits.TheVariants as awaits
@@ -8,7 +8,13 @@ use Rattle.uug_conversation.specs.Choice.{fetched_by}
 use Rattle.uug_conversation.specs.Holdings.{File, Holdings, to_give}
 use Rattle.uug_conversation.specs.Machine.{State}
 use Rattle.uug_conversation.specs.Partial.{Partial}
+use Rattle.uug_conversation.specs.Exchange.{exchange}
+use Rattle.uug_conversation.specs.Jobs.{Move}
+use Rattle.uug_conversation.specs.Partials.{holding, partials_then}
 use Rattle.uug_conversation.specs.Party.{Party}
+use Rattle.uug_conversation.specs.Turns.{Said, Turn, the_consent, the_file}
+use Rattle.uug_conversation.specs.declared.side.Side.{Side}
+use Rattle.uug_conversation.specs.declared.verdict.Verdict.TheVariants.{Yes}
 use Rattle.uug_conversation.specs.Resuming.{IsFront, front_of}
 use Rattle.uug_conversation.specs.Told.{heard, told_of}
 
@@ -41,3 +47,19 @@ pub record IsLeftOf (giver : Party) (taker : Holdings) (p : Partial) : Type 0 wh
 abbrev pub IsLeft : (giver : Party) → (taker : Holdings) → Option Partial → Type 0
 IsLeft giver taker None = Unit {0}
 IsLeft giver taker (Some p) = IsLeftOf giver taker p
+
+-- ---- the next session
+
+-- what is said of a Send job's file once its command has come: the answer, and the file or its rest
+abbrev pub said_of_file : List Turn → List Said
+said_of_file (order ∷ answer ∷ file ∷ more) = answer.said ∷ file.said ∷ []
+said_of_file _ = []
+
+-- In a session to which this end brings what was left, the giver is asked for the byte behind that, and sends what has not come before:
+-- of each Send job whose file is fetched by that name, where it is taken.
+abbrev pub GoesOnBehind : (giver taker : Holdings) → Partial → Type 0
+GoesOnBehind giver taker p =
+    (master slave : Side) (source target user : List ℕ) (temp : Option (List ℕ)) (file : File) (next : List Move) (rest : List Turn) →
+    fetched_by source temp ≡ p.key.source → to_give giver p.key.source ≡ Some file → taker.verdict (taker.landing source target) ≡ Yes →
+    said_of_file (exchange master slave giver (holding (partials_then taker.partials (Some p)) taker) (job.Send source target user temp) next rest)
+    ≡ the_consent (length p.bytes) ∷ the_file (drop (length p.bytes) file.bytes) ∷ []

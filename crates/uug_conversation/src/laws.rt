@@ -5,7 +5,9 @@ ghost use Rattle.uug_conversation.specs.Conversation.{conversation};
 ghost use Rattle.uug_conversation.specs.DialogueState.{DialogueState, replied, taking};
 ghost use Rattle.uug_conversation.specs.Holdings.{File, Holdings, Kept, to_give};
 ghost use Rattle.uug_conversation.specs.Jobs.{Lists, moved_once, pass};
-ghost use Rattle.uug_conversation.specs.Left.{IsLeft, left_of};
+ghost use Rattle.uug_conversation.specs.Left.{GoesOnBehind, IsLeft, left_of};
+ghost use Rattle.uug_conversation.specs.Partial.{Partial};
+ghost use Rattle.uug_conversation.specs.Runs.{progress_at};
 ghost use Rattle.uug_conversation.specs.Machine.{State, gathered_with, goes_on, is_dropped, kind_awaited, on_past_limit, on_request_answer, on_text, opening, out_of_turn, reply_to, send_verdict, step};
 ghost use Rattle.uug_conversation.specs.OneEnd.{Act, AllAllowed, FollowsConversation, after_acts, link_up};
 ghost use Rattle.uug_conversation.specs.Party.{HoldFronts, Party, IsSound};
@@ -188,4 +190,13 @@ pub fn what_is_left_is_a_front()
         AllAllowed me a b first acts
         → IsLeft (party (other me) a b) p.holdings
         (left_of p.holdings (after_acts p.holdings first acts).talk.machine) }
+{}
+
+/// States that what has come of a file is not sent again. If the next session begins with what is left at the end of
+/// this one, the giver sends just the bytes behind it.
+pub fn what_came_is_not_sent_again()
+    ensures { (a b : Party) → HoldFronts a b → IsSound a → IsSound b → (me : Side) (k : ℕ) (ps : List Partial) (p : Partial)
+        → let giver = (party (other me) a b).holdings in let taker = (party me a b).holdings in
+        taker.partials ≡ Some ps → left_of taker (progress_at me a b k).state ≡ Some p
+        → GoesOnBehind giver taker p }
 {}

@@ -1,4 +1,4 @@
-ghost use Rattle.std.specs.Prelude.{◌≡◌, ℕ, ◌≤◌, [], ◌∷◌, ◌++◌, map, Some, None, if◌then◌else◌, OnOk, OnErr};
+ghost use Rattle.std.specs.Prelude.{◌≡◌, ℕ, ◌≤◌, [], ◌∷◌, ◌++◌, map, Some, None, is_some, if◌then◌else◌, OnOk, OnErr};
 ghost use Rattle.uug_conversation.specs.FileView.{shown_file};
 ghost use Rattle.uug_conversation.specs.Holdings.{kept_file};
 ghost use Rattle.uug_conversation.specs.Partials.{none_of, partials_then};
@@ -117,13 +117,20 @@ impl<A: Allocator + Copy> MemorySpool<A> {
         };
     }
 
+    /// Returns whether the end resumes files that were cut off.
+    pub fn resumes(&self) -> bool
+        ensures { result ≡ is_some (held_by self.now).partials }
+    {
+        self.partials.is_some()
+    }
+
     /// Forgets what is held of files that were cut off.
     pub fn forget_partials(&mut self)
         ensures { held_by self.new ≡ record (held_by self.old) {
           partials = none_of (held_by self.old).partials;
         } }
     {
-        let resumes = self.partials.is_some();
+        let resumes = self.resumes();
         self.set_resumes(resumes);
     }
 
