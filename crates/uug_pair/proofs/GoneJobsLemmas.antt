@@ -2,6 +2,9 @@
 use Rattle.std.proofs.Common.{◌≡◌, ℕ, List, [], ap}
 use Rattle.uug_conversation.specs.Holdings.{Kept}
 use Rattle.uug_conversation.specs.Jobs.{Lists}
+use Rattle.uug_conversation.specs.Party.{HoldsFronts, HoldsNone}
+use Rattle.uug_conversation.specs.Turns.{other}
+use Rattle.uug_conversation.proofs.ResumingLemmas.{holds_no_fronts}
 use Rattle.uug_conversation.specs.Sides.{AtBoth, at}
 use Rattle.uug_conversation.specs.declared.job.Job.{Job}
 use Rattle.uug_conversation.specs.declared.side.Side.{Side}
@@ -26,11 +29,19 @@ module _ (law : (ends : AtBoth EndBeginning) (order : List EventAt) (kept : AtBo
     FileWasKept (holdings_at ends) (kept_by_both ends kept) side which)
     (caller called : EndBeginning) (caller_kept called_kept : List Kept) (a b : NodeState)
     (caller_sound : IsSoundBeginning caller) (called_sound : IsSoundBeginning called)
+    (caller_holds_none : HoldsNone caller.holdings) (called_holds_none : HoldsNone called.holdings)
     (caller_fresh : caller.lists.struck ≡ []) (called_fresh : called.lists.struck ≡ [])
     (caller_ran : HasRun Caller caller caller_kept a) (called_ran : HasRun Called called called_kept b) where
+  each_sound : (side : Side) → IsSoundBeginning (at side (of_both caller called))
+  each_sound Caller = caller_sound
+  each_sound Called = called_sound
+
+  both_hold_fronts : (giver : Side) → HoldsFronts (at giver (of_both caller called)).holdings (at (other giver) (of_both caller called)).holdings
+  both_hold_fronts Caller = holds_no_fronts caller.holdings called.holdings called_holds_none
+  both_hold_fronts Called = holds_no_fronts called.holdings caller.holdings caller_holds_none
+
   both_sound : AreSound (of_both caller called)
-  both_sound Caller = caller_sound
-  both_sound Called = called_sound
+  both_sound = record { each = each_sound; fronts = both_hold_fronts }
 
   both_fresh : (side : Side) → (at side (of_both caller called)).lists.struck ≡ []
   both_fresh Caller = caller_fresh

@@ -18,7 +18,7 @@ const REMARKS: &[(&[u8], &str)] = &[
     ),
     (
         b"caller a 2 32",
-        "the end is set up, numbered, quiet, short, lenient or telling digests already, or has 1024 jobs",
+        "the end is set up, numbered, quiet, short, lenient, telling digests or resuming already, or has 1024 jobs",
     ),
     (b"caller a 2", "packet size is missing"),
     (b"caller a 2 32 x", "unexpected word x"),

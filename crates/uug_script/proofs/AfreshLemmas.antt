@@ -9,8 +9,9 @@ use Rattle.uug_script.specs.declared.fault.ScriptFault.{ScriptFault}
 use Rattle.uug_script.specs.declared.script.Script.{Script}
 use Rattle.uug_talk.specs.Chained.{◌>>=◌}
 use Rattle.uug_script.specs.IsScript.{LinesAdd, no_line, line_more, IsScript, BeginsAfresh, EndBegins}
-use Rattle.uug_script.specs.Meaning.{EndMeaning, place, file, job, deny, later, immovable, number, quiet, short, lenient, digest, LineMeaning, nothing, of_end, event, flow}
-use Rattle.uug_script.specs.Script.{Place, EndSaid, Said, nothing_said, numbered, placed, quieted, shortened, made_lenient, made_telling, place_at, end_added, added, with_caller, with_called, EndSays, ScriptSays, end_completed}
+use Rattle.uug_conversation.specs.Partial.{Partial}
+use Rattle.uug_script.specs.Meaning.{EndMeaning, place, file, job, deny, later, immovable, number, quiet, short, lenient, digest, resume, LineMeaning, nothing, of_end, event, flow}
+use Rattle.uug_script.specs.Script.{Place, EndSaid, Said, nothing_said, numbered, placed, quieted, shortened, made_lenient, made_resuming, made_telling, place_at, end_added, added, with_caller, with_called, EndSays, ScriptSays, end_completed}
 use Rattle.uug_script.specs.ScriptOf.{script_said}
 use Rattle.uug_script.proofs.WordTableLemmas.{bind_some}
 
@@ -52,6 +53,10 @@ telling_fresh : (b : Bool) (before after : EndSaid) → Fresh before → made_te
 telling_fresh true before after h e = absurd cc
 telling_fresh false before after h e = fresh_as (record before { held = record before.held { digests = true } }) after (record { passed = h.passed; struck = h.struck; failed = h.failed; stored = h.stored }) e
 
+resuming_fresh : (partials : Option (List Partial)) (before after : EndSaid) → Fresh before → made_resuming partials before ≡ Some after → Fresh after
+resuming_fresh (Some ps) before after h e = absurd cc
+resuming_fresh None before after h e = fresh_as (record before { held = record before.held { digests = true; partials = Some [] } }) after (record { passed = h.passed; struck = h.struck; failed = h.failed; stored = h.stored }) e
+
 end_fresh : (m : EndMeaning) (before after : EndSaid) → Fresh before → end_added m before ≡ Some after → Fresh after
 end_fresh (place name a) before after h e = placed_fresh (place_at name a) before.place before after h e
 end_fresh (file f) before after h e = fresh_as _ after (record { passed = h.passed; struck = h.struck; failed = h.failed; stored = h.stored }) e
@@ -67,6 +72,7 @@ end_fresh quiet before after h e = quieted_fresh before.quiet before after h e
 end_fresh short before after h e = shortened_fresh before.short before after h e
 end_fresh lenient before after h e = lenient_fresh before.held.lenient before after h e
 end_fresh digest before after h e = telling_fresh before.held.digests before after h e
+end_fresh resume before after h e = resuming_fresh before.held.partials before after h e
 
 both_as : (x after : Said) → BothFresh x → Some x ≡ Some after → BothFresh after
 both_as x after h e = let same : x ≡ after = cc in subst BothFresh same h

@@ -15,7 +15,7 @@ use Rattle.uug_line.specs.declared.verdict.LineVerdict.TheVariants.{Clean, Foole
 use Rattle.uug_talk.specs.Lines.{lines, ended}
 use Rattle.uug_script.specs.declared.field.Field.TheVariants as fields
 use Rattle.uug_script.specs.Complaints.{missing, too_many, unknown, wrong}
-use Rattle.uug_script.specs.Meaning.{digest, event, lenient, number, of_end, quiet, short}
+use Rattle.uug_script.specs.Meaning.{digest, resume, event, lenient, number, of_end, quiet, short}
 use Rattle.uug_script.specs.ReadLine.{line_of}
 use Rattle.uug_script.specs.ReportText.{RunResult, report_text, stored_line, verdict_line}
 use Rattle.uug_script.specs.Script.{ScriptSays, flow_events}
@@ -112,6 +112,16 @@ twice_lenient = refl
 -- and that it tells digests
 twice_telling : script_of (both_ends ++ ended (codes "digest caller") ++ ended (codes "digest called") ++ codes "digest caller") ≡ Err 5
 twice_telling = refl
+
+a_resuming_end : line_of (codes "resume caller") ≡ Ok (of_end Caller resume)
+a_resuming_end = refl
+
+-- and that it resumes, which says that it tells digests
+twice_resuming : script_of (both_ends ++ ended (codes "resume caller") ++ ended (codes "resume called") ++ codes "resume caller") ≡ Err 5
+twice_resuming = refl
+
+telling_again : script_of (both_ends ++ ended (codes "resume caller") ++ codes "digest caller") ≡ Err 4
+telling_again = refl
 
 a_tab : line_of (9 ∷ codes "call") ≡ Err (unknown (9 ∷ codes "call"))
 a_tab = refl

@@ -22,8 +22,8 @@ use Rattle.uug_script.specs.Complaints.{Wrong, too_long, field_at, read_or_wrong
 use Rattle.uug_script.specs.Fields.{side_of, window_of, announcement_of, mode_of_word, hex_bytes, byte_of}
 use Rattle.uug_talk.specs.Lines.{is_comment}
 use Rattle.hex.specs.Hex.{decode_of}
-use Rattle.uug_script.specs.LineSays.{Announces, WritesNumber, WritesMode, WritesBytes, NamesCopy, LineSays, TextSays, blank, comment, end_line, file_line, send_line, request_line, deny_line, later_line, immovable_line, number_line, quiet_line, short_line, lenient_line, digest_line, pass_line, drop_line, flip_line, insert_line, timeout_line, hangup_line, call_line, flow_line}
-use Rattle.uug_script.specs.Meaning.{LineMeaning, nothing, of_end, event, flow, place, file, job, deny, later, immovable, number, quiet, short, lenient, digest}
+use Rattle.uug_script.specs.LineSays.{Announces, WritesNumber, WritesMode, WritesBytes, NamesCopy, LineSays, TextSays, blank, comment, end_line, file_line, send_line, request_line, deny_line, later_line, immovable_line, number_line, quiet_line, short_line, lenient_line, digest_line, resume_line, pass_line, drop_line, flip_line, insert_line, timeout_line, hangup_line, call_line, flow_line}
+use Rattle.uug_script.specs.Meaning.{LineMeaning, nothing, of_end, event, flow, place, file, job, deny, later, immovable, number, quiet, short, lenient, digest, resume}
 use Rattle.uug_script.specs.ReadLine.{side_at, name_at, window_at, announcement_at, mode_at, hex_at, number_at, byte_at, copy_of, ends, place_of, file_of, send_of, request_of, side_and_name, side_and_number, side_and_byte, one_side, call_of, flow_of, event_by, line_by, line_of_words, line_of}
 use Rattle.uug_script.proofs.WordTableLemmas.{same_bytes, name_of_name, name_is, number_written, writes_number, window_written, announcement_written, announces, mode_written, writes_mode, bytes_written, writes_bytes, byte_written, writes_byte}
 
@@ -56,6 +56,7 @@ says_read ws m (quiet_line {side = side}) = rw (side_read side) refl
 says_read ws m (short_line {side = side}) = rw (side_read side) refl
 says_read ws m (lenient_line {side = side}) = rw (side_read side) refl
 says_read ws m (digest_line {side = side}) = rw (side_read side) refl
+says_read ws m (resume_line {side = side}) = rw (side_read side) refl
 says_read ws m (pass_line {side = side} {word = word} {n = n} h) = rw (side_read side, number_written BYTES_MAX word n h) refl
 says_read ws m (drop_line {side = side} {word = word} {n = n} h) = rw (side_read side, number_written BYTES_MAX word n h) refl
 says_read ws m (flip_line {side = side} {hex = hex} {byte = byte} h) = rw (side_read side, byte_written hex byte h) refl
@@ -351,7 +352,8 @@ line_says first ws m e =
     by_word first (codes "short") ws _ _ m e (alone_says _ (λ s. of_end s short) (λ s. short_line) ws m) (λ e.
     by_word first (codes "lenient") ws _ _ m e (alone_says _ (λ s. of_end s lenient) (λ s. lenient_line) ws m) (λ e.
     by_word first (codes "digest") ws _ _ m e (alone_says _ (λ s. of_end s digest) (λ s. digest_line) ws m) (λ e.
-    event_says first ws m e)))))))))))))
+    by_word first (codes "resume") ws _ _ m e (alone_says _ (λ s. of_end s resume) (λ s. resume_line) ws m) (λ e.
+    event_says first ws m e))))))))))))))
 
 comment_is : (first : List ℕ) → is_comment first ≡ true → (letters : List ℕ) × (35 ∷ letters ≡ first)
 comment_is [] e = absurd cc

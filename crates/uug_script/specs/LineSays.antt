@@ -18,7 +18,7 @@ use Rattle.uug_talk.specs.declared.lines.TheConstants.{LINE_MAX}
 use Rattle.uug_script.specs.declared.line.TheConstants.{BYTES_MAX, TURNS_MAX}
 use Rattle.uug_conversation.specs.declared.side.Side.{Side}
 use Rattle.uug_session.specs.PhaseWords.{side_word}
-use Rattle.uug_script.specs.Meaning.{LineMeaning, nothing, of_end, event, flow, place, file, job, deny, later, immovable, number, quiet, short, lenient, digest}
+use Rattle.uug_script.specs.Meaning.{LineMeaning, nothing, of_end, event, flow, place, file, job, deny, later, immovable, number, quiet, short, lenient, digest, resume}
 
 -- the word writes the number in decimal digits, with no sign, and the number is at most this one
 abbrev pub WritesNumber : ℕ → List ℕ → ℕ → Type 0
@@ -83,6 +83,8 @@ pub data LineSays : List (List ℕ) → LineMeaning → Type 0 where
   lenient_line : {side : Side} → LineSays (codes "lenient" ∷ side_word side ∷ []) (of_end side lenient)
   -- digest SIDE
   digest_line : {side : Side} → LineSays (codes "digest" ∷ side_word side ∷ []) (of_end side digest)
+  -- resume SIDE
+  resume_line : {side : Side} → LineSays (codes "resume" ∷ side_word side ∷ []) (of_end side resume)
   -- pass SIDE N, drop SIDE N
   pass_line : {side : Side} {word : List ℕ} {n : ℕ} → WritesNumber BYTES_MAX word n
       → LineSays (codes "pass" ∷ side_word side ∷ word ∷ []) (event (Pass side n))

@@ -37,6 +37,8 @@ pub data EndMeaning : Type 0 where
   lenient : EndMeaning
   -- it tells digests of its files, and compares those that it is told
   digest : EndMeaning
+  -- it does so, and resumes files that were cut off
+  resume : EndMeaning
 
 pub data LineMeaning : Type 0 where
   nothing : LineMeaning
@@ -75,6 +77,7 @@ end_meaning end_line.Quiet = Some quiet
 end_meaning end_line.Short = Some short
 end_meaning end_line.Lenient = Some lenient
 end_meaning end_line.Digest = Some digest
+end_meaning end_line.Resume = Some resume
 
 abbrev pub line_meaning : Statement → Option LineMeaning
 line_meaning line.Nothing = Some nothing

@@ -18,7 +18,7 @@ use Rattle.uug_script.specs.Complaints.{Wrong, too_long, unknown, too_many, fiel
 use Rattle.uug_script.specs.Fields.{side_of, window_of, announcement_of, mode_of_word, hex_bytes, byte_of}
 use Rattle.uug_talk.specs.Name.{name_of}
 use Rattle.uug_talk.specs.Lines.{is_comment}
-use Rattle.uug_script.specs.Meaning.{LineMeaning, nothing, of_end, event, flow, place, file, job, deny, later, immovable, number, quiet, short, lenient, digest}
+use Rattle.uug_script.specs.Meaning.{LineMeaning, nothing, of_end, event, flow, place, file, job, deny, later, immovable, number, quiet, short, lenient, digest, resume}
 use Rattle.uug_conversation.specs.Holdings.{kept_file}
 
 -- ---- what can stand in front, and the words behind it
@@ -133,6 +133,9 @@ lenient_of ws = one_side ws >>= (λ s. Ok (of_end s lenient))
 abbrev pub digest_of : List (List ℕ) → Result LineMeaning Wrong
 digest_of ws = one_side ws >>= (λ s. Ok (of_end s digest))
 
+abbrev pub resume_of : List (List ℕ) → Result LineMeaning Wrong
+resume_of ws = one_side ws >>= (λ s. Ok (of_end s resume))
+
 abbrev pub pass_of : List (List ℕ) → Result LineMeaning Wrong
 pass_of ws = side_and_number fields.Count BYTES_MAX ws >>= (λ p. Ok (event (Pass p.0 p.1)))
 
@@ -177,7 +180,8 @@ line_by first ws =
     (if bytes_eq first (codes "quiet") then quiet_of ws else
     (if bytes_eq first (codes "short") then short_of ws else
     (if bytes_eq first (codes "lenient") then lenient_of ws else
-    (if bytes_eq first (codes "digest") then digest_of ws else event_by first ws))))))))))))
+    (if bytes_eq first (codes "digest") then digest_of ws else
+    (if bytes_eq first (codes "resume") then resume_of ws else event_by first ws)))))))))))))
 
 -- a line with no word, and a comment, say nothing
 abbrev pub line_of_words : List (List ℕ) → Result LineMeaning Wrong

@@ -9,7 +9,8 @@ use Rattle.uug_line.specs.declared.event.Event.TheVariants.{Pass}
 use Rattle.uug_script.specs.declared.line.TheConstants.{BYTES_MAX}
 use Rattle.uug_conversation.specs.declared.side.Side.TheVariants.{Caller, Called}
 use Rattle.uug_talk.specs.Chained.{◌>>=◌}
-use Rattle.uug_script.specs.Meaning.{EndMeaning, place, file, job, deny, later, immovable, number, quiet, short, lenient, digest, LineMeaning, nothing, of_end, event, flow}
+use Rattle.uug_conversation.specs.Partial.{Partial}
+use Rattle.uug_script.specs.Meaning.{EndMeaning, place, file, job, deny, later, immovable, number, quiet, short, lenient, digest, resume, LineMeaning, nothing, of_end, event, flow}
 
 -- an end's name, and what it announces; that it is quiet on repeats, and that its commands are short, is said apart
 pub record Place : Type 0 where
@@ -71,6 +72,11 @@ abbrev pub made_telling : Bool → EndSaid → Option EndSaid
 made_telling true end = None
 made_telling false end = Some (record end { held = record end.held { digests = true } })
 
+-- that it resumes is said once; its spool keeps it, and that it tells digests
+abbrev pub made_resuming : Option (List Partial) → EndSaid → Option EndSaid
+made_resuming (Some ps) end = None
+made_resuming None end = Some (record end { held = record end.held { digests = true; partials = Some [] } })
+
 abbrev pub place_at : List ℕ → Announced → Place
 place_at name a = record { name = name; announced = a }
 
@@ -88,6 +94,7 @@ end_added quiet end = quieted end.quiet end
 end_added short end = shortened end.short end
 end_added lenient end = made_lenient end.held.lenient end
 end_added digest end = made_telling end.held.digests end
+end_added resume end = made_resuming end.held.partials end
 
 -- all bytes for the called end come to it, and then all for the caller, so many times
 abbrev pub flow_events : ℕ → List Event

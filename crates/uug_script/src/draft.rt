@@ -1,7 +1,7 @@
 //! The statements of a script up to the present line.
 ghost use Rattle.std.specs.Prelude.{◌≡◌, [], ◌∷◌, ◌++◌, OnOk, IfOk, IfErr, Some};
 ghost use Rattle.uug_script.specs.Fields.{hex_bytes};
-ghost use Rattle.uug_script.specs.Meaning.{place as placed_line, job as job_line, number as number_line, quiet as quiet_line, short as short_line, lenient as lenient_line, digest as digest_line};
+ghost use Rattle.uug_script.specs.Meaning.{place as placed_line, job as job_line, number as number_line, quiet as quiet_line, short as short_line, lenient as lenient_line, digest as digest_line, resume as resume_line};
 ghost use Rattle.uug_link.specs.Announced.{announced};
 ghost use Rattle.uug_script.specs.Code.Refusals.{Refuses};
 ghost use Rattle.uug_script.specs.Script.{end_added, flow_events, completed, end_completed, nothing_of_end, nothing_said};
@@ -156,6 +156,20 @@ impl<A: Allocator + Copy> EndDraft<A> {
         Ok(())
     }
 
+    fn set_resumes(&mut self) -> Result<(), LineFault>
+        ensures ok { OnOk result
+            (end_added resume_line (said_of_end self.old) ≡ Some (said_of_end self.new)) }
+        ensures fault { IfErr result (λ fault.
+            Refuses fault (end_added resume_line (said_of_end self.old))) }
+    {
+        if self.spool.resumes() {
+            return Err(LineFault::Bad);
+        }
+        self.spool.set_digests(true);
+        self.spool.set_resumes(true);
+        Ok(())
+    }
+
     fn add_file(&mut self, alloc: A, name: Name, mode: Mode, hex: &[u8]) -> Result<(), LineFault>
         ensures ok { OnOk result
             (file_added name mode.bits hex.now (said_of_end self.old)
@@ -200,6 +214,7 @@ impl<A: Allocator + Copy> EndDraft<A> {
             EndStatement::Short => self.set_short(),
             EndStatement::Lenient => self.set_lenient(),
             EndStatement::Digest => self.set_digests(),
+            EndStatement::Resume => self.set_resumes(),
         }
     }
 

@@ -4,7 +4,7 @@ ghost use Rattle.std.specs.Result.{result_err, result_ok};
 ghost use Rattle.uug_talk.specs.Words.{words};
 ghost use Rattle.uug_script.specs.Complaints.{shown};
 ghost use Rattle.uug_script.specs.Meaning.{complaint_in, known, meaning_of, read_as};
-ghost use Rattle.uug_script.specs.ReadLine.{line_of, line_of_words, place_of, file_of, send_of, request_of, side_and_name, side_and_number, side_and_byte, one_side, call_of, flow_of, deny_of, later_of, immovable_of, number_line_of, quiet_of, short_of, lenient_of, digest_of, pass_of, drop_of, flip_of, insert_of, timeout_of, hang_up_of, event_by, line_by};
+ghost use Rattle.uug_script.specs.ReadLine.{line_of, line_of_words, place_of, file_of, send_of, request_of, side_and_name, side_and_number, side_and_byte, one_side, call_of, flow_of, deny_of, later_of, immovable_of, number_line_of, quiet_of, short_of, lenient_of, digest_of, resume_of, pass_of, drop_of, flip_of, insert_of, timeout_of, hang_up_of, event_by, line_by};
 
 use crate::complaint::Complaint;
 use crate::field::Field;
@@ -63,6 +63,8 @@ pub(crate) enum EndStatement<'a> {
     Lenient,
     /// The end announces digests of its files, and compares those that it receives.
     Digest,
+    /// The end does so, and resumes files that were cut off.
+    Resume,
 }
 
 /// Reads `caller NAME WINDOW SIZE`, or the same of the called end.
@@ -258,6 +260,14 @@ fn read_digest(text: &[u8]) -> Result<Statement<'_>, Complaint<'_>>
     Ok(Statement::End(side, EndStatement::Digest))
 }
 
+/// Reads `resume SIDE`.
+fn read_resume(text: &[u8]) -> Result<Statement<'_>, Complaint<'_>>
+    ensures { read_as result ≡ known (resume_of (words text.now)) }
+{
+    let side = read_one_side(text)?;
+    Ok(Statement::End(side, EndStatement::Resume))
+}
+
 /// Reads `pass SIDE N`.
 fn read_pass(text: &[u8]) -> Result<Statement<'_>, Complaint<'_>>
     ensures { read_as result ≡ known (pass_of (words text.now)) }
@@ -336,6 +346,8 @@ fn read_by<'a>(first: &'a [u8], rest: &'a [u8]) -> Result<Statement<'a>, Complai
         read_lenient(rest)
     } else if spells(first, b"digest") {
         read_digest(rest)
+    } else if spells(first, b"resume") {
+        read_resume(rest)
     } else {
         read_event(first, rest)
     }

@@ -130,7 +130,7 @@ pub fn script_remark<A: Allocator>(
     };
     match &read_line(line) {
         Ok(_) => text.push_str(
-            "the end is set up, numbered, quiet, short, lenient or telling digests already, or has 1024 jobs",
+            "the end is set up, numbered, quiet, short, lenient, telling digests or resuming already, or has 1024 jobs",
         )?,
         Err(complaint) => add_complaint(&mut text, complaint)?,
     }

@@ -55,6 +55,8 @@ enum Given<'a> {
     Lenient,
     /// The setting to announce digests, and to compare those it receives.
     Digests,
+    /// The setting to resume files that were cut off, and to announce digests.
+    Resumes,
 }
 
 /// An item that an end has when all is over. Each kind is in order.
@@ -129,6 +131,11 @@ fn give_to_spool<A: Allocator + Copy>(
         }
         Given::Digests => {
             spool.set_digests(true);
+            Ok(())
+        }
+        Given::Resumes => {
+            spool.set_digests(true);
+            spool.set_resumes(true);
             Ok(())
         }
         Given::Job(_) => Ok(()),

@@ -1,20 +1,15 @@
 //! Files that go on where they were cut off: what a giver sends of them, and what a taker keeps.
 
-ghost use Rattle.std.specs.Prelude.{[], map};
-ghost use Rattle.uug_conversation.specs.MemoryHoldings.{holdings_of, kept_of, no_holdings};
-ghost use Rattle.uug_conversation.specs.Code.StoredModes.{modes_in_range};
-
 use super::greetings::CALLER_STARTS;
-use super::line::{Event, Hand, Line};
-use super::script::Act::Hear;
-use super::script::Wire::{Close, Command, Data, InitC, Rr};
-use super::script::{Row, Script, play_all};
-use super::{Given, Left, MemoryNode, NOTHING, SEND, Side, assert_ended, end, place};
-use std::alloc::{Allocator, Global};
+use super::script::Act::{CallAgain, Hear};
+use super::script::Wire::{Close, Command, Data, InitA, InitB, InitC, Rr, Text, Wide, WideCommand};
+use super::script::{Row, Script, follow, play_all};
+use super::wide_peers::CALLED_STARTS;
+use super::{Given, Left, MemoryNode, NOTHING, SEND, Side, assert_lists, end, place};
+use crate::assertions::assert_same;
+use std::alloc::Global;
 use std::process::Abort;
-use uug_digest::FileDigest;
-use uug_session::{End, FileView, KeepFault, Node, Phase, Queue, Spool, Stored, Verdict};
-use uug_talk::Name;
+use uug_session::{End, Phase};
 
 /// The items of an end that sends the file `abc`, and announces its digest.
 const TELLER: &[Given<'static>] = &[Given::File(b"x", b"abc"), Given::Digests, Given::Job(SEND)];
@@ -103,126 +98,77 @@ fn sends_the_rest_that_is_asked_for(rt: HostRuntime) {
     play_all(&rt, rt.alloc(), SCRIPTS);
 }
 
-/// A spool that holds these bytes of every file, takes every file, and has none to give.
-#[derive(Drop)]
-struct HoldingSpool<A: Allocator> {
-    front: Vec<u8, A>,
-    stored: Vec<Stored<A>, A>,
-    alloc: A,
-}
+/// The command of a giver that sends the file `abc`, and announces its digest.
+const SEND_ABC: &[u8] = b"S x y u - D.0 0644 \"\" 0x00000003 sha256:ba7816bf8f01cfea414140de5dae2223b00361a396177a9cb410ff61f20015ad";
 
-impl<A: Allocator + Copy> Spool for HoldingSpool<A> {
-    ghost holdings = { λ s. record (holdings_of no_holdings) {
-      held = λ source told. s.front.items;
-      digests = true;
-    } };
-
-    ghost kept = { λ s. map kept_of s.stored.items };
-
-    ghost faults = { λ _. 0 };
-
-    fn may_keep(&self, _name: &Name) -> Verdict {
-        Verdict::Yes
-    }
-
-    fn landing(&self, _source: &Name, target: &Name) -> Name {
-        *target
-    }
-
-    fn fetch(&self, _name: &Name) -> Option<FileView<'_>> {
-        None
-    }
-
-    fn is_delayed(&self, _name: &Name) -> bool {
-        false
-    }
-
-    fn held(&self, _source: &Name, _told: &FileDigest) -> &[u8] {
-        self.front.as_slice()
-    }
-
-    fn keep(&mut self, name: &Name, mode: u16, bytes: &[u8]) -> Result<(), KeepFault> {
-        let Ok(bytes) = bytes.to_vec(self.alloc) else {
-            return Err(KeepFault::Memory);
-        };
-        let file = Stored {
-            name: *name,
-            mode,
-            bytes,
-        };
-        match self.stored.push(file) {
-            Ok(()) => Ok(()),
-            Err(_) => Err(KeepFault::Memory),
-        }
-    }
-
-    fn is_lenient(&self) -> bool {
-        false
-    }
-
-    fn tells_digests(&self) -> bool {
-        true
-    }
-
-    fn faults(&self) -> u64 {
-        0
-    }
-
-    ghost modes = { λ s. modes_in_range {A = Unit {0}} [] };
-}
-
-type HoldingNode = Node<HoldingSpool<Global>, Global>;
-
-/// Makes a called end that holds these bytes.
-fn called(rt: &impl Abort, alloc: Global, front: &[u8]) -> HoldingNode {
-    let spool = HoldingSpool {
-        front: front.to_vec(alloc).expect(rt, "memory"),
-        stored: Vec::new(alloc),
-        alloc,
-    };
-    Node::called(alloc, place(rt, Side::Called, 32), Queue::new(alloc), spool).expect(rt, "an end")
-}
-
-/// Bytes that are held before a session, and what is then left at the two ends.
-type Held<'a> = (&'a [u8], &'a [Left<'a>], &'a [Left<'a>]);
-
-const HELD: &[Held<'static>] = &[
-    (b"", &[Left::Struck(SEND)], &[Left::Stored(b"y", b"abc")]),
-    (b"ab", &[Left::Struck(SEND)], &[Left::Stored(b"y", b"abc")]),
-    (b"abc", &[Left::Struck(SEND)], &[Left::Stored(b"y", b"abc")]),
-    // more than the file has is none of it
-    (b"abcd", &[Left::Struck(SEND)], &[Left::Stored(b"y", b"abc")]),
-    // no front of the file
-    (b"xy", &[Left::Pending(SEND)], NOTHING),
+/// Takes the first two bytes of the file. Then the line is gone, and a new session begins, up to the same command.
+const CUT: &[Row<'static>] = &[
+    (Hear(&[WideCommand(1, 0, SEND_ABC)]), &[Rr(1), Command(1, 1, b"SY")]),
+    (Hear(&[Wide(2, 1, b"ab")]), &[Rr(2)]),
+    (CallAgain, &[Text(b"Shere=b")]),
+    (Hear(&[Text(b"Sa")]), &[Text(b"ROK"), Text(b"Pg")]),
+    (Hear(&[Text(b"Ug"), InitA(2)]), &[InitA(2)]),
+    (Hear(&[InitB(0)]), &[InitB(7)]),
+    (Hear(&[InitC(2)]), &[InitC(2)]),
 ];
 
-fn finish(
-    rt: &impl Abort,
-    log: Global,
-    caller: &mut MemoryNode<Global>,
-    called: &mut HoldingNode,
-    held: &Held<'_>,
-) {
-    let mut line = Line::new(log, Hand::Whole);
-    line.play(rt, &[Event::Flow(40)], caller, called);
-    assert_ended(rt, caller, &[], End::Done, held.1);
-    let stored = called.spool().stored.as_slice();
-    assert_ended(rt, called, stored, End::Done, held.2);
+/// What an end has, what then happens after `CUT`, and what is left.
+type Taker<'a> = (&'a [Given<'a>], &'a [Row<'a>], &'a [Left<'a>]);
+
+const ASKS: Row<'static> = (
+    Hear(&[WideCommand(1, 0, SEND_ABC)]),
+    &[Rr(1), Command(1, 1, b"SY 0x00000002")],
+);
+
+const TAKERS: &[Taker<'static>] = &[
+    // the rest is asked for, and the file is kept whole
+    (
+        &[Given::Resumes],
+        &[
+            ASKS,
+            (Hear(&[Wide(2, 1, b"c")]), &[Rr(2)]),
+            (Hear(&[Wide(3, 1, b"")]), &[Rr(3), Command(2, 3, b"CY")]),
+        ],
+        &[Left::Stored(b"y", b"abc")],
+    ),
+    // both together aren't the announced file
+    (
+        &[Given::Resumes],
+        &[
+            ASKS,
+            (Hear(&[Wide(2, 1, b"x")]), &[Rr(2)]),
+            (Hear(&[Wide(3, 1, b"")]), &[Rr(3), Command(2, 3, b"CN4")]),
+        ],
+        NOTHING,
+    ),
+    // an end that doesn't resume
+    (
+        &[Given::Digests],
+        &[
+            (Hear(&[WideCommand(1, 0, SEND_ABC)]), &[Rr(1), Command(1, 1, b"SY")]),
+            (Hear(&[Wide(2, 1, b"abc")]), &[Rr(2)]),
+            (Hear(&[Wide(3, 1, b"")]), &[Rr(3), Command(2, 3, b"CY")]),
+        ],
+        &[Left::Stored(b"y", b"abc")],
+    ),
+];
+
+fn go_on_behind(rt: &impl Abort, log: Global, node: &mut MemoryNode<Global>, taker: &Taker<'_>) {
+    follow(rt, log, node, CALLED_STARTS.rows);
+    follow(rt, log, node, CUT);
+    follow(rt, log, node, taker.1);
+    assert_same(rt, node.phase(), Phase::Talking);
+    assert_lists(rt, node.queue(), node.spool().stored(), taker.2);
 }
 
-fn go_on_behind(rt: &impl Abort, alloc: Global, held: &Held<'_>) {
-    let place = place(rt, Side::Caller, 32);
-    let mut caller = end(rt, alloc, Side::Caller, place, TELLER);
-    let mut called = called(rt, alloc, held.0);
-    finish(rt, alloc, &mut caller, &mut called, held);
-    drop(called);
-    drop(caller);
-}
-
-// a file that is kept without what was held of it; one that is kept although it is not the one that was announced
+// a file that begins anew though its front is held, or goes on though nothing is; one that is kept without its front; one
+// that is kept although it is not the one that was announced
 #[test]
 fn keeps_a_file_behind_what_was_held(rt: HostRuntime) {
-    for held in HELD {
-        go_on_behind(&rt, rt.alloc(), held);
+    for taker in TAKERS {
+        let place = place(&rt, Side::Called, 4096);
+        let mut node = end(&rt, rt.alloc(), Side::Called, place, taker.0);
+        go_on_behind(&rt, rt.alloc(), &mut node, taker);
+        drop(node);
     }
 }

@@ -208,7 +208,11 @@ fn follow_on(
                 line.time_out(rt, node);
                 assert_same(rt, node.timeouts(), *counted);
             }
-            Act::CallAgain => line.call_again(rt, node),
+            Act::CallAgain => {
+                node.hang_up();
+                node.hold_what_is_left().expect(rt, "memory");
+                line.call_again(rt, node);
+            }
         }
         assert_says(rt, log, node, says);
         node.clear_outbox();
