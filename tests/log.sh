@@ -53,13 +53,14 @@ call_at --log near.log
 end_of "$answerer" 20
 fault=
 [ "$(cat near.err)" = "uucpair: request none none me: not given by the other end, or not to be put in its place here
-uucpair: send none ~/n me: no such file in send, or it is over 1048576 bytes" ] || fault="the caller said $(cat near.err);"
+uucpair: send none ~/n me: no file near/send/none" ] || fault="the caller said $(cat near.err);"
 logged "a caller" near.log "uucpair far - Calling system far (port unix:line)
 uucpair far - Sending x (15 bytes)
 uucpair far - Receiving y (7 bytes)
 uucpair far - ERROR: request none none: refused
 uucpair far - ERROR: 2 jobs were given up
-uucpair far - Call complete (0 seconds 22 bytes 0 bps)" "$fault"
+uucpair far - Call complete (0 seconds 22 bytes 0 bps)
+uucpair far - ERROR: send none ~/n me: no file near/send/none" "$fault"
 logged "a called end" far.log "uucpair - - Incoming call (login - port unix:line)
 uucpair near - Receiving ~/x (15 bytes)
 uucpair near - Sending y (7 bytes)
@@ -131,7 +132,34 @@ call_at --log near.log
 end_of "$partner" 5
 logged "an end that is left alone" near.log "uucpair far - Calling system far (port unix:line)
 uucpair far - ERROR: hungup
-uucpair far - Call complete (0 seconds 0 bytes 0 bps)"
+uucpair far - Call complete (0 seconds 0 bytes 0 bps)
+uucpair far - ERROR: unix:line: connection reset"
+
+# A session that a signal ends is told by the next one.
+folders "send x ~/x me"
+python3 -c 'import socket
+listener = socket.socket(socket.AF_UNIX)
+listener.bind("line")
+listener.listen()
+listener.accept()[0].recv(100)' &
+partner=$!
+wait_for_socket "$work/line" || true
+"$program" call unix:line near --me near --peer far --log near.log >near.out 2>near.err </dev/null &
+caller=$!
+wait_until 5 test -e near/.session || true
+kill -TERM "$caller"
+wait "$caller" || true
+end_of "$partner" 5
+rm -f line
+answer_at
+call_at --log near.log
+end_of "$answerer" 20
+[ ! -e near/.session ] && fault='' || fault="its mark is left;"
+logged "a session that a signal has ended" near.log "uucpair far - Calling system far (port unix:line)
+uucpair far - Calling system far (port unix:line)
+uucpair far - ERROR: the last session was broken off
+uucpair far - Sending x (15 bytes)
+uucpair far - Call complete (0 seconds 15 bytes 0 bps)" "$fault"
 
 # ---- when
 

@@ -98,11 +98,30 @@ mistake "a socket at which nobody listens" 3 "${fault}unix:old: connection refus
 mistake "a socket in a folder that is not there" 3 "${fault}none/s: no such file or directory" pair none/s a b -v
 mistake "what can't be seen in the name of a socket" 3 "${fault}none\\x1b[31m/s: no such file or directory" pair $'none\e[31m/s' a b -v
 call_of - a
-mistake "standard input that is no line" 3 "${fault}-: not supported" "${call[@]}"
+mistake "standard input that is no line" 3 "${fault}-: standard input or output is no socket, pipe or terminal" "${call[@]}"
 : >"$work/device"
 chmod 0 "$work/device"
 call_of ./device a
 mistake "no right to a device" 3 "${fault}./device: permission denied" "${call[@]}"
+
+# waiting LINE SAID: who waits there is told so at the start.
+waiting() {
+    (cd "$work" && "${as_user[@]}" timeout 60 "$program" answer "$1" a --me alpha --peer beta --wait 1 --timeout 1) \
+        >"$work/printed" 2>"$work/said" </dev/null || true
+    if [ "$(cat "$work/said")" = "${2:+uucpair: $2$'\n'}uucpair: heard nothing" ]; then
+        passed=$((passed + 1))
+    else
+        failed=$((failed + 1))
+        echo "who waits at $1: said $(cat "$work/said")"
+    fi
+}
+
+port=$(python3 -c 'import socket
+stream = socket.socket()
+stream.bind(("127.0.0.1", 0))
+print(stream.getsockname()[1])')
+waiting "tcp:$port" "waiting on 127.0.0.1:$port (this machine only; tcp:0.0.0.0:$port for all)"
+waiting "tcp:127.0.0.1:$port" ""
 
 # ---- the folder
 
@@ -124,7 +143,15 @@ for ((i = 1; i < 257; i++)); do
     : >"$work/a/send/$i"
 done
 chmod -R a+rX "$work/a/send"
-mistake "too many files" 3 "${fault}a/send: more than 256 files" pair s a b -v
+mistake "too many files" 3 "${fault}a/send: over the limit of 256 files" pair s a b -v
+
+folders "send x y me"
+mkdir -p "$work/spool/.Status"
+chmod -R a+rX "$work/spool"
+call_of unix:none spool
+mistake "a spool for a folder" 3 "${fault}spool: it is a spool of Taylor UUCP: give --spool" "${call[@]}"
+call_of unix:none a
+mistake "a folder for a spool" 3 "${fault}a: it has jobs or send, and is no spool: leave out --spool" "${call[@]}" --spool
 
 # ---- jobs
 
@@ -137,6 +164,8 @@ mistake "too few words" 2 "$jobs 2"$'\n'"a/jobs: line 2: TARGET and USER are mis
 folders "send my file ~/y me"
 mistake "a blank in the name of a file" 2 "$jobs 1"$'\n''a/jobs: line 1: "me" is one word too many: a name has no space in it' \
     "${call[@]}"
+folders $'send x ~/y me\r'
+mistake "a line of another system" 2 "$jobs 1"$'\n'"a/jobs: line 1: it ends in CR LF: let the lines end in LF alone" "${call[@]}"
 folders $'send x ~/\a me'
 mistake "a target that is no name" 2 "$jobs 1"$'\n''a/jobs: line 1: "~/\x07" is no name: 1 to 200 printing characters' "${call[@]}"
 folders "send x ~/y me"
@@ -166,11 +195,51 @@ failing() {
     fi
 }
 
-failing "no such file" "no such file in send, or it is over 1048576 bytes" "send none ~/y me"
-failing "a file that is too large" "no such file in send, or it is over 1048576 bytes" "send large ~/y me"
-failing "a target below a folder" "refused by the other end" "send x ~/dir/y me"
-failing "a target here that is hidden" "no file of this name is taken here" "request y .y me"
+failing "no such file" "no file a/send/none" "send none ~/y me"
+failing "a file that is too large" "a/send/large is over the limit of 1048576 bytes" "send large ~/y me"
+failing "a path for a file" "a source is a name: NAME or ~/NAME" "send send/x ~/y me"
+failing "a target below a folder" "refused by the other end: in a folder a target is a name, NAME or ~/NAME" "send x ~/dir/y me"
+failing "a target here that is hidden" "a target is a name: NAME or ~/NAME, without a dot in front" "request y .y me"
 failing "no such file at the other end" "not given by the other end, or not to be put in its place here" "request none ~/y me"
+
+# counted STATUS WORD..: a call of which a job fails ends so.
+counted() {
+    local ended=0 answerer
+    folders "send none ~/y me"
+    (cd "$work" && "${as_user[@]}" timeout 60 "$program" answer unix:line b --me beta --peer alpha >/dev/null 2>&1 </dev/null) &
+    answerer=$!
+    wait_for_socket "$work/line" || true
+    call_of unix:line a
+    (cd "$work" && "${as_user[@]}" timeout 60 "$program" "${call[@]}" --log Log "${@:2}") >"$work/printed" 2>"$work/said" </dev/null || ended=$?
+    wait "$answerer" || true
+    if [ "$ended" -eq "$1" ] && [ "$(cat "$work/said")" = "uucpair: send none ~/y me: no file a/send/none" ] \
+        && [ "$(sed -n 's/.*ERROR: send/send/p' "$work/Log")" = "send none ~/y me: no file a/send/none" ]; then
+        passed=$((passed + 1))
+    else
+        failed=$((failed + 1))
+        echo "a job that fails, and the status $1: ended with $ended, said $(cat "$work/said"), logged $(cat "$work/Log")"
+    fi
+}
+
+counted 0
+counted 1 --fail-status
+
+# What is taken away while an end waits to be called is said by its path.
+folders "send x ~/y me"
+(cd "$work" && "${as_user[@]}" timeout 60 "$program" answer unix:line b --me beta --peer alpha >"$work/printed" 2>"$work/said" </dev/null) &
+answerer=$!
+wait_for_socket "$work/line" || true
+rmdir "$work/b/got"
+call_of unix:line a
+(cd "$work" && "${as_user[@]}" timeout 60 "$program" "${call[@]}") >"$work/called" 2>&1 </dev/null || true
+ended=0
+wait "$answerer" || ended=$?
+if [ "$ended" -eq 1 ] && [ "$(cat "$work/said")" = "uucpair: b/got/y: no such file or directory" ]; then
+    passed=$((passed + 1))
+else
+    failed=$((failed + 1))
+    echo "got is gone while it waits: ended with $ended, said $(cat "$work/said")"
+fi
 
 # ---- what was heard
 
@@ -286,6 +355,91 @@ heard_last() {
 heard_last "an end that is gone" '\x10ROK\0' '"ROK"'
 heard_last "the same, of which not all can be seen" '\x10ROK\x1b[31m\0' '"ROK\x1b[31m"'
 
+# ---- the log of an end over a spool
+
+# spool_of END: the words for its spool, which is made.
+spool_of() {
+    mkdir -p "$work/$1"/{spool,pub,lock}
+    [ ${#as_user[@]} -eq 0 ] || chown -R 65534:65534 "$work/$1"
+    spool=("$1/spool" --spool --public "$1/pub" --locks "$1/lock" --log "$1/Log" --timeout 1)
+}
+
+# has_logged NAME END LINE..: the log of the end has these errors, each behind the name of the other system, and no others.
+has_logged() {
+    local name=$1 found
+    found=$(sed -nE 's/^uucico ([^ ]+) - \([^)]*\) ERROR: /\1 /p' "$work/$2/Log" 2>&1)
+    if [ "$found" = "$(printf '%s\n' "${@:3}")" ]; then
+        passed=$((passed + 1))
+    else
+        failed=$((failed + 1))
+        echo "$name: the log has $(cat "$work/$2/Log")"
+    fi
+}
+
+# spooled NAME LINE TEXT..: a call over a spool of an end that says these texts has this line in its log.
+spooled() {
+    folders
+    speaker "${@:3}"
+    spool_of alpha
+    (cd "$work" && "${as_user[@]}" timeout 60 "$program" call unix:line "${spool[@]}" --me alpha --peer beta) \
+        >"$work/printed" 2>"$work/said" </dev/null || true
+    kill "$answerer" 2>/dev/null || true
+    wait "$answerer" || true
+    has_logged "$1" alpha "beta $2"
+}
+
+spooled "a spool's call of another end" 'wrongname: heard "Shere=other", expected "beta"' '\x10Shere=other\0'
+spooled "a spool's call of an end that is busy" 'refused: the other end refused: "RLCK" (it is busy: call later)' \
+    '\x10Shere=beta\0' '\x10RLCK\0'
+spooled "a spool's call of an end without the protocol" 'noprotocol: no protocol g: heard "Pxyz"' \
+    '\x10Shere=beta\0' '\x10ROK\0\x10Pxyz\0'
+spooled "a spool's call of one who says nothing" 'gaveup: heard nothing' ''
+spooled "a spool's call of a getty" 'gaveup: heard 9 bytes and no text: "\x0d\x0alogin: "' '\r\nlogin: '
+
+folders
+spool_of alpha
+(cd "$work" && "${as_user[@]}" timeout 60 "$program" call unix:line none --spool --me alpha --peer beta --log alpha/Log) \
+    >"$work/printed" 2>"$work/said" </dev/null || true
+has_logged "a spool that is not there" alpha "beta device fault: none: no such file or directory"
+
+# a hub, which four call: a stranger, one whose system is busy, a port scan, and one that gives and wants what may not go
+folders
+spool_of beta
+mkdir -p "$work/beta/spool/alpha"
+chmod 777 "$work/beta/spool/alpha"
+(cd "$work" && "${as_user[@]}" timeout 60 "$program" answer unix:line "${spool[@]}" --me beta --wait 30 \
+    >"$work/answered" 2>"$work/heard" </dev/null) &
+hub=$!
+wait_for_socket "$work/line" || true
+spool_of alpha
+call_hub() {
+    (cd "$work" && "${as_user[@]}" timeout 60 "$program" call unix:line "${spool[@]}" --me "$1" --peer beta) \
+        >"$work/printed" 2>"$work/said" </dev/null || true
+}
+call_hub gamma
+printf '%10d\n' $$ >"$work/beta/lock/LCK..alpha"
+call_hub alpha
+rm -f "$work/beta/lock/LCK..alpha"
+python3 -c 'import socket, sys
+stream = socket.socket(socket.AF_UNIX)
+stream.connect(sys.argv[1])
+stream.sendall(b"GET / HTTP/1.0\r\n\r\n")
+stream.shutdown(socket.SHUT_WR)
+while stream.recv(4096):
+    pass' "$work/line"
+mkdir -p "$work/alpha/spool/beta/C."
+echo "S $work/a/send/x ~/no/such/x me - D.0 0644" >"$work/alpha/spool/beta/C./C.N1"
+echo "R /etc/passwd ~/y me -d" >"$work/alpha/spool/beta/C./C.N2"
+spool_of alpha
+call_hub alpha
+wait "$hub" || true
+has_logged "a hub, which says whom it refused, and what" beta \
+    'gamma refused: heard "Sgamma", but the spool has no folder for that system' \
+    "alpha System already locked" \
+    '* hungup: heard 18 bytes and no text: "GET / HTTP/1.0\x0d\x0a\x0d\x0a"' \
+    "alpha send $work/a/send/x ~/no/such/x: refused" \
+    "alpha request /etc/passwd ~/y: refused"
+
 # ---- what is read
 
 folders
@@ -295,17 +449,33 @@ mistake "nothing to queue in" 3 "${fault}none: no such file or directory" queue 
 mistake "no file to queue" 3 "${fault}can't read none"$'\n'"none: no such file or directory" queue a send none
 head -c 1048577 /dev/zero >"$work/large"
 chmod 644 "$work/large"
-mistake "a file to queue that is too large" 3 "${fault}can't read large"$'\n'"large: over 1048576 bytes" queue a send large
+mistake "a file to queue that is too large" 3 "${fault}can't read large"$'\n'"large: over the limit of 1048576 bytes" queue a send large
+
+# Two jobs with one target.
+folders
+(cd "$work" && "${as_user[@]}" "$program" queue a send a/send/x y && "${as_user[@]}" "$program" queue a send a/send/x y) \
+    >"$work/printed" 2>"$work/said" </dev/null || true
+if [ "$(cat "$work/said")" = "uucpair: another job sends to y, and this one replaces its file" ]; then
+    passed=$((passed + 1))
+else
+    failed=$((failed + 1))
+    echo "a second job with the same target: said $(cat "$work/said")"
+fi
 
 # ---- the words of the command line
 
 folders
 misspoken "no words behind call" call -- "  --me <NAME>" "  --peer <NAME>" "  <LINE>" "  <DIR>"
 misspoken "no name of the other end" call unix:s a --me alpha -- "  --peer <NAME>"
-misspoken "an option that there is not" call unix:s a --me alpha --peer beta --baud 9600 -- "error: unexpected argument '--baud' found"
+misspoken "an option that there is not" call unix:s a --me alpha --peer beta --baud 9600 -- "error: unexpected argument '--baud' found" \
+    "uucpair: set the speed of a device by stty; --speed is for the timers"
+misspoken "a port apart" call unix:s a --me alpha --peer beta --port 540 -- "error: unexpected argument '--port' found" \
+    "uucpair: the port is part of LINE: tcp:HOST:PORT"
+misspoken "an order without its command" send a x -- "uucpair: queue a file by: uucpair queue DIR send FILE"
 misspoken "a timeout that is no whole number" call unix:s a --me alpha --peer beta --timeout 0.5 -- \
     "error: invalid value '0.5' for '--timeout <SECONDS>': invalid digit found in string"
-misspoken "an option in front of its command" -v call unix:s a --me alpha --peer beta -- "error: unexpected argument '-v' found"
+misspoken "an option in front of its command" -v call unix:s a --me alpha --peer beta -- "error: unexpected argument '-v' found" \
+    "uucpair: options go behind the command: uucpair call .. -v"
 call_of unix:s a --window 8
 mistake "a window of 8" 2 "${usage}window 8 is not 1 to 7" "${call[@]}"
 call_of unix:s a --size 65

@@ -155,7 +155,7 @@ wait_for_socket "$work/line" || true
 echo "send none ~/none me" >"$work/far/jobs"
 call_with "unix:$work/line" x one
 wait_until 5 grep -q none "$work/said" || true
-why="uucpair: send none ~/none me: no such file in send, or it is over 1048576 bytes"
+why="uucpair: send none ~/none me: no file $work/far/send/none"
 before=
 [ "$(cat "$work/said")" = "$why" ] || before="between the calls it said $(cat "$work/said");"
 call_with "unix:$work/line" y two
@@ -163,7 +163,7 @@ failed_line="called done pending 0 struck 0 failed 1"$'\n'"called failed send no
 ends 0 "$failed_line"$'\n'"$done_line" "$why"
 report "what is said of a session is said behind it" "$before$fault"
 
-# A fault stops it.
+# A bad line of its jobs stops it not: it is said, and the next caller is heard.
 folders
 start "unix:$work/line" --sessions 3
 wait_for_socket "$work/line" || true
@@ -171,10 +171,13 @@ call_with "unix:$work/line" x one
 echo "put x y me" >"$work/far/jobs"
 ended=0
 call_with "unix:$work/line" y two || ended=$?
-ends 2 "$done_line" 'uucpair: bad jobs at line 1'$'\n'"uucpair: $work/far/jobs: line 1: \"put\" is neither send nor request"
+: >"$work/far/jobs"
+call_with "unix:$work/line" z three
+ends 2 "$done_line"$'\n'"$done_line" 'uucpair: bad jobs at line 1'$'\n'"uucpair: $work/far/jobs: line 1: \"put\" is neither send nor request
+uucpair: bad jobs at line 1"
 [ "$ended" -eq 1 ] || fault="$fault the second caller ended with $ended;"
 [ ! -e "$work/line" ] || fault="$fault the socket is left;"
-report "a fault stops it" "$fault"
+report "a bad line of its jobs" "$fault"
 
 # Each wait is as long, and one in which nobody calls is the last.
 folders

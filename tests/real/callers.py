@@ -23,7 +23,7 @@ def three_calls(one, line, is_there):
     ends.jobs("beta", "send back back me", "send none none me")
     send(ends, line, "y")
     wait_until(lambda: "none" in called.said(), 5)
-    why = said("send none none me: no such file in send, or it is over 1048576 bytes")
+    why = said("send none none me: no file beta/send/none")
     one.row("what is said of a session is said behind it", called.said(), why)
     send(ends, line, "z")
     ended = called.end()
@@ -80,7 +80,7 @@ def who_is_called_by_nobody(one):
 
 @scene()
 def the_status_of_several_sessions(one):
-    """It is the greatest of all; a fault ends them."""
+    """It is the greatest of all; a fault of one does not end them."""
     ends = Ends(one)
     called = ends.answer(one.line, "--sessions", "2", "--timeout", "10")
     ends.give("alpha", long=filler("long", 9000))
@@ -94,8 +94,10 @@ def the_status_of_several_sessions(one):
     write(ends.at("beta", "jobs"), "put x\n")
     caller = send(ends, one.line, "z")
     one.row("who called where the jobs are bad", (caller.status, text_of(ends.at("alpha", "jobs"))), (1, "send z z me\n"))
-    one.row("a fault ends it", called.end().all(), (2, report("called"), said("bad jobs at line 1",
-            'beta/jobs: line 1: "put" is neither send nor request')))
+    write(ends.at("beta", "jobs"), "")
+    one.row("who called when they were mended", send(ends, one.line, "z").all(), (0, report("caller", struck=1), ""))
+    one.row("a fault does not end it", called.end().all(), (2, report("called") * 2, said("bad jobs at line 1",
+            'beta/jobs: line 1: "put" is neither send nor request', "bad jobs at line 1")))
     one.row("the socket is gone", os.path.lexists(one.path(one.line[5:])), False)
 
 

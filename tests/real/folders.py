@@ -10,7 +10,6 @@ from datetime import datetime, timedelta, timezone
 
 from suite import Ends, FRONT, filler, free_port, masked, names_in, report, said, scene, text_of, wait_until, write
 
-NO_FILE = "no such file in send, or it is over 1048576 bytes"
 NOT_GIVEN = "not given by the other end, or not to be put in its place here"
 
 
@@ -27,12 +26,14 @@ def prepare(one, numbered=7):
 
 CALLER = report("caller", struck=4, failed=["send none n me", "request gone g you"])
 CALLED = report("called", struck=2, failed=["send y .hidden me"])
-CALLER_SAID = said(f"send none n me: {NO_FILE}", f"request gone g you: {NOT_GIVEN}")
-CALLED_SAID = said("send y .hidden me: refused by the other end")
+CALLER_SAID = said("send none n me: no file alpha/send/none", f"request gone g you: {NOT_GIVEN}")
+PATH = "refused by the other end: in a folder a target is a name, NAME or ~/NAME"
+CALLED_SAID = said(f"send y .hidden me: {PATH}")
 CALLER_LOG = [
     "Calling system beta (port {line})", "Sending x (9 bytes)", "Sending empty (0 bytes)", "Receiving r2 (14 bytes)",
     "ERROR: request gone g: refused", "Sending long (9000 bytes)", "Receiving /y (5000 bytes)", "Sending asked (15 bytes)",
     "ERROR: send y .hidden: refused", "ERROR: 2 jobs were given up", "Call complete (14038 bytes)",
+    "ERROR: send none n me: no file alpha/send/none",
 ]
 CALLED_LOG = [
     "Incoming call (login - port {line})", "Receiving ~/x (9 bytes)", "Receiving empty (0 bytes)", "Sending r (14 bytes)",
@@ -192,9 +193,9 @@ def the_sizes_of_files(one):
     caller, called = ends.talk()
     one.row("call", caller.all(), (0, report("caller", struck=3, failed=["send more-alpha more me",
             "request more-beta asked me"]),
-                                   said(f"send more-alpha more me: {NO_FILE}", f"request more-beta asked me: {NOT_GIVEN}")))
+                                   said("send more-alpha more me: alpha/send/more-alpha is over the limit of 1048576 bytes", f"request more-beta asked me: {NOT_GIVEN}")))
     one.row("answer", called.all(), (0, report("called", struck=3, failed=["send more-beta more me"]),
-            said(f"send more-beta more me: {NO_FILE}")))
+            said("send more-beta more me: beta/send/more-beta is over the limit of 1048576 bytes")))
     for end, other in (("alpha", "beta"), ("beta", "alpha")):
         found = {name: text_of(ends.at(end, f"got/{name}")) for name in names_in(ends.at(end, "got"))}
         expected = {name: filler(name + other, size) for name, size in sizes.items() if name != "more"}
@@ -218,7 +219,7 @@ def what_is_there_already(one):
     caller, called = ends.talk()
     refused = ["send y ~/dir/y me", "send x ../x me", "send x ~/.h me", "send x dir me"]
     one.row("call", caller.all(), (0, report("caller", struck=1, failed=refused),
-            said(*(f"{job}: refused by the other end" for job in refused))))
+            said(*(f"{job}: {PATH}" for job in refused[:3]), f"{refused[3]}: refused by the other end")))
     one.row("answer", called.all(), (0, report("called"), ""))
     one.row("beta's folder", ends.state("beta"), {"got/x": "new\n", "got/other": "other\n", "got/dir/f": "below\n"})
     one.row("alpha's folder", {name: text for name, text in ends.state("alpha").items() if name != "failed"},
@@ -412,7 +413,7 @@ def lines_that_are_none(one):
     for line, why in ((f"tcp:127.0.0.1:{port}", "connection refused"), (f"tcp:{port}", "connection refused"),
             ("tcp:nobody.invalid:540", "unknown host"),
                       ("unix:none", "no such file or directory"), ("/dev/ttyNONE", "no such file or directory"),
-                      ("-", "not supported")):
+                      ("-", "standard input or output is no socket, pipe or terminal")):
         ended = one.run(ends.words("call", line, "--locks", "."))
         one.row(line.replace(str(port), "PORT"), (ended.status, ended.out, ended.err),
                 (3, "", said("device fault", f"{line}: {why}")))
@@ -423,7 +424,8 @@ def lines_that_are_none(one):
     ends.jobs("alpha", "send x x me")
     caller, called = ends.talk(f"tcp:{port}")
     one.row("a port of this machine", (caller.all(), called.all()),
-            ((0, report("caller", struck=1), ""), (0, report("called"), "")))
+            ((0, report("caller", struck=1), ""),
+             (0, report("called"), said(f"waiting on 127.0.0.1:{port} (this machine only; tcp:0.0.0.0:{port} for all)"))))
     one.row("a file in the place of a folder", one.run(["call", "unix:none", "alpha/send/x", "--me", "alpha", "--peer",
             "beta"]).all(),
             (3, "", said("device fault", "alpha/send/x: not a directory")))

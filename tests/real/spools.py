@@ -689,6 +689,9 @@ def locks_of_systems(one):
             "lock"))),
             ((0, report("caller", struck=2), ""), (0, report("called"), ""), [], []))
     one.row("the status then", nodes.status("alpha"), "0 0 TIME 0 Conversation complete beta\n")
+    for node, system in (("alpha", "beta"), ("beta", "alpha")):
+        one.row(f"{node}'s log says that they broke off", [line for line in nodes.log(node) if "broken" in line],
+                [f"uucico {system} - (TIME) ERROR: the last session was broken off"])
 
 
 @scene()

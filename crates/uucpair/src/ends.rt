@@ -6,10 +6,10 @@ ghost use Rattle.uug_stream.specs.Streams.{CountsFault};
 use crate::terminals::Terminals;
 use std::alloc::{AllocError, Global};
 use std::fs::File;
+use std::io;
 use std::net::{Net, TcpListener, TcpStream};
 use std::rt::{Env, Files};
 use std::time::Clock;
-use std::{fs, io};
 use uug_conversation::Side;
 use uug_disk::is_named_pipe;
 use uug_failure::{Cause, Resource, SystemFailure};
@@ -17,10 +17,10 @@ use uug_folder::BadNumber;
 use uug_log::{LogFile, SessionLog, end_text, words_of};
 use uug_pair::pair_run_with_reason;
 use uug_port::{ReportFile, StandardStreams, SystemOutput};
-use uug_reason::{jobs_remark, reason_line};
+use uug_reason::reason_line;
 use uug_stop::{LOG, REPORT, STATS};
 use uug_stream::{Output, ToolFault};
-use uug_sys::{SystemObserver, call_run};
+use uug_sys::{SystemObserver, call_run, jobs_remark_at, log_fault};
 use uug_task::{CallTask, ReportPlace};
 use uug_words::PairTask;
 
@@ -64,17 +64,10 @@ fn remark_jobs<R: Files + AllocGlobal>(
     remark: &mut String,
 ) {
     if let Err(ToolFault::Jobs(line)) = answer {
-        if let Ok(said) = read_remark(rt, dir, line) {
+        if let Ok(said) = jobs_remark_at(rt.alloc(), rt, dir, line) {
             let _ = remark.push_str(said.as_str());
         }
     }
-}
-
-/// Returns what is wrong with this line of the jobs of this folder, which are read again.
-fn read_remark<R: Files + AllocGlobal>(rt: &R, dir: &str, line: usize) -> io::Result<String> {
-    let path = format!(in rt.alloc(); "{dir}/jobs")?;
-    let text = fs::read(rt, path.as_str())?;
-    Ok(jobs_remark(rt.alloc(), dir, text.as_slice(), line)?)
 }
 
 /// Runs one end, and reports its state on standard error if that is asked for. Its report goes to the file that is
@@ -239,12 +232,12 @@ where
         why,
     );
     remark_jobs(rt, call.dir, answer, remark);
-    log_fault(rt, call, answer, *why);
+    log_answer(rt, call, answer, *why);
     answer
 }
 
 /// Opens the log of one end, if one is named, and the end may be run. The line of its call is in it. An end over a
-/// spool writes its log itself: it knows who calls.
+/// spool writes its log itself, but for how sessions end badly, and leaves that out where the log can't be opened.
 fn open_log<'a, R>(rt: &'a R, call: &CallTask<'a>) -> io::Result<Option<SessionLog<'a, R, Global>>>
 where
     R: Files<File = File> + Env + Clock + AllocGlobal,
@@ -252,10 +245,14 @@ where
     let Some(path) = call.log else {
         return Ok(None);
     };
-    if call.is_spool || !call.may_run() {
+    if !call.may_run() {
         return Ok(None);
     }
-    let file = LogFile::open(rt, path)?;
+    let file = match LogFile::open(rt, path, call.is_spool) {
+        Ok(file) => file,
+        Err(_) if call.is_spool => return Ok(None),
+        Err(error) => return Err(error),
+    };
     let mut log = SessionLog::new(rt.alloc(), rt, file, call.side, call.peer, call.line);
     if call.side == Side::Caller {
         log.begin();
@@ -276,7 +273,7 @@ fn failure_of_log(error: &io::Error) -> SystemFailure
 }
 
 /// Logs why one end gave up, if there is a log. What can't be written is left out.
-fn log_fault<R>(
+fn log_answer<R>(
     rt: &R,
     call: &CallTask<'_>,
     answer: Result<u8, ToolFault>,
@@ -285,18 +282,14 @@ fn log_fault<R>(
 where
     R: Files<File = File> + Env + Clock + AllocGlobal,
 {
-    let (Some(path), Err(fault)) = (call.log, answer) else {
+    let Err(fault) = answer else {
         return;
     };
     if !call.may_run() {
         return;
     }
-    if let (Ok(file), Ok(text)) = (
-        LogFile::open(rt, path),
-        fault_text(rt.alloc(), call, fault, why),
-    ) {
-        let mut log = SessionLog::new(rt.alloc(), rt, file, call.side, call.peer, call.line);
-        log.fault(text.as_str());
+    if let Ok(text) = fault_text(rt.alloc(), call, fault, why) {
+        log_fault(rt.alloc(), rt, call, text.as_str());
     }
 }
 

@@ -18,11 +18,10 @@ use uug_disk::queue_run;
 use uug_failure::SystemFailure;
 use uug_input::{InputTask, do_on};
 use uug_port::{StandardStreams, SystemInput, SystemOutput};
-use uug_reason::add_escaped;
 use uug_stop::{Stop, end_of, with_reason};
 use uug_stream::{Output, ToolFault, write_all};
 use uug_task::CallTask;
-use uug_words::{Task, VERSION, task_of};
+use uug_words::{Task, VERSION, has_no_host, hint_words, task_of, waiting_words};
 
 /// Prints the name of the program and its version.
 fn show_version<O: Output>(alloc: Global, output: &mut O) -> Result<u8, ToolFault>
@@ -75,10 +74,12 @@ where
     do_on(rt, over, file, input, output, remark, why)
 }
 
-/// Says that standard input is read, if somebody sits before it, or at which line a call is waited for.
+/// Says that standard input is read, or at which line a call is waited for, if somebody sits there. Nobody has to, for
+/// it to be said of a port that only this machine can call because no host is given.
 fn greet<R: Eprint + AllocGlobal>(rt: &R, task: Task<'_>, terminals: Terminals) {
     match task {
-        Task::Call(call) if terminals.errors && call.side == Side::Called => {
+        Task::Call(call)
+            if call.side == Side::Called && (terminals.errors || has_no_host(call.line)) => {
             // A message for which there is no memory is left out.
             let _ = say_waiting(rt, &call);
         }
@@ -100,11 +101,21 @@ fn say_waiting<R: Eprint + AllocGlobal>(rt: &R, call: &CallTask<'_>) -> Result<(
     if call.line == "-" || !call.may_run() {
         return Ok(());
     }
-    let mut line = String::new(rt.alloc());
-    add_escaped(&mut line, call.line.as_bytes())?;
+    let line = waiting_words(rt.alloc(), call.line)?;
     let line = line.as_str();
     let _ = eprint!(rt; "uucpair: waiting on {line}\n");
     Ok(())
+}
+
+/// Says what to do about the first of the words that is often mistaken for one of the program's.
+fn say_hint<R: Eprint, S: AsStr>(rt: &R, words: &[S]) {
+    for (place, word) in words.iter().enumerate() {
+        let hint = hint_words(place == 1, word.as_str().as_bytes());
+        if !hint.is_empty() {
+            let _ = eprint!(rt; "uucpair: {hint}\n");
+            return;
+        }
+    }
 }
 
 /// Prints the remark on a task that was done.
@@ -180,5 +191,8 @@ where
     let mut input = SystemInput::new(rt.reader());
     let mut output = SystemOutput::new(io::writer(rt));
     let ended = perform(rt, &words, terminals, standard, &mut input, &mut output);
+    if let Err(Stop::CommandLine(_)) = &ended {
+        say_hint(rt, words.as_slice());
+    }
     with_reason(rt.alloc(), ended, input.failure(), output.failure())
 }

@@ -1,8 +1,8 @@
 //! Jobs that a person queues, also while sessions run over the same folder, and the list of jobs that wait.
-ghost use Rattle.std.specs.Prelude.{◌≡◌, IfErr, IfOk, IsSome, string_bytes};
+ghost use Rattle.std.specs.Prelude.{◌≡◌, ◌++◌, IfErr, IfOk, IsSome, OnOk, string_bytes};
 ghost use Rattle.uug_folder.specs.Queueing.{ordered, shown_text, target_with, user_with};
 ghost use Rattle.uug_failure.specs.Faults.{IsQueueFault, IsReadingFault};
-ghost use Rattle.uug_disk.specs.Queued.{IsListOf, word_in, word_or_empty};
+ghost use Rattle.uug_disk.specs.Queued.{IsListOf, has_rival, is_rival, rival_remark, word_in, word_or_empty};
 
 use crate::dir_lock::see_dir;
 use crate::queued_copy::{place_copy, read_copied};
@@ -155,7 +155,69 @@ where
     let queued = queue_job(alloc, rt, task, &job, why)?;
     let line = queued_line(alloc, &queued)?;
     write_all(output, line.as_bytes())?;
+    // What can't be said is left out.
+    let _ = remark_rival(alloc, rt, task.end_dir(), &queued, remark);
     Ok(())
+}
+
+/// Appends to the remark that another job sends a file to the target of this one, which was queued after it, if one
+/// does.
+fn remark_rival<A: Allocator + Copy, R: Files, B: Allocator>(
+    alloc: A,
+    rt: &R,
+    dir: EndDir<'_>,
+    queued: &Job,
+    remark: &mut String<B>,
+) -> Result<(), RunFault>
+    ensures { IfErr result IsReadingFault }
+{
+    let Job::Send { source, target, .. } = queued else {
+        return Ok(());
+    };
+    let text = jobs_at(alloc, rt, dir)?;
+    let waiting = jobs_in(alloc, text.as_slice())?;
+    if has_rival(source, target, waiting.pending()) {
+        add_rival(remark, target)?;
+    }
+    Ok(())
+}
+
+/// Appends that another job has this target.
+fn add_rival<B: Allocator>(remark: &mut String<B>, target: &Name) -> Result<(), AllocError>
+    ensures { OnOk result
+        (string_bytes remark.new ≡ string_bytes remark.old ++ rival_remark target.now) }
+{
+    let target = target.as_str();
+    write!(
+        remark,
+        "uucpair: another job sends to {target}, and this one replaces its file\n"
+    )
+}
+
+/// Returns whether one of these jobs sends another file than `source` to this target.
+fn has_rival(source: &Name, target: &Name, jobs: &[Job]) -> bool
+    ensures { result ≡ has_rival source.now target.now jobs.now }
+{
+    for job in jobs {
+        if is_rival(source, target, job) {
+            return true;
+        }
+    }
+    false
+}
+
+/// Returns whether a job sends another file than `source` to this target.
+fn is_rival(source: &Name, target: &Name, job: &Job) -> bool
+    ensures { result ≡ is_rival source.now target.now job.now }
+{
+    match job {
+        Job::Send {
+            source: other,
+            target: place,
+            ..
+        } => other.as_bytes() != source.as_bytes() && place.as_bytes() == target.as_bytes(),
+        Job::Request { .. } => false,
+    }
 }
 
 /// Returns the job that is ordered. The source of one that sends is the name of the file, under which it is not in

@@ -104,6 +104,12 @@ pub enum Cause {
     NotANumber,
     /// Another run holds it.
     InUse,
+    /// A spool of Taylor UUCP is there, not the folder of an end.
+    IsSpool,
+    /// The folder of an end is there, not a spool.
+    NoSpool,
+    /// A standard stream is something that can't be waited for.
+    NoStream,
 }
 
 impl Cause {
@@ -122,7 +128,10 @@ impl Cause {
             | Cause::TooMuch
             | Cause::NotAFile
             | Cause::NotANumber
-            | Cause::InUse => false,
+            | Cause::InUse
+            | Cause::IsSpool
+            | Cause::NoSpool
+            | Cause::NoStream => false,
         }
     }
 }

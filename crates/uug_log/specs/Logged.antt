@@ -56,6 +56,12 @@ job_entry job TooLarge bytes = fault (unfinished job TooLarge)
 job_entry job Later bytes = fault (unfinished job Later)
 job_entry job Differs bytes = fault (unfinished job Differs)
 
+-- the other end was refused a job that ended so
+abbrev pub is_refused_to_it : Way → Outcome → Bool
+is_refused_to_it In Never = true
+is_refused_to_it In TooLarge = true
+is_refused_to_it way outcome = false
+
 -- how a session or a run ended badly
 abbrev pub end_text : (word said : List ℕ) → List ℕ
 end_text word [] = word

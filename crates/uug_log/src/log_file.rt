@@ -1,4 +1,5 @@
 //! The file of a log.
+ghost use Rattle.std.specs.Prelude.{◌≡◌};
 
 use crate::clock::LocalClock;
 use crate::process::process_number;
@@ -13,6 +14,9 @@ use uug_spool::LogHead;
 /// The name of this program in a log.
 const PROGRAM: &[u8] = b"uucpair";
 
+/// The name of the program in whose place an end over a spool stands.
+const REPLACED: &[u8] = b"uucico";
+
 /// A file to which lines are appended, with the clock for their times and the number of the process.
 #[derive(Drop)]
 pub struct LogFile<'a, R> {
@@ -20,18 +24,35 @@ pub struct LogFile<'a, R> {
     file: File,
     clock: LocalClock,
     process: u32,
+    /// Set if the end works over a spool.
+    is_spool: bool,
 }
 
 impl<'a, R: Files<File = File> + Env + AllocGlobal> LogFile<'a, R> {
-    /// Opens the file of this path to append to. A missing file is created.
-    pub fn open(rt: &'a R, path: &str) -> io::Result<Self> {
+    /// Opens the file of this path to append to, of an end over a spool or a folder. A missing file is created.
+    pub fn open(rt: &'a R, path: &str, is_spool: bool) -> io::Result<Self> {
         let file = OpenOptions::new().append(true).create(true).open(rt, path)?;
         Ok(LogFile {
             rt,
             file,
             clock: LocalClock::read(rt),
             process: process_number(rt.alloc(), rt),
+            is_spool,
         })
+    }
+}
+
+impl<R> LogFile<'_, R> {
+    /// Returns whether its end works over a spool.
+    pub fn is_spool(&self) -> bool
+        ensures { result ≡ self.now.is_spool }
+    {
+        self.is_spool
+    }
+
+    /// Returns the name of the program that writes it.
+    fn program(&self) -> &'static [u8] {
+        if self.is_spool { REPLACED } else { PROGRAM }
     }
 }
 
@@ -39,7 +60,7 @@ impl<'a, R: Clock> LogFile<'a, R> {
     /// Returns the head of a line that is written now, of this system, which is empty if it isn't known.
     pub fn head<'b>(&self, system: &'b [u8]) -> LogHead<'b> {
         LogHead {
-            program: PROGRAM,
+            program: self.program(),
             system,
             user: b"",
             moment: self.clock.now(self.rt),

@@ -1,22 +1,29 @@
 //! The log of the sessions of an end.
+ghost use Rattle.std.specs.Prelude.{◌≡◌};
+ghost use Rattle.uug_log.specs.Logged.{is_refused_to_it};
 
 use crate::lines::{end_text, fault_line, job_line, over_line, start_line};
 use crate::log_file::LogFile;
 use std::alloc::Allocator;
 use std::time::{Clock, Instant};
 use uug_conversation::Side;
-use uug_follow::{Journal, News, Outcome};
+use uug_follow::{Journal, News, Outcome, Way};
+use uug_talk::Name;
 
-/// The log of the sessions of an end, in a file. Results of a job are written once they are on the disk.
+/// The log of the sessions of an end, in a file. Results of a job are written once they are on the disk. An end over a
+/// spool writes what it has done itself. Of its sessions only how they ended badly is logged here, and what the other
+/// end was refused.
 #[derive(Drop)]
 pub struct SessionLog<'a, R, A: Allocator> {
     alloc: A,
     rt: &'a R,
     file: LogFile<'a, R>,
     side: Side,
-    /// The other end's name, and the name of the line to it.
+    /// The other end's name, which is empty if any may call, and the name of the line to it.
     system: &'a str,
     line: &'a str,
+    /// The name that the caller gave, if any may call and one did.
+    caller: Option<Name>,
     /// The time at which the session began, if it has and the clock gives one.
     since: Option<Instant>,
     /// Set once it has begun.
@@ -44,6 +51,7 @@ impl<'a, R: Clock, A: Allocator + Copy> SessionLog<'a, R, A> {
             side,
             system,
             line,
+            caller: None,
             since: None,
             is_begun: false,
             bytes: 0,
@@ -51,9 +59,14 @@ impl<'a, R: Clock, A: Allocator + Copy> SessionLog<'a, R, A> {
         }
     }
 
+    /// Sets the name that the caller gave.
+    pub fn set_caller(&mut self, name: Name) {
+        self.caller = Some(name);
+    }
+
     /// Logs the start of a session, once: the end calls, or the first byte of its caller has come.
     pub fn begin(&mut self) {
-        if self.is_begun {
+        if self.is_begun || self.file.is_spool() {
             return;
         }
         self.is_begun = true;
@@ -70,9 +83,10 @@ impl<'a, R: Clock, A: Allocator + Copy> SessionLog<'a, R, A> {
 
     /// Logs the ends of jobs that were held back: all that has become of them is on the disk.
     pub fn write_held(&mut self) {
+        let system = system_of(&self.caller, self.system);
         for news in &self.held {
             if let News::Ends(job, outcome, bytes) = news {
-                let head = self.file.head(self.system.as_bytes());
+                let head = self.file.head(system);
                 self.file
                     .append(job_line(self.alloc, &head, job, *outcome, *bytes));
             }
@@ -83,7 +97,7 @@ impl<'a, R: Clock, A: Allocator + Copy> SessionLog<'a, R, A> {
     /// Logs the end of a session, and how many jobs were given up in it. If it ended badly, `bad` is the word for how,
     /// and `said` what else is to be said of it.
     pub fn end(&mut self, bad: Option<&str>, said: &str, failed: usize) {
-        if failed > 0 {
+        if failed > 0 && !self.file.is_spool() {
             if let Ok(text) = format!(in self.alloc; "{failed} jobs were given up") {
                 self.fault(text.as_str());
             }
@@ -94,19 +108,20 @@ impl<'a, R: Clock, A: Allocator + Copy> SessionLog<'a, R, A> {
             }
         }
         if self.is_begun {
-            let head = self.file.head(self.system.as_bytes());
+            let head = self.file.head(system_of(&self.caller, self.system));
             let line = over_line(self.alloc, &head, self.seconds(), self.bytes);
             self.file.append(line);
         }
         self.since = None;
         self.is_begun = false;
         self.bytes = 0;
+        self.caller = None;
         self.held.clear();
     }
 
     /// Logs what went wrong.
     pub fn fault(&mut self, text: &str) {
-        let head = self.file.head(self.system.as_bytes());
+        let head = self.file.head(system_of(&self.caller, self.system));
         self.file.append(fault_line(self.alloc, &head, text));
     }
 
@@ -122,9 +137,30 @@ impl<'a, R: Clock, A: Allocator + Copy> SessionLog<'a, R, A> {
     }
 }
 
+/// Returns the other end's name: the one that the caller gave, else the one that is expected.
+fn system_of<'a>(caller: &'a Option<Name>, expected: &'a str) -> &'a [u8] {
+    match caller {
+        Some(name) => name.as_bytes(),
+        None => expected.as_bytes(),
+    }
+}
+
+/// Returns whether the other end was refused a job that ended so.
+fn is_refused_to_it(way: Way, outcome: Outcome) -> bool
+    ensures { result ≡ is_refused_to_it way outcome }
+{
+    match (way, outcome) {
+        (Way::In, Outcome::Never | Outcome::TooLarge) => true,
+        _ => false,
+    }
+}
+
 impl<R: Clock, A: Allocator + Copy> Journal for SessionLog<'_, R, A> {
     fn note(&mut self, news: &News) {
-        if let News::Ends(_, outcome, bytes) = news {
+        if let News::Ends(job, outcome, bytes) = news {
+            if self.file.is_spool() && !is_refused_to_it(job.way, *outcome) {
+                return;
+            }
             if *outcome == Outcome::Done {
                 self.bytes = self.bytes.saturating_add(*bytes);
             }

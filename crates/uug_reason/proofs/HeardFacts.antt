@@ -9,10 +9,11 @@ record AreSaid : Type 0 where
   other : heard_remark Caller WrongName (codes "ther") (text (codes "Shere=there")) ≡ codes "uucpair: heard \"Shere=there\", expected \"ther\"" ++ 10 ∷ []
   busy : heard_remark Caller Refused (codes "b") (text (codes "RLCK")) ≡ codes "uucpair: the other end refused: \"RLCK\" (it is busy: call later)" ++ 10 ∷ []
   stranger : heard_remark Called Refused (codes "a") (text (codes "Sc")) ≡ codes "uucpair: heard \"Sc\", expected \"a\"" ++ 10 ∷ []
+  unknown : heard_remark Called Refused [] (text (codes "Sc")) ≡ codes "uucpair: heard \"Sc\", but the spool has no folder for that system" ++ 10 ∷ []
   getty : heard_remark Caller GaveUp (codes "b") (noise 7 (codes "login:" ++ 13 ∷ [])) ≡ codes "uucpair: heard 7 bytes and no text: \"login:\\x0d\"" ++ 10 ∷ []
   mute : heard_remark Caller GaveUp (codes "b") nothing ≡ codes "uucpair: heard nothing" ++ 10 ∷ []
   done : heard_remark Caller Done (codes "b") (text (codes "Pg")) ≡ []
 
 said : AreSaid
 unfolding digits
-said = record { other = refl; busy = refl; stranger = refl; getty = refl; mute = refl; done = refl }
+said = record { other = refl; busy = refl; stranger = refl; unknown = refl; getty = refl; mute = refl; done = refl }

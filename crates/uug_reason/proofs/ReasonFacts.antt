@@ -29,7 +29,8 @@ record AreSaid : Type 0 where
   escaped : reason_line end_places (record { end = 0; resource = on.Text Jobs; cause = causes.Refused kinds.PermissionDenied (Some (pos 13)) }) ≡ codes "uucpair: \\x1ba/jobs: permission denied" ++ 10 ∷ []
   given : reason_line pair_places (record { end = 0; resource = on.Given (codes "x"); cause = causes.Refused kinds.IsADirectory (Some (pos 21)) }) ≡ codes "uucpair: a/send/x: is a directory" ++ 10 ∷ []
   got : reason_line pair_places (record { end = 1; resource = on.Got (codes "y"); cause = causes.Refused kinds.StorageFull (Some (pos 28)) }) ≡ codes "uucpair: b/got/y: no space left" ++ 10 ∷ []
-  files : reason_line pair_places (record { end = 1; resource = on.Send; cause = causes.TooMuch }) ≡ codes "uucpair: b/send: more than 256 files" ++ 10 ∷ []
+  files : reason_line pair_places (record { end = 1; resource = on.Send; cause = causes.TooMuch }) ≡ codes "uucpair: b/send: over the limit of 256 files" ++ 10 ∷ []
+  spool : reason_line pair_places (record { end = 0; resource = on.Dir; cause = causes.IsSpool }) ≡ codes "uucpair: a: it is a spool of Taylor UUCP: give --spool" ++ 10 ∷ []
   socket : reason_line pair_places (record { end = 0; resource = on.Line; cause = causes.Refused kinds.AddrInUse (Some (pos 98)) }) ≡ codes "uucpair: s: address in use" ++ 10 ∷ []
   pipe : reason_line output_places (record { end = 1; resource = on.Output; cause = causes.NotAFile }) ≡ codes "uucpair: standard output: a named pipe may have no reader: name a file, /dev/stdout or /dev/stderr" ++ 10 ∷ []
   told : reason_line pair_places (record { end = 0; resource = on.Text Jobs; cause = causes.NotAFile }) ≡ codes "uucpair: a/jobs: not a regular file" ++ 10 ∷ []
@@ -37,4 +38,4 @@ record AreSaid : Type 0 where
 
 said : AreSaid
 unfolding digits
-said = record { line = refl; host = refl; numbered = refl; escaped = refl; given = refl; got = refl; files = refl; socket = refl; pipe = refl; told = refl; output = refl }
+said = record { line = refl; host = refl; numbered = refl; escaped = refl; given = refl; got = refl; files = refl; spool = refl; socket = refl; pipe = refl; told = refl; output = refl }

@@ -22,9 +22,14 @@ shown sounds.Nothing = nothing
 shown (sounds.Noise count bytes) = noise count bytes.now
 shown (sounds.Text said) = text said.now
 
+-- which end was expected: one of the spool's systems where none is named
+abbrev pub expected_words : (peer : List ℕ) → List ℕ
+expected_words [] = codes ", but the spool has no folder for that system"
+expected_words (c ∷ peer) = codes ", expected " ++ quoted (c ∷ peer)
+
 -- another end was heard than the one that was expected
 abbrev pub other_words : (said peer : List ℕ) → List ℕ
-other_words said peer = codes "heard " ++ (quoted said ++ (codes ", expected " ++ quoted peer))
+other_words said peer = codes "heard " ++ (quoted said ++ expected_words peer)
 
 -- what a refusal means that is known
 abbrev pub hint_words : (said : List ℕ) → List ℕ

@@ -3,7 +3,7 @@ use Rattle.std.specs.Fmt.{signed_decimal}
 use Rattle.std.specs.Prelude.{ℕ, ℤ, ◌==◌, List, [], ◌++◌, codes, Option, Some, None, if◌then◌else◌}
 use Rattle.std.specs.declared.io.ErrorKind.{ErrorKind}
 use Rattle.uug_failure.specs.declared.failure.Cause.{Cause}
-use Rattle.uug_failure.specs.declared.failure.Cause.TheVariants.{Refused, MovedNothing, TooMuch, NotAFile, NotANumber, InUse}
+use Rattle.uug_failure.specs.declared.failure.Cause.TheVariants.{Refused, MovedNothing, TooMuch, NotAFile, NotANumber, InUse, IsSpool, NoSpool, NoStream}
 use Rattle.uug_failure.specs.declared.failure.EndText.{EndText}
 use Rattle.uug_failure.specs.declared.failure.EndText.TheVariants.{Jobs, Number, Failed}
 use Rattle.uug_failure.specs.declared.failure.Resource.{Resource}
@@ -66,10 +66,10 @@ named_or_numbered resource None number = number_words resource number
 
 -- of what there is more than the program takes
 abbrev pub much_words : Resource → List ℕ
-much_words Input = codes "over 1048576 bytes"
-much_words (Text which) = codes "over 16777216 bytes"
-much_words Send = codes "more than 256 files"
-much_words resource = codes "too much"
+much_words Input = codes "over the limit of 1048576 bytes"
+much_words (Text which) = codes "over the limit of 16777216 bytes"
+much_words Send = codes "over the limit of 256 files"
+much_words resource = codes "over a limit"
 
 -- What there is in place of a regular file: of what is written a named pipe, since a device or a socket is taken there.
 abbrev pub no_file_words : Resource → List ℕ
@@ -83,6 +83,9 @@ cause_words resource TooMuch = much_words resource
 cause_words resource NotAFile = no_file_words resource
 cause_words resource NotANumber = codes "not a number"
 cause_words resource InUse = codes "in use"
+cause_words resource IsSpool = codes "it is a spool of Taylor UUCP: give --spool"
+cause_words resource NoSpool = codes "it has jobs or send, and is no spool: leave out --spool"
+cause_words resource NoStream = codes "standard input or output is no socket, pipe or terminal"
 
 -- ---- both, as a line
 abbrev pub reason_line : Places → SystemFailure → List ℕ

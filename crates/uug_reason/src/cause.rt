@@ -24,6 +24,11 @@ pub(crate) fn add_cause<A: Allocator>(
         Cause::NotAFile => text.push_str(no_file_words(resource)),
         Cause::NotANumber => text.push_str("not a number"),
         Cause::InUse => text.push_str("in use"),
+        Cause::IsSpool => text.push_str("it is a spool of Taylor UUCP: give --spool"),
+        Cause::NoSpool => text.push_str("it has jobs or send, and is no spool: leave out --spool"),
+        Cause::NoStream => {
+            text.push_str("standard input or output is no socket, pipe or terminal")
+        }
     }
 }
 
@@ -32,10 +37,10 @@ fn much_words(resource: Resource) -> &'static str
     ensures { result.now ≡ much_words resource }
 {
     match resource {
-        Resource::Input => "over 1048576 bytes",
-        Resource::Text(_) => "over 16777216 bytes",
-        Resource::Send => "more than 256 files",
-        _ => "too much",
+        Resource::Input => "over the limit of 1048576 bytes",
+        Resource::Text(_) => "over the limit of 16777216 bytes",
+        Resource::Send => "over the limit of 256 files",
+        _ => "over a limit",
     }
 }
 

@@ -18,7 +18,8 @@ pub enum Heard<'a> {
 }
 
 /// Returns a line for standard error with what was heard, if the session of this end ended in this way. It called the
-/// end `peer`, or waited for its call. The line is empty if what was heard says nothing about how the session ended.
+/// end `peer`, or waited for its call, or for that of any system of its spool if `peer` is empty. The line is empty if
+/// what was heard says nothing about how the session ended.
 pub fn heard_remark<A: Allocator + Copy>(
     alloc: A,
     side: Side,
@@ -67,13 +68,16 @@ fn add_end<A: Allocator>(
     }
 }
 
-/// Appends that this was heard of another end than `peer`.
+/// Appends that this was heard of another end than `peer`, or of one that the spool does not know.
 fn add_other<A: Allocator>(text: &mut String<A>, said: &[u8], peer: &str) -> Result<(), AllocError>
     ensures { OnOk result
         (string_bytes text.new ≡ string_bytes text.old ++ other_words said.now peer.now) }
 {
     text.push_str("heard ")?;
     add_quoted(text, said)?;
+    if peer.is_empty() {
+        return text.push_str(", but the spool has no folder for that system");
+    }
     text.push_str(", expected ")?;
     add_quoted(text, peer.as_bytes())
 }

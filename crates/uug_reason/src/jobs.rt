@@ -97,6 +97,9 @@ fn add_lack<A: Allocator>(text: &mut String<A>, line: &[u8]) -> Result<(), Alloc
     if line.len() > LINE_MAX {
         return text.push_str("it is over 65536 bytes");
     }
+    if line.ends_with(b"\r") {
+        return text.push_str("it ends in CR LF: let the lines end in LF alone");
+    }
     let Some((first, rest)) = split_word(line) else {
         return Ok(());
     };

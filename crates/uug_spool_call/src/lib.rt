@@ -12,4 +12,4 @@ mod work;
 
 pub use session::talk_over_spool;
 pub use spool_call::SpoolCall;
-pub use telling::{tell_locked, tell_no_line};
+pub use telling::{tell_fault, tell_no_line};

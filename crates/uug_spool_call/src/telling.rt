@@ -89,16 +89,17 @@ pub fn tell_no_line<A: Allocator + Copy, R: Files<File = File> + Clock>(
     }
 }
 
-/// Tells that a system has called with which another run talks.
-pub fn tell_locked<A: Allocator + Copy, R: Files<File = File> + Clock + Env + AllocGlobal>(
+/// Tells this of a system with which there is no session, or not yet.
+pub fn tell_fault<A: Allocator + Copy, R: Files<File = File> + Clock + Env + AllocGlobal>(
     alloc: A,
     rt: &R,
     call: &SpoolCall<'_>,
     system: Name,
+    text: &str,
 ) {
     if let Ok(paths) = paths_of(alloc, call, system) {
         let clock = LocalClock::read(rt);
-        let event = LogEvent::Fault(b"System already locked");
+        let event = LogEvent::Fault(text.as_bytes());
         log(alloc, rt, call, &paths, &clock, b"", &event);
     }
 }

@@ -2,7 +2,7 @@
 use Rattle.std.proofs.Common.{◌≡◌, true, false, [], ◌∷◌, ◌++◌, codes, None, refl}
 use Rattle.uug_conversation.specs.declared.job.Job.{Job}
 use Rattle.uug_conversation.specs.declared.job.Job.TheVariants.{Request, Send}
-use Rattle.uug_folder.specs.declared.notices.WhyFailed.TheVariants.{NotGiven, Refused}
+use Rattle.uug_folder.specs.declared.notices.WhyFailed.TheVariants.{NoFile, NotGiven, Refused}
 use Rattle.uug_session.specs.declared.end.End.TheVariants.{Done, HungUp}
 use Rattle.uug_session.specs.declared.phase.Phase.TheVariants.{Ended}
 use Rattle.uug_sys.specs.JobRemarks.{failed_words, job_line, put_off_remark}
@@ -14,11 +14,15 @@ abbrev a_request : Job
 a_request = Request (codes "x") (codes "y") (codes "me")
 
 record AreSaid : Type 0 where
-  sent : job_line a_send (failed_words Refused) ≡ codes "uucpair: send x ~/d/y me: refused by the other end" ++ 10 ∷ []
-  asked : job_line a_request (failed_words NotGiven) ≡ codes "uucpair: request x y me: not given by the other end, or not to be put in its place here" ++ 10 ∷ []
+  sent : job_line a_send (failed_words [] [] a_send Refused)
+      ≡ codes "uucpair: send x ~/d/y me: refused by the other end: in a folder a target is a name, NAME or ~/NAME" ++ 10 ∷ []
+  missing : job_line a_send (failed_words (codes "a") [] a_send NoFile) ≡ codes "uucpair: send x ~/d/y me: no file a/send/x" ++ 10 ∷ []
+  large : job_line a_send (failed_words (codes "a") (codes "x" ∷ []) a_send NoFile)
+      ≡ codes "uucpair: send x ~/d/y me: a/send/x is over the limit of 1048576 bytes" ++ 10 ∷ []
+  asked : job_line a_request (failed_words [] [] a_request NotGiven) ≡ codes "uucpair: request x y me: not given by the other end, or not to be put in its place here" ++ 10 ∷ []
   put_off : put_off_remark (Ended Done) false (a_send ∷ []) ≡ codes "uucpair: send x ~/d/y me: put off: the other end takes it later" ++ 10 ∷ []
   not_given : put_off_remark (Ended Done) true (a_request ∷ []) ≡ codes "uucpair: request x y me: put off: the other end gives it later, or another file came than it told of" ++ 10 ∷ []
   broken_off : put_off_remark (Ended HungUp) true (a_send ∷ []) ≡ []
 
 said : AreSaid
-said = record { sent = refl; asked = refl; put_off = refl; not_given = refl; broken_off = refl }
+said = record { sent = refl; missing = refl; large = refl; asked = refl; put_off = refl; not_given = refl; broken_off = refl }

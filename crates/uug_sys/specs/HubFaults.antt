@@ -1,20 +1,24 @@
--- Which faults of a session leave the next ones be, of several over one spool (this project's profile).
-use Rattle.std.specs.Prelude.{◌==◌, ◌&&◌, Bool, true, false, Option, Some, None, if◌then◌else◌}
+-- Which faults of a session leave the next ones be, of several of one end (this project's profile).
+use Rattle.std.specs.Prelude.{◌==◌, Bool, true, false, Option, Some, None, if◌then◌else◌}
 use Rattle.uug_failure.specs.declared.failure.SystemFailure.{SystemFailure}
 use Rattle.uug_failure.specs.declared.failure.Resource.{Resource}
 use Rattle.uug_failure.specs.declared.failure.Resource.TheVariants as resources
 use Rattle.uug_stream.specs.declared.fault.ToolFault.{ToolFault}
-use Rattle.uug_stream.specs.declared.fault.ToolFault.TheVariants.{Device}
+use Rattle.uug_stream.specs.declared.fault.ToolFault.TheVariants.{Device, Jobs}
 
-abbrev pub is_dir : Resource → Bool
-is_dir resources.Dir = true
-is_dir _ = false
+-- the folder of an end, and what is below it
+abbrev pub is_in_folder : Resource → Bool
+is_in_folder resources.Input = false
+is_in_folder resources.Output = false
+is_in_folder resources.Line = false
+is_in_folder _ = true
 
--- the spool's folder is the first of an end
-abbrev pub is_of_spool : SystemFailure → Bool
-is_of_spool failure = if is_dir failure.resource then failure.end == 0 else false
+-- the folder is the first of an end; the other is that of the locks
+abbrev pub is_of_folder : SystemFailure → Bool
+is_of_folder failure = if is_in_folder failure.resource then failure.end == 0 else false
 
--- a call of the system has failed on the files of one system there
-abbrev pub is_of_files : (is_spool : Bool) → ToolFault → (why : Option SystemFailure) → Bool
-is_of_files is_spool Device (Some failure) = is_spool && is_of_spool failure
-is_of_files is_spool _ why = false
+-- a line of the jobs was bad, or a call of the system has failed on the files of the end
+abbrev pub is_of_session : ToolFault → (why : Option SystemFailure) → Bool
+is_of_session (Jobs line) why = true
+is_of_session Device (Some failure) = is_of_folder failure
+is_of_session _ why = false

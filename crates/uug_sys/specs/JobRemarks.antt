@@ -1,9 +1,11 @@
 -- What is said of the jobs that an end has given up, and of those that its session put off (this project's profile).
-use Rattle.std.specs.Prelude.{ℕ, Bool, true, false, List, [], ◌∷◌, ◌++◌, codes}
+use Rattle.std.specs.Prelude.{ℕ, Bool, true, false, List, [], ◌∷◌, ◌++◌, Option, Some, None, codes}
 use Rattle.uug_conversation.specs.Holdings.{Holdings}
+use Rattle.uug_conversation.specs.MemoryHoldings.{has_name}
 use Rattle.uug_conversation.specs.declared.job.Job.{Job}
 use Rattle.uug_conversation.specs.declared.job.Job.TheVariants.{Send, Request}
 use Rattle.uug_folder.specs.JobsText.{job_words}
+use Rattle.uug_folder.specs.LocalNames.{local_source}
 use Rattle.uug_folder.specs.Notices.{why_failed}
 use Rattle.uug_folder.specs.declared.notices.WhyFailed.{WhyFailed}
 use Rattle.uug_folder.specs.declared.notices.WhyFailed.TheVariants.{NoFile, Refused, NotTaken, NotGiven}
@@ -19,16 +21,50 @@ job_line job why = codes "uucpair: " ++ (joined (job_words job) ++ (codes ": " +
 
 -- ---- of a job that was given up
 
-abbrev pub failed_words : WhyFailed → List ℕ
-failed_words NoFile = codes "no such file in send, or it is over 1048576 bytes"
-failed_words Refused = codes "refused by the other end"
-failed_words NotTaken = codes "no file of this name is taken here"
-failed_words NotGiven = codes "not given by the other end, or not to be put in its place here"
+abbrev pub source_of : Job → List ℕ
+source_of (Send source target user temp) = source
+source_of (Request source target user) = source
+
+abbrev pub target_of : Job → List ℕ
+target_of (Send source target user temp) = target
+target_of (Request source target user) = target
+
+-- of the file of this name in `send` of this folder, which is too large or not there
+abbrev pub path_lack : (dir name : List ℕ) → (is_large : Bool) → List ℕ
+path_lack dir name true = dir ++ (codes "/send/" ++ (name ++ codes " is over the limit of 1048576 bytes"))
+path_lack dir name false = codes "no file " ++ (dir ++ (codes "/send/" ++ name))
+
+abbrev pub local_lack : (dir : List ℕ) → (large : List (List ℕ)) → Option (List ℕ) → List ℕ
+local_lack dir large None = codes "a source is a name: NAME or ~/NAME"
+local_lack dir large (Some name) = path_lack dir name (has_name large name)
+
+-- of a job whose target the other end refuses, or this one
+abbrev pub refused_words : Option (List ℕ) → List ℕ
+refused_words (Some name) = codes "refused by the other end"
+refused_words None = codes "refused by the other end: in a folder a target is a name, NAME or ~/NAME"
+
+abbrev pub not_taken_words : Option (List ℕ) → List ℕ
+not_taken_words (Some name) = codes "no file of this name is taken here"
+not_taken_words None = codes "a target is a name: NAME or ~/NAME, without a dot in front"
+
+-- by the names of files that are too large
+abbrev pub failed_words : (dir : List ℕ) → (large : List (List ℕ)) → Job → WhyFailed → List ℕ
+failed_words dir large job NoFile = local_lack dir large (local_source (source_of job))
+failed_words dir large job Refused = refused_words (local_source (target_of job))
+failed_words dir large job NotTaken = not_taken_words (local_source (target_of job))
+failed_words dir large job NotGiven = codes "not given by the other end, or not to be put in its place here"
 
 -- of each job by what the end's own files give and take
-abbrev pub failed_remark : Holdings → List Job → List ℕ
-failed_remark own [] = []
-failed_remark own (job ∷ more) = job_line job (failed_words (why_failed own job)) ++ failed_remark own more
+abbrev pub failed_remark : (dir : List ℕ) → (large : List (List ℕ)) → Holdings → List Job → List ℕ
+failed_remark dir large own [] = []
+failed_remark dir large own (job ∷ more) =
+    job_line job (failed_words dir large job (why_failed own job)) ++ failed_remark dir large own more
+
+-- whether a session in which these jobs were given up counts as one that is not done
+abbrev pub has_failed : (is_fail_status : Bool) → (failed : List Job) → Bool
+has_failed true [] = false
+has_failed true (job ∷ more) = true
+has_failed false failed = false
 
 -- ---- of a job that was put off, by whether its end tells digests
 

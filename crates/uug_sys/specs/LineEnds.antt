@@ -19,7 +19,7 @@ outcome_then cut (Ok Eof) = Eof
 outcome_then true (Ok TimedOut) = Eof
 outcome_then false (Ok TimedOut) = TimedOut
 
--- why the line of this name has failed, as a line on standard error
-abbrev pub failure_remark : (line : List ℕ) → Option SystemFailure → List ℕ
-failure_remark line None = []
-failure_remark line (Some failure) = reason_line (places [] line [] []) failure
+-- why the line of this name, or this folder, has failed, as a line on standard error
+abbrev pub failure_remark : (line dir : List ℕ) → Option SystemFailure → List ℕ
+failure_remark line dir None = []
+failure_remark line dir (Some failure) = reason_line (places [] line dir []) failure

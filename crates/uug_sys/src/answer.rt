@@ -2,8 +2,9 @@
 ghost use Rattle.std.specs.Prelude.{◌≡◌, ◌≢◌, ◌≤◌, Err, IfErr, IfNone, IfOk, IfSome, IsSome, Ok, OnOk, Some, max};
 ghost use Rattle.uug_stream.specs.Streams.{CountsFault};
 ghost use Rattle.uug_failure.specs.Faults.{IsRunFault};
-ghost use Rattle.uug_sys.specs.HubFaults.{is_of_files, is_of_spool};
+ghost use Rattle.uug_sys.specs.HubFaults.{is_in_folder, is_of_folder, is_of_session};
 
+use crate::bad_jobs::jobs_remark_at;
 use crate::call::{stream_line, talk_over};
 use crate::doorkeeper::Doorkeeper;
 use crate::held_output::HeldOutput;
@@ -34,8 +35,8 @@ struct Served<A: Allocator> {
 /// Waits to be called at this socket, and talks with each caller that is let in, one after the other, up to the number
 /// in its task. Of the other callers, whose greeting was refused or broke off, nothing is left but what the observer
 /// has said. If nobody has called in time, it runs the session of an end that nobody has called, and waits for no more.
-/// Returns the greatest status of its sessions. A fault ends the run, except one on a spool's files, as the next system
-/// has others: that failure is reported at once, and returned at the end.
+/// Returns the greatest status of its sessions. A fault ends the run, except a bad line of jobs, or one on the files of
+/// the end, which may be mended before the next call: it is reported at once, and returned at the end.
 pub(crate) fn answer_at<A, R, T, W, O, B>(
     alloc: A,
     rt: &R,
@@ -102,6 +103,7 @@ where
     let mut doorkeeper = Doorkeeper::new(observer, listening, sessions);
     let mut status = 0;
     let mut failed: Option<SystemFailure> = None;
+    let mut bad_line: Option<usize> = None;
     for _ in 0..sessions {
         tell(rt, remark);
         *why = None;
@@ -110,12 +112,15 @@ where
         match give(served, output) {
             Ok(next) => status = greater(status, next),
             Err(fault) => {
-                if !is_of_files(task.is_spool, fault, &*why) {
+                if !is_of_session(fault, &*why) {
                     doorkeeper.close();
                     drop(doorkeeper);
                     return Err(fault);
                 }
-                note_failure(alloc, rt, task, &*why, &mut failed);
+                match fault {
+                    ToolFault::Jobs(line) => note_bad_line(alloc, rt, task, line, &mut bad_line),
+                    _ => note_failure(alloc, rt, task, &*why, &mut failed),
+                }
             }
         }
         if !doorkeeper.is_open() {
@@ -124,48 +129,83 @@ where
     }
     doorkeeper.close();
     drop(doorkeeper);
-    ended(status, failed, why)
+    ended(status, failed, bad_line, why)
 }
 
-/// Returns whether a session ended because a call of the system on a spool's files has failed. Faults of the line and
-/// of memory don't count.
-fn is_of_files(is_spool: bool, fault: ToolFault, why: &Option<SystemFailure>) -> bool
-    ensures { result ≡ is_of_files is_spool fault why.now }
+/// Returns whether a session ended for a bad line of jobs, or because a call of the system on the files of the end has
+/// failed. Faults of the line, of outputs and of memory don't count.
+fn is_of_session(fault: ToolFault, why: &Option<SystemFailure>) -> bool
+    ensures { result ≡ is_of_session fault why.now }
 {
     match (fault, why) {
-        (ToolFault::Device, Some(failure)) => is_spool && is_of_spool(failure),
+        (ToolFault::Jobs(_), _) => true,
+        (ToolFault::Device, Some(failure)) => is_of_folder(failure),
         _ => false,
     }
 }
 
-/// Returns whether the failed call of the system was on a file of the spool. The folder of the end's locks has another
-/// number.
-fn is_of_spool(failure: &SystemFailure) -> bool
-    ensures { result ≡ is_of_spool failure.now }
+/// Returns whether the failed call of the system was on the folder of the end, or below it. The folder of the end's
+/// locks has another number.
+fn is_of_folder(failure: &SystemFailure) -> bool
+    ensures { result ≡ is_of_folder failure.now }
 {
-    match failure.resource {
-        Resource::Dir => failure.end == 0,
-        _ => false,
+    is_in_folder(failure.resource) && failure.end == 0
+}
+
+/// Returns whether a resource is a folder of an end, or below it.
+fn is_in_folder(resource: Resource) -> bool
+    ensures { result ≡ is_in_folder resource }
+{
+    match resource {
+        Resource::Input | Resource::Output | Resource::Line => false,
+        _ => true,
     }
 }
 
 /// Returns the result of an end whose sessions had at most this status. `failed` is the first failure on the files of a
-/// session, if there was one.
+/// session, if there was one, and `bad_line` the first bad line of jobs.
 fn ended(
     status: u8,
     failed: Option<SystemFailure>,
+    bad_line: Option<usize>,
     why: &mut Option<SystemFailure>,
 ) -> Result<u8, ToolFault>
     ensures failed { IfSome failed (λ failure.
         (result ≡ Err ToolFault.Device) × (why.new ≡ Some failure)) }
-    ensures well { IfNone failed (result ≡ Ok status) }
+    ensures bad { IfNone failed (IfSome bad_line (λ line. result ≡ Err (ToolFault.Jobs line))) }
+    ensures well { IfNone failed (IfNone bad_line (result ≡ Ok status)) }
+    ensures status { IfOk result (λ answer. answer ≡ status) }
+    ensures no_other { IfErr result IsRunFault }
+    ensures no_usage { result ≢ Err ToolFault.Usage }
+    ensures no_write { result ≢ Err ToolFault.Write }
+    ensures why { result ≡ Err ToolFault.Device → IsSome why.new }
 {
-    match failed {
-        Some(failure) => {
+    match (failed, bad_line) {
+        (Some(failure), _) => {
             *why = Some(failure);
             Err(ToolFault::Device)
         }
-        None => Ok(status),
+        (None, Some(line)) => Err(ToolFault::Jobs(line)),
+        (None, None) => Ok(status),
+    }
+}
+
+/// Reports at once that this line of the jobs is bad, which the next sessions may not know, and keeps the first one.
+fn note_bad_line<A: Allocator + Copy, R: Files + Eprint + AllocGlobal>(
+    alloc: A,
+    rt: &R,
+    task: &CallTask<'_>,
+    line: usize,
+    bad_line: &mut Option<usize>,
+) {
+    if bad_line.is_none() {
+        *bad_line = Some(line);
+    }
+    let fault = ToolFault::Jobs(line);
+    let _ = eprint!(rt; "uucpair: {fault}\n");
+    if let Ok(remark) = jobs_remark_at(alloc, rt, task.dir, line) {
+        let remark = remark.as_str();
+        let _ = eprint!(rt; "{remark}");
     }
 }
 

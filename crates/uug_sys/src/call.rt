@@ -2,15 +2,20 @@
 ghost use Rattle.std.specs.Prelude.{◌≡◌, ◌≢◌, ◌<◌, ◌≤◌, ◌⊎◌, ◌↔◌, IfErr, IfOk, IsSome};
 ghost use Rattle.uug_failure.specs.Faults.{IsFolderFault, IsReadingFault, IsRunFault};
 ghost use Rattle.uug_stream.specs.Streams.{CountsFault};
+ghost use Rattle.uug_sys.specs.JobRemarks.{has_failed};
 ghost use Rattle.uug_task.specs.Tasks.{IsTask};
 
 use crate::answer::answer_at;
 use crate::failing_line::{FailingLine, remark_failure};
+use crate::fault_log::{log_failure, log_unoffered};
+use crate::folder_kind::see_no_spool;
 use crate::hailed_line::HailedLine;
 use crate::job_remark::{remark_failed, remark_put_off};
+use crate::large_files::large_files;
 use crate::number_remark::remark_numbers;
 use crate::numbers::{meet, read_numbers};
 use crate::parts::{failure_of, read_parts};
+use crate::session_mark::{mark_session, unmark_session};
 use crate::spool_call::{call_over_spool, talk_in_spool};
 use crate::waking_line::WakingLine;
 use std::alloc::{AllocError, Allocator};
@@ -27,7 +32,7 @@ use uug_port::{
     DeviceLine, PolledStream, SessionLine, SilentLine, StandardLine, StandardStreams, StreamLine,
     SystemLine, TimedLine, TimedStream, call_tcp, call_unix, listen_tcp, listen_unix,
 };
-use uug_session::Side;
+use uug_session::{Job, Side};
 use uug_stream::{Output, ToolFault};
 use uug_task::{CallTask, FinishedEnd, Station, Terms, read_terms};
 use uug_transfer::{EndLine, GreetedLine, LineMonitor, LineName, SessionObserver};
@@ -113,7 +118,8 @@ fn lock_and_look<A: Allocator + Copy, R: Files<File = File> + Alloc + Clone + Dr
     }
 }
 
-/// Checks that the number and the jobs can be read, and that the folders exist that they need.
+/// Checks that the folder is no spool, that the number and the jobs can be read, and that the folders exist that they
+/// need.
 fn look<A: Allocator + Copy, R: Files>(
     alloc: A,
     rt: &R,
@@ -122,6 +128,7 @@ fn look<A: Allocator + Copy, R: Files>(
 ) -> Result<(), RunFault>
     ensures { IfErr result IsReadingFault }
 {
+    see_no_spool(alloc, rt, lock.dir())?;
     read_numbers(alloc, rt, task, lock)?;
     let jobs = open_jobs(alloc, rt, lock, task.end_dir())?;
     let seen = see_folders(alloc, rt, lock.dir(), jobs.queue.pending());
@@ -209,12 +216,10 @@ where
 }
 
 /// Returns why the standard streams are no line. A file can't be waited for, which the system reports as
-/// `PermissionDenied`; this becomes `Unsupported`.
+/// `PermissionDenied`; this becomes `NoStream`.
 fn no_line(cause: Cause) -> Cause {
     match cause {
-        Cause::Refused(ErrorKind::PermissionDenied, _) => {
-            Cause::Refused(ErrorKind::Unsupported, None)
-        }
+        Cause::Refused(ErrorKind::PermissionDenied, _) => Cause::NoStream,
         cause => cause,
     }
 }
@@ -430,9 +435,10 @@ where
         )
     };
     if let Ok(1) = result {
-        let failure = line.line().line().line().failure();
+        let failure = (*why).or(line.line().line().line().failure());
         // A remark for which there is no memory is left out.
-        let _ = remark_failure(alloc, remark, task.line, failure);
+        let _ = remark_failure(alloc, remark, task.line, task.dir, failure);
+        log_failure(alloc, rt, task, failure);
     }
     (result, line.into_line().into_observer())
 }
@@ -451,7 +457,7 @@ fn talk_in_folder<A, R, L, O, B>(
 ) -> Result<u8, ToolFault>
 where
     A: Allocator + Copy,
-    R: Files<File = File> + Eprint + Alloc + Clone + Drop,
+    R: Files<File = File> + Env + Eprint + Clock + AllocGlobal + Clone + Drop,
     L: EndLine,
     O: Output,
     B: Allocator,
@@ -465,7 +471,9 @@ where
 {
     match lock_again(alloc, rt, task, held) {
         Ok(lock) => {
+            mark_session(alloc, rt, task);
             let result = talk_locked(alloc, rt, task, &lock, station, line, output, remark, why);
+            unmark_session(alloc, rt, task);
             drop(lock);
             result
         }
@@ -503,7 +511,7 @@ fn talk_locked<'a, A, R, L, O, B>(
 ) -> Result<u8, ToolFault>
 where
     A: Allocator + Copy,
-    R: Files<File = File> + Eprint + Alloc + Clone + Drop,
+    R: Files<File = File> + Env + Eprint + Clock + AllocGlobal + Clone + Drop,
     L: EndLine,
     O: Output,
     B: Allocator,
@@ -541,12 +549,27 @@ where
     let phase = node.phase();
     // A remark for which there is no memory is left out.
     let queue = node.queue();
-    let _ = remark_failed(alloc, remark, node.spool(), queue.failed());
+    let large = large_files(alloc, rt, task.dir, queue.failed()).unwrap_or(Vec::new(alloc));
+    let large = large.as_slice();
+    let _ = remark_failed(alloc, remark, task.dir, large, node.spool(), queue.failed());
     let _ = remark_put_off(alloc, remark, phase, task.tells_digests, queue.pending());
+    log_unoffered(alloc, rt, task, large, node.spool(), queue.failed());
+    let has_failed = has_failed(task, queue.failed());
     drop(end);
     if answer.is_ok() {
         settle_copies(alloc, rt, lock);
     }
     let _ = remark_numbers(alloc, remark, phase, numbers.begins, numbers.heard);
-    answer
+    if has_failed && answer.is_ok() {
+        Ok(1)
+    } else {
+        answer
+    }
+}
+
+/// Returns whether a session with these failed jobs counts as one that is not done.
+fn has_failed(task: &CallTask<'_>, failed: &[Job]) -> bool
+    ensures { result ≡ has_failed task.now.is_fail_status failed.now }
+{
+    task.is_fail_status && !failed.is_empty()
 }

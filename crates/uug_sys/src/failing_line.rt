@@ -17,6 +17,8 @@ pub(crate) struct FailingLine<L> {
     line: L,
     /// Set once a write has failed.
     is_cut: bool,
+    /// Set while its session is done: what fails then is of no matter.
+    is_done: bool,
 }
 
 impl<L: SystemLine> FailingLine<L> {
@@ -25,12 +27,17 @@ impl<L: SystemLine> FailingLine<L> {
         FailingLine {
             line,
             is_cut: false,
+            is_done: false,
         }
     }
 
-    /// Returns why the line has failed, if it has.
+    /// Returns why the line has failed, if it has, and its session is not done.
     pub(crate) fn failure(&self) -> Option<SystemFailure> {
-        self.line.failure()
+        if self.is_done {
+            None
+        } else {
+            self.line.failure()
+        }
     }
 }
 
@@ -59,6 +66,7 @@ impl<L: SystemLine> EndLine for FailingLine<L> {
 
     fn note(&mut self, status: SessionStatus) {
         self.line.note(status);
+        self.is_done = status.phase.is_done();
     }
 
     fn seconds(&self) -> u64 {
@@ -95,20 +103,22 @@ fn outcome_then(read: Result<ReadOutcome, LineFailed>, is_cut: bool, _buffer: &[
     }
 }
 
-/// Appends to the remark why the line of this name has failed, if it has. Out of memory leaves the remark unchanged.
+/// Appends to the remark why the line of this name, or this folder, has failed, if it has. Out of memory leaves the
+/// remark unchanged.
 pub(crate) fn remark_failure<A: Allocator, B: Allocator>(
     alloc: A,
     remark: &mut String<B>,
     line: &str,
+    dir: &str,
     failure: Option<SystemFailure>,
 ) -> Result<(), AllocError>
     ensures ok { OnOk result (string_bytes remark.new
-        ≡ string_bytes remark.old ++ failure_remark line.now failure) }
+        ≡ string_bytes remark.old ++ failure_remark line.now dir.now failure) }
     ensures err { OnErr result (string_bytes remark.new ≡ string_bytes remark.old) }
 {
     let Some(failure) = failure else {
         return Ok(());
     };
-    let reason = reason_line(alloc, "", line, "", "", failure)?;
+    let reason = reason_line(alloc, "", line, dir, "", failure)?;
     remark.push_str(reason.as_str())
 }

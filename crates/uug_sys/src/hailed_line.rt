@@ -58,7 +58,7 @@ impl<L> HailedLine<L> {
 }
 
 /// Returns the name that a caller gives in this text.
-fn caller_in(text: &[u8]) -> Option<Name>
+pub(crate) fn caller_in(text: &[u8]) -> Option<Name>
     ensures { result ≡ caller_in text.now }
 {
     if !text.starts_with(b"S") {

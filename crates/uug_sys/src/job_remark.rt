@@ -1,27 +1,36 @@
 //! Remarks about the jobs that an end has given up, and those that its session put off.
 ghost use Rattle.std.specs.Prelude.{◌≡◌, ◌∷◌, [], ◌++◌, IfOk, OnErr, OnOk, codes, string_bytes};
-ghost use Rattle.uug_sys.specs.JobRemarks.{failed_remark, failed_words, job_line, put_off_lines, put_off_remark, put_off_words};
+ghost use Rattle.uug_scan.specs.Detailed.{escaped};
+ghost use Rattle.uug_sys.specs.JobRemarks.{failed_remark, failed_words, job_line, local_lack, not_taken_words, path_lack, put_off_lines, put_off_remark, put_off_words, refused_words, source_of, target_of};
 ghost use Rattle.uug_talk.specs.Lines.{ended};
 ghost use Rattle.uug_talk.specs.Words.{joined};
 
 use std::alloc::{AllocError, Allocator};
-use uug_folder::{WhyFailed, why_failed};
+use uug_conversation::has_name;
+use uug_folder::{WhyFailed, local_source, why_failed};
+use uug_reason::add_escaped;
 use uug_session::{End, Job, Phase, Spool};
 use uug_talk::Name;
 
-/// Appends to the remark why each of these jobs was given up. Out of memory leaves the remark unchanged.
-pub(crate) fn remark_failed<A: Allocator, S: Spool, B: Allocator>(
+/// Appends to the remark why each of these jobs of the folder `dir` was given up. `large` are the names of the files in
+/// `send` that are too large to be sent. Out of memory leaves the remark unchanged.
+pub(crate) fn remark_failed<A: Allocator + Copy, S: Spool, B: Allocator>(
     alloc: A,
     remark: &mut String<B>,
+    dir: &str,
+    large: &[Name],
     spool: &S,
     jobs: &[Job],
 ) -> Result<(), AllocError>
     ensures ok { OnOk result (string_bytes remark.new
-        ≡ string_bytes remark.old ++ failed_remark (S.holdings spool.now) jobs.now) }
+        ≡ string_bytes remark.old
+        ++ failed_remark (escaped dir.now) large.now (S.holdings spool.now) jobs.now) }
     ensures err { OnErr result (string_bytes remark.new ≡ string_bytes remark.old) }
 {
+    let mut shown = String::new(alloc);
+    add_escaped(&mut shown, dir.as_bytes())?;
     let mut lines = String::new(alloc);
-    add_failed(&mut lines, spool, jobs)?;
+    add_failed(&mut lines, alloc, shown.as_str(), large, spool, jobs)?;
     remark.push_str(lines.as_str())
 }
 
@@ -48,17 +57,40 @@ pub(crate) fn remark_put_off<A: Allocator, B: Allocator>(
     }
 }
 
+/// Returns the line of a job of the folder `dir` that was given up, with the reason.
+pub(crate) fn failed_line<A: Allocator + Copy>(
+    alloc: A,
+    dir: &str,
+    large: &[Name],
+    job: &Job,
+    why: WhyFailed,
+) -> Result<String<A>, AllocError>
+    ensures { IfOk result (λ line. string_bytes line
+        ≡ job_line job.now (failed_words (escaped dir.now) large.now job.now why)) }
+{
+    let mut shown = String::new(alloc);
+    add_escaped(&mut shown, dir.as_bytes())?;
+    let words = failed_words(alloc, shown.as_str(), large, job, why)?;
+    let mut line = String::new(alloc);
+    add_line(&mut line, job, words.as_str())?;
+    Ok(line)
+}
+
 /// Appends a line for each of these jobs.
-fn add_failed<S: Spool, A: Allocator>(
+fn add_failed<S: Spool, A: Allocator + Copy>(
     text: &mut String<A>,
+    alloc: A,
+    dir: &str,
+    large: &[Name],
     spool: &S,
     jobs: &[Job],
 ) -> Result<(), AllocError>
     ensures { OnOk result (string_bytes text.new
-        ≡ string_bytes text.old ++ failed_remark (S.holdings spool.now) jobs.now) }
+        ≡ string_bytes text.old ++ failed_remark dir.now large.now (S.holdings spool.now) jobs.now) }
 {
     for job in jobs {
-        add_line(text, job, failed_words(why_failed(spool, job)))?;
+        let words = failed_words(alloc, dir, large, job, why_failed(spool, job))?;
+        add_line(text, job, words.as_str())?;
     }
     Ok(())
 }
@@ -118,14 +150,96 @@ fn add_words<A: Allocator>(
 }
 
 /// Returns the words for why a job was given up.
-fn failed_words(why: WhyFailed) -> &'static str
-    ensures { result.now ≡ failed_words why }
+fn failed_words<A: Allocator + Copy>(
+    alloc: A,
+    dir: &str,
+    large: &[Name],
+    job: &Job,
+    why: WhyFailed,
+) -> Result<String<A>, AllocError>
+    ensures { IfOk result (λ words.
+        string_bytes words ≡ failed_words dir.now large.now job.now why) }
 {
     match why {
-        WhyFailed::NoFile => "no such file in send, or it is over 1048576 bytes",
-        WhyFailed::Refused => "refused by the other end",
-        WhyFailed::NotTaken => "no file of this name is taken here",
-        WhyFailed::NotGiven => "not given by the other end, or not to be put in its place here",
+        WhyFailed::NoFile => local_lack(alloc, dir, large, local_source(source_of(job))),
+        WhyFailed::Refused => String::from_str(alloc, refused_words(local_source(target_of(job)))),
+        WhyFailed::NotTaken => {
+            String::from_str(alloc, not_taken_words(local_source(target_of(job))))
+        }
+        WhyFailed::NotGiven => String::from_str(
+            alloc,
+            "not given by the other end, or not to be put in its place here",
+        ),
+    }
+}
+
+/// Returns the source of a job.
+fn source_of(job: &Job) -> &Name
+    ensures { result.now ≡ source_of job.now }
+{
+    match job {
+        Job::Send { source, .. } | Job::Request { source, .. } => source,
+    }
+}
+
+/// Returns the target of a job.
+fn target_of(job: &Job) -> &Name
+    ensures { result.now ≡ target_of job.now }
+{
+    match job {
+        Job::Send { target, .. } | Job::Request { target, .. } => target,
+    }
+}
+
+/// Returns why the file of this name in the folder was not sent, if its source was a name there.
+fn local_lack<A: Allocator + Copy>(
+    alloc: A,
+    dir: &str,
+    large: &[Name],
+    name: Option<Name>,
+) -> Result<String<A>, AllocError>
+    ensures { IfOk result (λ words. string_bytes words ≡ local_lack dir.now large.now name) }
+{
+    match name {
+        Some(name) => path_lack(alloc, dir, &name, has_name(large, name.as_bytes())),
+        None => String::from_str(alloc, "a source is a name: NAME or ~/NAME"),
+    }
+}
+
+/// Returns why the file of this name in `send` of the folder was not sent.
+fn path_lack<A: Allocator + Copy>(
+    alloc: A,
+    dir: &str,
+    name: &Name,
+    is_large: bool,
+) -> Result<String<A>, AllocError>
+    ensures { IfOk result (λ words. string_bytes words ≡ path_lack dir.now name.now is_large) }
+{
+    let name = name.as_str();
+    if is_large {
+        format!(in alloc; "{dir}/send/{name} is over the limit of 1048576 bytes")
+    } else {
+        format!(in alloc; "no file {dir}/send/{name}")
+    }
+}
+
+/// Returns the words for a target that the other end has refused. It is a name in a folder, if it is one.
+fn refused_words(name: Option<Name>) -> &'static str
+    ensures { result.now ≡ refused_words name }
+{
+    match name {
+        Some(_) => "refused by the other end",
+        None => "refused by the other end: in a folder a target is a name, NAME or ~/NAME",
+    }
+}
+
+/// Returns the words for a target that this end does not take. It is a name in a folder, if it is one.
+fn not_taken_words(name: Option<Name>) -> &'static str
+    ensures { result.now ≡ not_taken_words name }
+{
+    match name {
+        Some(_) => "no file of this name is taken here",
+        None => "a target is a name: NAME or ~/NAME, without a dot in front",
     }
 }
 

@@ -2,17 +2,22 @@
 #![tactic(auto)]
 
 mod answer;
+mod bad_jobs;
 mod call;
 mod doorkeeper;
 mod failing_line;
+mod fault_log;
+mod folder_kind;
 mod hailed_line;
 mod hearing;
 mod held_output;
 mod job_remark;
+mod large_files;
 mod last_text;
 mod number_remark;
 mod numbers;
 mod parts;
+mod session_mark;
 mod spool_call;
 mod spool_lock;
 mod system_observer;
@@ -21,5 +26,7 @@ mod unread_remark;
 mod voice;
 mod waking_line;
 
+pub use bad_jobs::jobs_remark_at;
 pub use call::call_run;
+pub use fault_log::log_fault;
 pub use system_observer::SystemObserver;

@@ -10,10 +10,12 @@ ghost use Rattle.uug_sys.specs.SpoolLocks.{CallsLater, GivesUp, Says, is_locked,
 ghost use Rattle.uug_transfer.specs.Writing.{TakesFront};
 
 use crate::call::talk_at;
+use crate::folder_kind::see_no_folder;
 use crate::hailed_line::HailedLine;
 use crate::numbers::meet_caller;
+use crate::session_mark::BROKEN_OFF;
 use crate::spool_lock::{
-    is_held, is_in_use, is_locked, lock_system, lock_words, remark_locked, say,
+    has_lock, is_held, is_in_use, is_locked, lock_system, lock_words, remark_locked, say,
 };
 use std::alloc::{AllocError, Allocator};
 use std::fs;
@@ -24,16 +26,19 @@ use std::time::Clock;
 use uug_disk::DeviceLock;
 use uug_failure::{Resource, RunFault, SystemFailure};
 use uug_port::{SilentLine, StandardStreams};
-use uug_session::Side;
+use uug_session::{End, Phase, Side};
 use uug_spool::is_system_name;
-use uug_spool_call::{SpoolCall, talk_over_spool, tell_locked, tell_no_line};
+use uug_spool_call::{SpoolCall, talk_over_spool, tell_fault, tell_no_line};
 use uug_stream::{Output, ToolFault};
 use uug_talk::Name;
 use uug_task::{CallTask, Station, Terms};
-use uug_transfer::{EndLine, GreetedLine, LineMonitor, SessionObserver};
+use uug_transfer::{EndLine, GreetedLine, LineMonitor, SessionObserver, SessionStatus};
 
 /// The word in place of a system's name that lets any system of the spool call.
-const ANY: &str = "*";
+pub(crate) const ANY: &str = "*";
+
+/// What the log says of a system with which another run talks.
+const LOCKED: &str = "System already locked";
 
 /// Runs an end over a spool. A calling end locks the other system first.
 pub(crate) fn call_over_spool<A, R, W, O, B>(
@@ -69,7 +74,7 @@ where
 {
     let Terms { line, station } = terms;
     let terms = Terms { line, station };
-    if let Err(fault) = see_spool(rt, task) {
+    if let Err(fault) = see_spool(alloc, rt, task) {
         drop(observer);
         return Err(fault.tell(why));
     }
@@ -78,7 +83,7 @@ where
             alloc, rt, task, terms, streams, None, observer, output, remark, why,
         );
     }
-    let lock = lock_system(alloc, rt, task.locks, task.peer);
+    let lock = lock_telling(alloc, rt, task, station.place.peer);
     call_locked(
         alloc, rt, task, terms, streams, lock, observer, output, remark, why,
     )
@@ -171,7 +176,7 @@ where
     if !is_locked(&fault) {
         return Err(fault.tell(why));
     }
-    tell_locked(alloc, rt, &said_of(task), system);
+    tell_fault(alloc, rt, &said_of(task), system, LOCKED);
     remark_locked(alloc, remark, task.locks, task.peer)?;
     Ok(1)
 }
@@ -189,12 +194,16 @@ fn line_fault(answer: Result<u8, ToolFault>, why: Option<SystemFailure>) -> Opti
     }
 }
 
-/// Checks that the spool exists: the folders in a missing one would be created.
-fn see_spool<R: Files>(rt: &R, task: &CallTask<'_>) -> Result<(), RunFault>
+/// Checks that the spool exists, where the folders in a missing one would be created, and is not the folder of an end.
+fn see_spool<A: Allocator + Copy, R: Files>(
+    alloc: A,
+    rt: &R,
+    task: &CallTask<'_>,
+) -> Result<(), RunFault>
     ensures { IfErr result IsFolderFault }
 {
     match fs::metadata(rt, task.dir) {
-        Ok(_) => Ok(()),
+        Ok(_) => see_no_folder(alloc, rt, task.end_dir()),
         Err(error) => Err(RunFault::of(&error, task.end_dir(), Resource::Dir)),
     }
 }
@@ -232,12 +241,62 @@ where
         Ok(Some(system)) => {
             station.place.peer = system;
             let lock = lock_caller(alloc, rt, task, &station, line);
-            talk_locked(alloc, rt, task, &station, lock, line, output, why)
+            let is_let_in = lock.is_ok();
+            let result = talk_locked(alloc, rt, task, &station, lock, line, output, why);
+            if !is_let_in {
+                line.note(over_in(Phase::Hail));
+            }
+            result
         }
         // One that has said something else is heard no more: it could say a name later.
-        Ok(None) => talk_to_nobody(alloc, rt, task, &station, output, why),
+        Ok(None) => {
+            line.note(over_in(Phase::Ended(End::HungUp)));
+            talk_to_nobody(alloc, rt, task, &station, output, why)
+        }
         Err(AllocError) => Err(ToolFault::Memory),
     }
+}
+
+/// Returns the status of a session that is over in its greeting, with this phase.
+fn over_in(phase: Phase) -> SessionStatus
+    ensures { result ≡ record {
+      phase = phase;
+      pending = 0;
+      struck = 0;
+      failed = 0;
+      unacked = 0;
+      is_over = true;
+    } }
+{
+    SessionStatus {
+        phase,
+        pending: 0,
+        struck: 0,
+        failed: 0,
+        unacked: 0,
+        is_over: true,
+    }
+}
+
+/// Locks the other system. If the lock of a process that is gone was taken over, the log says that the last session with
+/// the system was broken off.
+fn lock_telling<A, R>(
+    alloc: A,
+    rt: &R,
+    task: &CallTask<'_>,
+    system: Name,
+) -> Result<DeviceLock<A>, RunFault>
+where
+    A: Allocator + Copy,
+    R: Files<File = File> + Clock + Env + AllocGlobal,
+    ensures { IfErr result IsFolderFault }
+{
+    let is_left = has_lock(alloc, rt, task.locks, system.as_str());
+    let lock = lock_system(alloc, rt, task.locks, system.as_str());
+    if is_left && lock.is_ok() {
+        tell_fault(alloc, rt, &said_of(task), system, BROKEN_OFF);
+    }
+    lock
 }
 
 /// Locks the system that has called. If another run has the lock, the caller is heard before it hears that: one whose
@@ -251,13 +310,13 @@ fn lock_caller<A, R, L, W>(
 ) -> Result<DeviceLock<A>, RunFault>
 where
     A: Allocator + Copy,
-    R: Files<File = File>,
+    R: Files<File = File> + Clock + Env + AllocGlobal,
     L: EndLine,
     W: SessionObserver,
     ensures { IfErr result IsFolderFault }
 {
     let system = station.place.peer;
-    let lock = lock_system(alloc, rt, task.locks, system.as_str());
+    let lock = lock_telling(alloc, rt, task, system);
     if task.peer != ANY && is_held(&lock) {
         // If any may call it was heard already.
         let _ = meet_caller(alloc, &station.place, line, station.limits().greeting);
@@ -357,7 +416,7 @@ where
     if !is_locked(&fault) {
         return Err(fault.tell(why));
     }
-    tell_locked(alloc, rt, &said_of(task), station.place.peer);
+    tell_fault(alloc, rt, &said_of(task), station.place.peer, LOCKED);
     let words = lock_words(alloc, &station.place.me)?;
     let _ = say(line, words.as_slice());
     talk_to_nobody(alloc, rt, task, station, output, why)

@@ -40,6 +40,14 @@ pub(crate) fn lock_system<A: Allocator + Copy, R: Files<File = File>>(
     }
 }
 
+/// Returns whether there is a lock file of this name in the folder of the locks.
+pub(crate) fn has_lock<A: Allocator, R: Files>(alloc: A, rt: &R, locks: &str, name: &str) -> bool {
+    match lock_path(alloc, locks, name) {
+        Ok(path) => fs::symlink_metadata(rt, path.as_str()).is_ok(),
+        Err(_) => false,
+    }
+}
+
 /// Returns the lock, if the end has got it. If the system makes none, another run may talk with the other system.
 fn got<A: Allocator + Copy, R: Files<File = File>, L>(
     alloc: A,

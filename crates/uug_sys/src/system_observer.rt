@@ -1,7 +1,9 @@
 //! The reports of a session on standard error, and in a log.
 
+use crate::hailed_line::caller_in;
 use crate::hearing::Hearing;
 use crate::last_text::Tail;
+use crate::spool_call::ANY;
 use crate::tellers::Tellers;
 use crate::unread_remark::{last_remark, unread_remark};
 use crate::voice::Voice;
@@ -11,7 +13,7 @@ use uug_follow::{Observer, Way};
 use uug_log::SessionLog;
 use uug_reason::{Heard, heard_remark};
 use uug_session::{End, Phase, Side};
-use uug_talk::Name;
+use uug_talk::{Hail, Name};
 use uug_task::CallTask;
 use uug_transfer::{ReadOutcome, SessionObserver, SessionStatus};
 
@@ -35,6 +37,9 @@ pub struct SystemObserver<'a, R, A: Allocator> {
     /// The side of this end, and the name of the other end, if it is a name.
     side: Side,
     peer: Option<Name>,
+    /// Set if any system of a spool may call, and the first text of the one that does.
+    is_hub: bool,
+    hail: Hail,
     /// The bytes heard from it: the texts of its greeting, and the bytes that came last.
     hearing: Hearing,
     tail: Tail<A>,
@@ -71,6 +76,8 @@ impl<'a, R: Eprint + Clock, A: Allocator + Copy> SystemObserver<'a, R, A> {
             silences: 0,
             side: task.side,
             peer: Name::new(task.peer.as_bytes()).ok(),
+            is_hub: task.is_spool && task.peer == ANY,
+            hail: Hail::new(),
             hearing: Hearing::nothing(),
             tail: Tail::new(alloc),
         })
@@ -86,6 +93,7 @@ impl<'a, R: Eprint + Clock, A: Allocator + Copy> SystemObserver<'a, R, A> {
         self.written = 0;
         self.read = 0;
         self.silences = 0;
+        self.hail.clear();
         self.hearing = Hearing::nothing();
         self.tail.clear();
     }
@@ -110,7 +118,8 @@ impl<'a, R: Eprint + Clock, A: Allocator + Copy> SystemObserver<'a, R, A> {
             (Phase::Ended(End::BadTalk), _) => self.last(true),
             (Phase::Ended(end), Some(peer)) => {
                 let heard = self.hearing.heard();
-                heard_remark(self.alloc, self.side, end, peer.as_str(), heard)
+                let expected = if self.is_hub { "" } else { peer.as_str() };
+                heard_remark(self.alloc, self.side, end, expected, heard)
             }
             _ => Ok(String::new(self.alloc)),
         }
@@ -147,6 +156,20 @@ impl<'a, R: Eprint + Clock, A: Allocator + Copy> SystemObserver<'a, R, A> {
         self.tellers.log_end(status, line);
     }
 
+    /// Hears bytes of the greeting. If any system may call, a log gets the name of the one that does.
+    fn hear(&mut self, piece: &[u8]) {
+        self.hearing.hear(piece);
+        if !self.is_hub || self.hail.is_whole() {
+            return;
+        }
+        let _ = self.hail.push(piece);
+        if self.hail.is_whole() {
+            if let Some(name) = caller_in(self.hail.text()) {
+                self.tellers.note_caller(name);
+            }
+        }
+    }
+
     /// Observes bytes that go over the line.
     fn see(&mut self, way: Way, piece: &[u8]) {
         let Some(observer) = &mut self.observer else {
@@ -176,7 +199,7 @@ impl<R: Eprint + Clock, A: Allocator + Copy> SessionObserver for SystemObserver<
         }
         // Only packets come after the greeting.
         if matches!(self.phase, None | Some(Phase::Hail)) {
-            self.hearing.hear(piece);
+            self.hear(piece);
         }
         self.tail.hear(piece);
         self.see(Way::In, piece);

@@ -6,6 +6,7 @@ use std::time::Clock;
 use uug_follow::{Journal, News, Transfer};
 use uug_log::{SessionLog, words_of};
 use uug_session::{End, Phase, phase_word};
+use uug_talk::Name;
 use uug_transfer::SessionStatus;
 
 /// A voice on standard error, and a log, if there is one.
@@ -22,6 +23,13 @@ impl<R: Eprint + Clock, A: Allocator + Copy> Tellers<'_, R, A> {
     pub(crate) fn begin(&mut self) {
         if let Some(log) = &mut self.log {
             log.begin();
+        }
+    }
+
+    /// Notes the name that the caller gave.
+    pub(crate) fn note_caller(&mut self, name: Name) {
+        if let Some(log) = &mut self.log {
+            log.set_caller(name);
         }
     }
 
@@ -62,10 +70,11 @@ impl<R: Eprint + Clock, A: Allocator + Copy> Tellers<'_, R, A> {
     }
 }
 
-/// Returns the word of a session that ended otherwise than done.
+/// Returns the word of a session that ended otherwise than done. A caller whose system is locked is turned away in the
+/// greeting, which is logged where that is done.
 fn bad_word(phase: Phase) -> Option<&'static str> {
     match phase {
-        Phase::Ended(End::Done) => None,
+        Phase::Ended(End::Done) | Phase::Hail => None,
         phase => Some(phase_word(phase)),
     }
 }

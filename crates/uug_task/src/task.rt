@@ -79,6 +79,8 @@ pub struct CallTask<'a> {
     pub public: Option<&'a str>,
     /// The statistics of a spool, if they are named.
     pub stats: Option<&'a str>,
+    /// Set if a session in which jobs were given up counts as one that is not done.
+    pub is_fail_status: bool,
 }
 
 /// The destination of an end's report.

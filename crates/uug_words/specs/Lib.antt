@@ -2,3 +2,5 @@ pub mod Asked
 pub mod Tools
 pub mod Parts
 pub mod UsageWords
+pub mod Hints
+pub mod WaitingWords

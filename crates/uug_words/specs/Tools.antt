@@ -119,8 +119,9 @@ file_rules =
 abbrev pub end_tool : (name : Text) → (peer : Rule) → Shape
 end_tool name peer = with_arguments (with_arguments (tool name (end_rules ++ peer ∷ [])) talk_rules) file_rules
 
+-- An end that calls may be told to count a job that was given up.
 abbrev pub call_tool : Shape
-call_tool = end_tool (codes "call") (name_rule (codes "peer"))
+call_tool = with_arguments (end_tool (codes "call") (name_rule (codes "peer"))) (flag_rule (codes "fail-status") ∷ [])
 
 -- An end that is called may be told no name of the other one. It may be told how long it waits to be called, and how often.
 abbrev pub answer_tool : Shape

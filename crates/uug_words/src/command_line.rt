@@ -167,6 +167,7 @@ fn end_task<'a>(side: Side, matches: &ArgMatches<'a>) -> CallTask<'a>
         is_spool: is_given(matches, "spool"),
         public: word(matches, "public"),
         stats: word(matches, "stats"),
+        is_fail_status: is_given(matches, "fail-status"),
     }
 }
 

@@ -183,4 +183,6 @@ pub const SPOOL: &str = "DIR is a spool of Taylor UUCP, and this end is there in
 
 pub const PUBLIC: &str = "With --spool: the public folder; without it uucppublic beside DIR";
 
+pub const FAIL_STATUS: &str = "Ends with status 1 if a job was given up in the session";
+
 pub const STATS: &str = "With --spool: the file to which a line is appended for each file sent";

@@ -3,11 +3,15 @@
 
 mod command_line;
 mod help;
+mod hint;
 mod part;
 mod tools;
 mod usage;
+mod waiting;
 
 pub use command_line::{PairTask, Task, task_of};
+pub use hint::hint_words;
 pub use part::{Part, wrong_part};
 pub use tools::VERSION;
 pub use usage::{pair_remark, usage_remark};
+pub use waiting::{has_no_host, waiting_words};

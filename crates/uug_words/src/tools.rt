@@ -152,7 +152,11 @@ fn call_command<'a>(alloc: Global) -> Result<Command<'a>, AllocError>
         "Calls another system over a line, and exchanges files with it",
     )?
     .arg(end_name(alloc, "peer", help::PEER))?;
-    with_files(alloc, with_talk(alloc, command)?)
+    with_files(alloc, with_talk(alloc, command)?)?.arg(flag(
+        alloc,
+        "fail-status",
+        help::FAIL_STATUS,
+    ))
 }
 
 /// Returns the tool that is a called end at a line.

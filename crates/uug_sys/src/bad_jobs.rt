@@ -1,0 +1,18 @@
+//! What is wrong with a line of the jobs of an end.
+
+use std::alloc::Allocator;
+use std::rt::Files;
+use std::{fs, io};
+use uug_reason::jobs_remark;
+
+/// Returns what is wrong with this line of the jobs of this folder, which are read again.
+pub fn jobs_remark_at<A: Allocator + Copy, R: Files + AllocGlobal>(
+    alloc: A,
+    rt: &R,
+    dir: &str,
+    line: usize,
+) -> io::Result<String<A>> {
+    let path = format!(in alloc; "{dir}/jobs")?;
+    let text = fs::read(rt, path.as_str())?;
+    Ok(jobs_remark(alloc, dir, text.as_slice(), line)?)
+}

@@ -1,0 +1,73 @@
+//! What went wrong, in the log of an end, beside what its observer writes there.
+
+use crate::job_remark::failed_line;
+use std::alloc::Allocator;
+use std::fs::File;
+use std::rt::{Env, Files};
+use std::time::Clock;
+use uug_failure::SystemFailure;
+use uug_folder::{WhyFailed, why_failed};
+use uug_log::{LogFile, SessionLog, words_of};
+use uug_reason::reason_line;
+use uug_session::{Job, Spool};
+use uug_talk::Name;
+use uug_task::CallTask;
+
+/// Appends what went wrong to the log of an end, if it has one. What can't be written is left out.
+pub fn log_fault<A, R>(alloc: A, rt: &R, task: &CallTask<'_>, text: &str)
+where
+    A: Allocator + Copy,
+    R: Files<File = File> + Env + Clock + AllocGlobal,
+{
+    let Some(path) = task.log else {
+        return;
+    };
+    if let Ok(file) = LogFile::open(rt, path, task.is_spool) {
+        let mut log = SessionLog::new(alloc, rt, file, task.side, task.peer, task.line);
+        log.fault(text);
+    }
+}
+
+/// Appends why each of these jobs was given up that was not offered over the line: what became of the others is in the
+/// log. `large` are the names of the files in `send` that are too large to be sent.
+pub(crate) fn log_unoffered<A, R, S>(
+    alloc: A,
+    rt: &R,
+    task: &CallTask<'_>,
+    large: &[Name],
+    spool: &S,
+    jobs: &[Job],
+)
+where
+    A: Allocator + Copy,
+    R: Files<File = File> + Env + Clock + AllocGlobal,
+    S: Spool,
+{
+    for job in jobs {
+        let why = why_failed(spool, job);
+        if let WhyFailed::NoFile | WhyFailed::NotTaken = why {
+            if let Ok(line) = failed_line(alloc, task.dir, large, job, why) {
+                log_fault(alloc, rt, task, words_of(line.as_str()));
+            }
+        }
+    }
+}
+
+/// Appends why the line of an end, or its folder, has failed, if it has.
+pub(crate) fn log_failure<A, R>(
+    alloc: A,
+    rt: &R,
+    task: &CallTask<'_>,
+    failure: Option<SystemFailure>,
+)
+where
+    A: Allocator + Copy,
+    R: Files<File = File> + Env + Clock + AllocGlobal,
+{
+    let Some(failure) = failure else {
+        return;
+    };
+    if let Ok(line) = reason_line(alloc, "", task.line, task.dir, "", failure) {
+        log_fault(alloc, rt, task, words_of(line.as_str()));
+    }
+}

@@ -1,0 +1,41 @@
+-- Where an end waits to be called, in words (this project's profile).
+use Rattle.std.specs.Fmt.{decimal}
+use Rattle.std.specs.Prelude.{ℕ, Bool, false, not, List, [], ◌++◌, codes, eqb, Option, Some, None, if◌then◌else◌}
+use Rattle.std.specs.List.{list_any}
+use Rattle.std.specs.Str.{bytes_eq}
+use Rattle.uug_scan.specs.Detailed.{escaped}
+use Rattle.uug_transfer.specs.LineNames.{LineShown, behind, line_of, standard, unix, tcp, device}
+
+-- who can call a port of this host, where only this machine can
+abbrev pub reach_words : (host : List ℕ) → (port : ℕ) → List ℕ
+reach_words host port =
+    if bytes_eq host (codes "127.0.0.1")
+    then codes " (this machine only; tcp:0.0.0.0:" ++ (decimal port ++ codes " for all)") else []
+
+abbrev pub tcp_words : (host : List ℕ) → (port : ℕ) → List ℕ
+tcp_words host port = escaped host ++ (codes ":" ++ (decimal port ++ reach_words host port))
+
+-- a colon stands between the host and the port of an address
+abbrev pub has_colon : (address : List ℕ) → Bool
+has_colon address = list_any (λ b. eqb b 58) address
+
+abbrev pub is_hostless : Option (List ℕ) → Bool
+is_hostless (Some address) = not (has_colon address)
+is_hostless None = false
+
+-- a line is a port without a host
+abbrev pub has_no_host : (line : List ℕ) → Bool
+has_no_host line = is_hostless (behind (codes "tcp:") line)
+
+abbrev pub name_words : LineShown → (line : List ℕ) → List ℕ
+name_words (tcp host port) line = tcp_words host port
+name_words standard line = escaped line
+name_words (unix path) line = escaped line
+name_words (device path) line = escaped line
+
+abbrev pub words_at : Option LineShown → (line : List ℕ) → List ℕ
+words_at (Some name) line = name_words name line
+words_at None line = escaped line
+
+abbrev pub waiting_words : (line : List ℕ) → List ℕ
+waiting_words line = words_at (line_of line) line
