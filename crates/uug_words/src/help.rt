@@ -52,6 +52,8 @@ pub const PLAY: &str =
   lenient SIDE             the end refuses what it can't read, and goes on
   digest SIDE              the end tells digests of its files, and compares those
                            that it is told
+  resume SIDE              the end does so, and asks for the rest of a file that
+                           was cut off
   pass SIDE N              the next N bytes on the way to the side arrive
   drop SIDE N              they are lost
   flip SIDE HH             the bits HH of the next byte are inverted
