@@ -108,7 +108,7 @@ digests=(--no-digest)
 [ -n "$uucico" ] || fail "uucico is missing"
 chmod a+rx "$work"
 for ((i = 0; i < files; i++)); do
-    head -c $((1 << 20)) /dev/urandom >"$work/file$i"
+    head -c "${MIB:-$((1 << 20))}" /dev/urandom >"$work/file$i"
 done
 
 missed=0

@@ -4,17 +4,22 @@
 #
 #   bench/ladder.sh [PROGRAM ..]
 #
-# With other builds of the program, each is measured beside it. A time is the processor's, in seconds, the program's own
+# PROGRAM is that of the sources where none is named, which is proved and built first where that is needed; several are measured
+# in turns. A time is the processor's, in seconds, the program's own
 # and the system's on its behalf: the median of ROUNDS rounds (5) in turns. `to play` is the quotient of the medians.
 set -eu
 export LC_ALL=C
 rounds=${ROUNDS:-5}
 bench=$(dirname "$(readlink -f "$0")")
-programs=("$bench/../crates/uucpair/out/uucpair" "$@")
+programs=("$@")
+if [ $# -eq 0 ]; then
+    "$bench/../uucpair" --version >/dev/null
+    programs=("$bench/../crates/uucpair/out/uucpair")
+fi
 work=$(mktemp -d)
 trap 'rm -rf "$work"' EXIT
 
-# The script: FILES files, and so many turns that all messages go.
+# The script: so many files (FILES, 90), and so many turns that all messages go.
 make_script() {
     local i
     printf 'caller a 1 32\ncalled b 1 32\n'
@@ -38,8 +43,7 @@ median() {
     sort -g | awk '{ n[NR] = $1 } END { print (n[int((NR + 1) / 2)] + n[int(NR / 2) + 1]) / 2 }'
 }
 
-make_script 90 >"$work/script"
-"$bench/../uucpair" play </dev/null >/dev/null 2>&1 || true
+make_script "${FILES:-90}" >"$work/script"
 for ((i = 0; i < rounds; i++)); do
     for number in "${!programs[@]}"; do
         for option in alone --ladder --svg; do

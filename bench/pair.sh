@@ -4,17 +4,18 @@
 # installed, Taylor UUCP does the same: two `uucico`, joined by two pipes, with protocol g, the same packets and window.
 # Each file must come as it is, else this ends with status 1.
 #
-#   bench/pair.sh [ROUNDS]
+#   bench/pair.sh [ROUNDS [PROGRAM]]
 #
 # `cpu` is the processor's time in seconds, that of the programs and of the system on their behalf; `wall` is what goes by
 # on the clock. Each is the median of the rounds (5), in which the programs take turns; in brackets stand the least and
-# the greatest. The row `empty` has no job: it is what starting and ending takes.
+# the greatest. The row `empty` has no job: it is what starting and ending takes. PROGRAM is that of the sources where none is
+# named; it is proved and built first where that is needed.
 set -eu
 export LC_ALL=C
 rounds=${1:-5}
-mb=$((1 << 20))
+mb=${MIB:-$((1 << 20))}
 bench=$(dirname "$(readlink -f "$0")")
-uucpair=$bench/../uucpair
+uucpair=${2:-$bench/../uucpair}
 work=$(mktemp -d)
 trap 'rm -rf "$work"' EXIT
 # shellcheck source=uucico.bash
@@ -66,9 +67,9 @@ row() {
 
 chmod a+rx "$work"
 # The file that travels over noisy lines has no piece of which an end could not see that it was changed.
-"$bench/../tools/seen_bytes.py" $mb >"$work/file0"
+"$bench/../tools/seen_bytes.py" "$mb" >"$work/file0"
 for ((i = 1; i < 16; i++)); do
-    head -c $mb /dev/urandom >"$work/file$i"
+    head -c "$mb" /dev/urandom >"$work/file$i"
 done
 "$uucpair" scan </dev/null >/dev/null
 beside=yes

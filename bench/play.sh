@@ -4,7 +4,8 @@
 #
 #   bench/play.sh [PROGRAM ..]
 #
-# With other builds of the program, each is measured beside it: one run of each in turn. ROUNDS says how many (11).
+# PROGRAM is crates/uucpair/out/uucpair where none is named, which is proved and built first where that is needed; several are
+# measured in turns. ROUNDS says how many runs of each (11).
 #
 # A time is the processor's, in seconds, the program's own and the system's on its behalf. `read` is that of a script of
 # the same files with nothing on the line: what it takes to start, to read the script and to report that nothing was done.
@@ -24,9 +25,9 @@
 set -eu
 export LC_ALL=C
 rounds=${ROUNDS:-11}
-mb=$((1 << 20))
+mb=${MIB:-$((1 << 20))}
 bench=$(dirname "$(readlink -f "$0")")
-programs=("$bench/../crates/uucpair/out/uucpair" "$@")
+programs=("$@")
 work=$(mktemp -d)
 trap 'rm -rf "$work"' EXIT
 # shellcheck source=uucico.bash
@@ -191,23 +192,25 @@ settle_row() {
 
 # The user that `uucico` runs as reads what stands here.
 chmod a+rx "$work"
-head -c $mb /dev/urandom >"$work/file0"
+head -c "$mb" /dev/urandom >"$work/file0"
 gcc -O2 -Wall -Wextra -o "$work/make" "$bench/script.c"
 gcc -O2 -Wall -Wextra -o "$work/check" "$bench/check.c"
-# The launcher builds the program where it is not there yet.
-"$bench/../uucpair" play </dev/null >/dev/null 2>&1 || true
+if [ $# -eq 0 ]; then
+    "$bench/../uucpair" --version >/dev/null
+    programs=("$bench/../crates/uucpair/out/uucpair")
+fi
 
 for number in "${!programs[@]}"; do
     echo "program $number: ${programs[$number]}"
 done
 echo "line       bytes  packets   program  whole    read    rest   least    check    to C   instr"
 for size in 64 1024 4096; do
-    row clean $mb 7 $size 0
+    row clean "$mb" 7 $size 0
     row clean $((mb / 2)) 7 $size 0
 done
-row lossy $mb 7 64 50
-row lossy $mb 7 1024 50
+row lossy "$mb" 7 64 50
+row lossy "$mb" 7 1024 50
 echo
 echo "line       bytes  packets   program  whole  played  settle   least                     instr"
-settle_row $mb 7 64 50 3
-settle_row $mb 7 1024 50 6
+settle_row "$mb" 7 64 50 3
+settle_row "$mb" 7 1024 50 6

@@ -7,12 +7,16 @@
 # A time is the processor's, in seconds: the program's own (user) and the system's on its behalf (sys). It is that
 # of the best of three runs, in which the two programs take turns, so that other work on the machine does little
 # to it. The last column is the sum of the two for uucpair, divided by that for C.
+#
+#   bench/scan.sh [PROGRAM]
+#
+# PROGRAM is that of the sources where none is named; it is proved and built first where that is needed.
 set -eu
 export LC_ALL=C
 rounds=3
-mb=$((1 << 20))
+mb=${MIB:-$((1 << 20))}
 bench=$(dirname "$(readlink -f "$0")")
-uucpair=$bench/../uucpair
+uucpair=${1:-$bench/../uucpair}
 work=$(mktemp -d)
 trap 'rm -rf "$work"' EXIT
 

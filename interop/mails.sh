@@ -5,7 +5,8 @@
 # (apt-get install uucp socat), and root, since uucico runs as the user uucp. Run by hand:
 #     interop/mails.sh [PROGRAM]
 # PROGRAM is crates/uucpair/out/uucpair where none is named, and SIZES has the packet sizes (64 1024 4096). Each file has to
-# come as it is. Ends with status 1 where one does not, or where the program takes more than 1.05 times the bytes.
+# come as it is. The program sends no digests, which uucico lacks. Ends with status 1 where a file does not come, or where the
+# program takes more than 1.05 times the bytes.
 set -u
 root=$(cd "$(dirname "$0")/.." && pwd)
 . "$root/interop/common.sh"
@@ -100,7 +101,7 @@ ours_to_taylor() {
     queue_ours
     answer_as taylor
     count
-    "$program" call "unix:$work/near" "$work/ours" --me ours --peer taylor --size "$1" --window 3 >"$work/out" 2>&1 ||
+    "$program" call "unix:$work/near" "$work/ours" --me ours --peer taylor --size "$1" --window 3 --no-digest >"$work/out" 2>&1 ||
         { echo "  we call, size $1: $(cat "$work/out")"; bad=1; }
     judge "we call, size $1" ours "$work/taylor"
 }
@@ -114,7 +115,7 @@ taylor_to_ours() {
     chown -R uucp:uucp "$work/taylor"
     mkdir -p "$work"/ours/{send,got}
     : >"$work/ours/jobs"
-    "$program" answer "unix:$work/far" "$work/ours" --me ours --peer taylor --size "$1" --window 3 >"$work/out" 2>&1 &
+    "$program" answer "unix:$work/far" "$work/ours" --me ours --peer taylor --size "$1" --window 3 --no-digest >"$work/out" 2>&1 &
     answerer=$!
     started+=("$answerer")
     wait_for "$work/far"

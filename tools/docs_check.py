@@ -16,6 +16,7 @@ Of single documents:
 
     - in PROOFS, a cell below "Contract" has functions, as `CRATE::FUNCTION`, and after a colon clauses of theirs. What is in
       brackets is in the sources. The clauses rest on a definition of each file below "Rests on";
+    - PERFORMANCE has the table that bench/all.py makes of bench/results;
     - in OPERATING's limits a row has the value of each constant that it names, and a law `limits` names the constant
       where the row says *law*. In PROTOCOL a sentence has the value of each constant that it names in brackets.
 
@@ -28,6 +29,7 @@ import functools
 import glob
 import os
 import re
+import subprocess
 import sys
 
 sys.dont_write_bytecode = True
@@ -37,6 +39,7 @@ import sources
 
 ARCHITECTURE = "docs/ARCHITECTURE.md"
 OPERATING = "docs/OPERATING.md"
+PERFORMANCE = "docs/PERFORMANCE.md"
 PROOFS = "docs/PROOFS.md"
 PROTOCOL = "docs/PROTOCOL.md"
 MAN_PAGES = (".1", ".5")
@@ -366,6 +369,21 @@ def check_limits():
                 check_value(PROTOCOL, number, name, None, sentence)
 
 
+# Figures.
+
+
+def check_figures():
+    made = subprocess.run([sys.executable, "bench/all.py", "--table"], capture_output=True, text=True, check=True).stdout.splitlines()
+    here = dict(reversed([(line, number) for number, line in lines_of(PERFORMANCE)]))
+    for line in made:
+        if line not in here:
+            complain(PERFORMANCE, here[made[0]] if made[0] in here else 1, f"the table of bench/results has: {line}")
+    last = here.get(made[-1], 0)
+    for number, line in lines_of(PERFORMANCE):
+        if here.get(made[0], last) < number < last and line not in made:
+            complain(PERFORMANCE, number, "bench/results has no such row")
+
+
 # Wrong bodies.
 
 EDIT = re.compile(r"(?:.*must-fail/)?((?:specs\.)?[a-z_]+\.[a-z0-9]+_[a-z_0-9]+)(?:\.edit)?")
@@ -408,6 +426,7 @@ def main():
     check_table_of_crates()
     check_proofs()
     check_limits()
+    check_figures()
     check_comments()
     print("\n".join(complaints), end="\n" if complaints else "")
     sys.exit(1 if complaints else 0)

@@ -1,4 +1,4 @@
-//! What is wrong with a line of the jobs of an end.
+//! The fault of a line of an end's jobs.
 
 use std::alloc::Allocator;
 use std::rt::Files;

@@ -1,4 +1,4 @@
-//! What went wrong, in the log of an end, beside what its observer writes there.
+//! The lines of an end's log about faults, beside those that its observer writes.
 
 use crate::job_remark::failed_line;
 use std::alloc::Allocator;

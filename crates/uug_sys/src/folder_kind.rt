@@ -1,4 +1,4 @@
-//! What the folder of a task is: that of an end, or a spool of Taylor UUCP.
+//! The kind of a task's folder: that of an end, or a spool of Taylor UUCP.
 ghost use Rattle.std.specs.Prelude.{IfErr};
 ghost use Rattle.uug_failure.specs.Faults.{IsFolderFault};
 

@@ -1,4 +1,4 @@
-//! What to do about words that are often mistaken for those of the program.
+//! Hints about words that are often mistaken for those of the program.
 ghost use Rattle.std.specs.Prelude.{◌≡◌};
 ghost use Rattle.uug_words.specs.Hints.{front_hint, hint_words};
 

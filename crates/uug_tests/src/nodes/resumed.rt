@@ -112,7 +112,7 @@ const CUT: &[Row<'static>] = &[
     (Hear(&[InitC(2)]), &[InitC(2)]),
 ];
 
-/// What an end has, what then happens after `CUT`, and what is left.
+/// The items of an end, the rows after `CUT`, and what is left.
 type Taker<'a> = (&'a [Given<'a>], &'a [Row<'a>], &'a [Left<'a>]);
 
 const ASKS: Row<'static> = (
