@@ -449,7 +449,7 @@ mistake "nothing to queue in" 3 "${fault}none: no such file or directory" queue 
 mistake "no file to queue" 3 "${fault}can't read none"$'\n'"none: no such file or directory" queue a send none
 head -c 1048577 /dev/zero >"$work/large"
 chmod 644 "$work/large"
-mistake "a file to queue that is too large" 3 "${fault}can't read large"$'\n'"large: over the limit of 1048576 bytes" queue a send large
+mistake "a file to queue that is too large" 3 "over a limit"$'\n'"large: over the limit of 1048576 bytes" queue a send large
 
 # Two jobs with one target.
 folders

@@ -57,7 +57,7 @@ forms() {
         exit "$failed"
     ) || failed=$((failed + 1))
     row "the longest file" 0 "queued send most most me" "" "$d" send "$work/most" --user me
-    row "a file that is too long" 3 "" "can't read $work/more"$'\n'"uucpair: $work/more: over the limit of 1048576 bytes" "$d" send "$work/more"
+    row "a file that is too long" 3 "" "uucpair: over a limit"$'\n'"uucpair: $work/more: over the limit of 1048576 bytes" "$d" send "$work/more"
     row "no file" 3 "" "can't read $work/none"$'\n'"uucpair: $work/none: no such file or directory" "$d" send "$work/none"
     row "a folder" 3 "" "can't read $work/files"$'\n'"uucpair: $work/files: not a regular file" "$d" send "$work/files"
     mkfifo "$work/pipe"

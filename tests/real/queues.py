@@ -37,7 +37,7 @@ def what_queue_says(one):
         ("request with a target", ("request", "q", "r", "--user", "me"), (0, "queued request q r me\n", "")),
         ("the list", (), (0, "send x x me\nsend x.1 y me\nrequest ~/q q me\nrequest q r me\n", "")),
         ("the longest file", ("send", "most", "--user", "me"), (0, "queued send most most me\n", "")),
-        ("a longer one", ("send", "more"), cant("more", "over the limit of 1048576 bytes")),
+        ("a longer one", ("send", "more"), (3, "", said("over a limit", "more: over the limit of 1048576 bytes"))),
         ("no file", ("send", "none"), cant("none", "no such file or directory")),
         ("a folder", ("send", "files"), cant("files", "not a regular file")),
         ("a pipe", ("send", "pipe"), cant("pipe", "not a regular file")),

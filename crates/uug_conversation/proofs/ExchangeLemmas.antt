@@ -223,7 +223,7 @@ module _ (measure_of : Side → Measure) (positive : (side : Side) → 0 < (meas
   behind_exchange master slave own others (job.Send source target user temp) next ts back =
       behind_send master slave own.digests source target user temp (to_give own (fetched_by source temp))
       (others.landing source target)
-    (front_held others own.digests (fetched_by source temp) (to_give own (fetched_by source temp))) (others.verdict (others.landing source target)) (others.immovable (others.landing source target)) next ts back
+      (front_held others own.digests (fetched_by source temp) (to_give own (fetched_by source temp))) (others.verdict (others.landing source target)) (others.immovable (others.landing source target)) next ts back
   behind_exchange master slave own others (job.Request source target user) next ts back =
       behind_request master slave others.digests source target user (to_give others source) (others.delayed source)
       (own.landing source target) (own.immovable (own.landing source target)) next ts back

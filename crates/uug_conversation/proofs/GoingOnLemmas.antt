@@ -1,24 +1,23 @@
 -- A file whose session ended in its middle is sent from there on in the next.
-use Rattle.std.proofs.Common.{◌≡◌, ℕ, ◌≤◌, Bool, true, false, ◌&&◌, nat_le, List, [], ◌∷◌, length, drop, Option, Some, None, refl, sym, ap, ap₂, subst, ◌∙◌, arith}
+use Rattle.std.proofs.Common.{◌≡◌, ℕ, ◌≤◌, Bool, true, false, ◌&&◌, nat_le, List, [], ◌∷◌, length, drop, Option, Some, refl, sym, ap, ap₂, subst, ◌∙◌, arith}
 use Rattle.std.proofs.lemmas.Bool.Decides.{nat_tests}
 use Rattle.uug_digest.specs.Digests.{digest_of}
 use Rattle.uug_digest.specs.declared.file_digest.FileDigest.{FileDigest}
 use Rattle.uug_talk.specs.declared.gather.TheConstants.{FILE_MAX}
-use Rattle.uug_conversation.specs.declared.job.Job.TheVariants as job
 use Rattle.uug_conversation.specs.declared.side.Side.{Side}
 use Rattle.uug_conversation.specs.declared.verdict.Verdict.{Verdict}
 use Rattle.uug_conversation.specs.declared.verdict.Verdict.TheVariants.{Yes}
 use Rattle.uug_conversation.specs.Choice.{fetched_by}
-use Rattle.uug_conversation.specs.Exchange.{exchange, send_exchange}
+use Rattle.uug_conversation.specs.Exchange.{send_exchange}
 use Rattle.uug_conversation.specs.Holdings.{File, Holdings, to_give}
 use Rattle.uug_conversation.specs.Jobs.{Move}
 use Rattle.uug_conversation.specs.Left.{GoesOnBehind, IsLeftOf, said_of_file}
-use Rattle.uug_conversation.specs.Partial.{Key, Partial}
-use Rattle.uug_conversation.specs.Partials.{bytes_under, held_among, holding, partials_then, put}
+use Rattle.uug_conversation.specs.Partial.{Partial}
+use Rattle.uug_conversation.specs.Partials.{holding, partials_then}
 use Rattle.uug_conversation.specs.Party.{Party}
 use Rattle.uug_conversation.specs.Resuming.{front_held, front_of, front_where}
 use Rattle.uug_conversation.specs.Told.{heard, told_of}
-use Rattle.uug_conversation.specs.Turns.{Said, Turn, the_consent, the_file}
+use Rattle.uug_conversation.specs.Turns.{Turn, the_consent, the_file}
 use Rattle.uug_conversation.proofs.LimitLemmas.{given_file}
 use Rattle.uug_conversation.proofs.PartialLemmas.{put_is_held}
 use Rattle.uug_conversation.proofs.ResumingLemmas.{front_short}

@@ -122,14 +122,18 @@ send_back master slave digests source target user temp own (Some file) e m n nam
 send_back master slave digests source target user temp own (Some file) e m n name front well Yes false next rest r = (
   telling_back (order.Send source target user temp file.mode) (told_of digests (Some file)) n
       (given_mode own (fetched_by source temp) file m e) tt (told_is_sized digests file (given_fits own (fetched_by source temp) file e)),
-  (consent_back (length front) (omega (arith, front_short front file.bytes (well file refl).is_front, (well file refl).small)),
-      (rest_fits file front (well file refl), (answer_back answer.DoneYes tt, r))),
+  (
+    consent_back (length front) (omega (arith, front_short front file.bytes (well file refl).is_front, (well file refl).small)),
+    (rest_fits file front (well file refl), (answer_back answer.DoneYes tt, r)),
+  ),
 )
 send_back master slave digests source target user temp own (Some file) e m n name front well Yes true next rest r = (
   telling_back (order.Send source target user temp file.mode) (told_of digests (Some file)) n
       (given_mode own (fetched_by source temp) file m e) tt (told_is_sized digests file (given_fits own (fetched_by source temp) file e)),
-  (consent_back (length front) (omega (arith, front_short front file.bytes (well file refl).is_front, (well file refl).small)),
-      (rest_fits file front (well file refl), (answer_back answer.DoneNever tt, r))),
+  (
+    consent_back (length front) (omega (arith, front_short front file.bytes (well file refl).is_front, (well file refl).small)),
+    (rest_fits file front (well file refl), (answer_back answer.DoneNever tt, r)),
+  ),
 )
 
 request_back : (master slave : Side) (digests : Bool) (source target user : List ℕ) (others : Holdings)

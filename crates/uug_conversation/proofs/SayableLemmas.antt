@@ -124,7 +124,7 @@ module _ (h : Holdings) (modes : AreModes h) where
   taking_order : (letter : Option ℕ) (told : Option FileDigest) (read : Result Order BadText) (l : Lists) → IsRefusableSo letter →
       CanAllBeSaid (on_order h letter told read l).says
   taking_order letter told (Ok (order.Send source target user temp mode)) l w = taking_send (send_verdict h (h.landing source target) told)
-    (front_of h (fetched_by source temp) told) (fetched_by source temp) (h.landing source target) mode told l
+      (front_of h (fetched_by source temp) told) (fetched_by source temp) (h.landing source target) mode told l
   taking_order letter told (Ok (order.Request source target user)) l w = taking_request source (to_give h source) (h.delayed source) l refl
   taking_order letter told (Ok order.HangUp) l w =
       taking_hang_up (choice h l.ahead).next (moved (choice h l.ahead).failing l) (choice_has l.ahead)
@@ -210,7 +210,7 @@ module _ (h : Holdings) (modes : AreModes h) where
   taking_file : (awaited : Awaits) (bytes : List ℕ) (l : Lists) → CanAllBeSaid (on_file h awaited bytes l).says
   taking_file (awaits.SentFile source target mode told) bytes l =
       sent_file (file_verdict h target told (front_of h source told ++ bytes))
-    (record { name = target; mode = mode; bytes = front_of h source told ++ bytes }) l
+      (record { name = target; mode = mode; bytes = front_of h source told ++ bytes }) l
   taking_file (awaits.AskedFile mode told) bytes l = file_of l.ahead mode told bytes l
   taking_file awaits.DroppedSentFile bytes l = (tt, tt)
   taking_file awaits.DroppedAskedFile bytes l = going_on (moved_once fail l) (the_answer answer.DoneNever ∷ []) (tt, tt)

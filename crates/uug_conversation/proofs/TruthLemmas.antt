@@ -52,7 +52,7 @@ module _ (h : Holdings) where
   an_order : (letter : Option ℕ) (told : Option FileDigest) (read : Result Order BadText) (l : Lists) →
       IsTrue (on_order h letter told read l)
   an_order letter told (Ok (order.Send source target user temp mode)) l = send (send_verdict h (h.landing source target) told)
-    (front_of h (fetched_by source temp) told) (fetched_by source temp) (h.landing source target) mode told l
+      (front_of h (fetched_by source temp) told) (fetched_by source temp) (h.landing source target) mode told l
   an_order letter told (Ok (order.Request source target user)) l = request (to_give h source) (h.delayed source) l
   an_order letter told (Ok order.HangUp) l = hang_up (choice h l.ahead).next (moved (choice h l.ahead).failing l)
   an_order letter told (Err fault) l = unread h.lenient letter l
@@ -137,7 +137,7 @@ module _ (h : Holdings) where
   a_file : (awaited : Awaits) (bytes : List ℕ) (l : Lists) → IsTrue (on_file h awaited bytes l)
   a_file (awaits.SentFile source target mode told) bytes l =
       sent_file (file_verdict h target told (front_of h source told ++ bytes))
-    (record { name = target; mode = mode; bytes = front_of h source told ++ bytes }) l
+      (record { name = target; mode = mode; bytes = front_of h source told ++ bytes }) l
   a_file (awaits.AskedFile mode told) bytes l = file_of l.ahead mode told bytes l
   a_file awaits.DroppedSentFile bytes l = tt
   a_file awaits.DroppedAskedFile bytes l = (refl, tt)

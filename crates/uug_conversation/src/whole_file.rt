@@ -129,7 +129,11 @@ fn behind_held<A: Allocator, S: Spool>(
 }
 
 /// Joins two pieces.
-pub(crate) fn joined<A: Allocator>(front: &[u8], rest: &[u8], alloc: A) -> Result<Vec<u8, A>, AllocError>
+pub(crate) fn joined<A: Allocator>(
+    front: &[u8],
+    rest: &[u8],
+    alloc: A,
+) -> Result<Vec<u8, A>, AllocError>
     ensures { IfOk result (λ whole. whole.items ≡ front.now ++ rest.now) }
 {
     let mut whole = front.to_vec(alloc)?;

@@ -1,5 +1,5 @@
 -- What is said of lines of jobs, so that a wrong definition does not check.
-use Rattle.std.proofs.Common.{◌≡◌, [], ◌∷◌, ◌++◌, codes, Some, None, refl}
+use Rattle.std.proofs.Common.{◌≡◌, [], ◌∷◌, ◌++◌, codes, refl}
 use Rattle.std.specs.Fmt.{digits}
 use Rattle.uug_reason.specs.JobsWords.{jobs_remark}
 

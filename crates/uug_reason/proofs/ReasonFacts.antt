@@ -2,12 +2,9 @@
 use Rattle.std.proofs.Common.{◌≡◌, [], ◌∷◌, ◌++◌, codes, Some, None, refl, pos}
 use Rattle.std.specs.Fmt.{digits}
 use Rattle.std.specs.declared.io.ErrorKind.TheVariants as kinds
-use Rattle.uug_failure.specs.declared.failure.Cause.{Cause}
 use Rattle.uug_failure.specs.declared.failure.Cause.TheVariants as causes
-use Rattle.uug_failure.specs.declared.failure.EndText.TheVariants.{Jobs, Number}
-use Rattle.uug_failure.specs.declared.failure.Resource.{Resource}
+use Rattle.uug_failure.specs.declared.failure.EndText.TheVariants.{Jobs}
 use Rattle.uug_failure.specs.declared.failure.Resource.TheVariants as on
-use Rattle.uug_failure.specs.declared.failure.SystemFailure.{SystemFailure}
 use Rattle.uug_reason.specs.Reasons.{Places, places, reason_line}
 
 -- two ends over a socket

@@ -1,6 +1,6 @@
 -- What was heard of the other end where a session ended badly, in words (this project's profile).
 use Rattle.std.specs.Fmt.{decimal}
-use Rattle.std.specs.Prelude.{◌||◌, ℕ, List, [], ◌∷◌, ◌++◌, codes, if◌then◌else◌}
+use Rattle.std.specs.Prelude.{◌==◌, ◌||◌, ℕ, List, [], ◌∷◌, ◌++◌, codes, length, if◌then◌else◌}
 use Rattle.std.specs.Str.{bytes_eq}
 use Rattle.uug_conversation.specs.declared.side.Side.{Side}
 use Rattle.uug_conversation.specs.declared.side.Side.TheVariants.{Caller, Called}
@@ -24,8 +24,8 @@ shown (sounds.Text said) = text said.now
 
 -- which end was expected: one of the spool's systems where none is named
 abbrev pub expected_words : (peer : List ℕ) → List ℕ
-expected_words [] = codes ", but the spool has no folder for that system"
-expected_words (c ∷ peer) = codes ", expected " ++ quoted (c ∷ peer)
+expected_words peer =
+    if length peer == 0 then codes ", but the spool has no folder for that system" else codes ", expected " ++ quoted peer
 
 -- another end was heard than the one that was expected
 abbrev pub other_words : (said peer : List ℕ) → List ℕ

@@ -1,13 +1,12 @@
 -- Which call of the system failed, in words (this project's profile): on what, and why.
 use Rattle.std.specs.Fmt.{signed_decimal}
 use Rattle.std.specs.Prelude.{ℕ, ℤ, ◌==◌, List, [], ◌++◌, codes, Option, Some, None, if◌then◌else◌}
-use Rattle.std.specs.declared.io.ErrorKind.{ErrorKind}
 use Rattle.uug_failure.specs.declared.failure.Cause.{Cause}
 use Rattle.uug_failure.specs.declared.failure.Cause.TheVariants.{Refused, MovedNothing, TooMuch, NotAFile, NotANumber, InUse, IsSpool, NoSpool, NoStream}
 use Rattle.uug_failure.specs.declared.failure.EndText.{EndText}
 use Rattle.uug_failure.specs.declared.failure.EndText.TheVariants.{Jobs, Number, Failed}
 use Rattle.uug_failure.specs.declared.failure.Resource.{Resource}
-use Rattle.uug_failure.specs.declared.failure.Resource.TheVariants.{Input, Output, Line, Dir, Text, Send, Given, GotFolder, Got}
+use Rattle.uug_failure.specs.declared.failure.Resource.TheVariants.{Input, Output, Line, Text, Send, Given, GotFolder, Got}
 use Rattle.uug_failure.specs.declared.failure.SystemFailure.{SystemFailure}
 use Rattle.uug_reason.specs.KindWords.{kind_words}
 use Rattle.uug_scan.specs.Detailed.{escaped}

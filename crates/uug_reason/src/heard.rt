@@ -1,6 +1,6 @@
 //! The words for what was heard from the other end, if a session ended badly.
 ghost use Rattle.std.specs.Prelude.{◌≡◌, ◌++◌, IfOk, OnOk, string_bytes};
-ghost use Rattle.uug_reason.specs.HeardWords.{end_words, heard_remark, hint_words, line_with, noise_words, nothing_words, other_words, protocols_words, refusal_words, refused_words, shown};
+ghost use Rattle.uug_reason.specs.HeardWords.{end_words, expected_words, heard_remark, hint_words, line_with, noise_words, nothing_words, other_words, protocols_words, refusal_words, refused_words, shown};
 
 use crate::jobs::add_quoted;
 use std::alloc::{AllocError, Allocator};
@@ -75,6 +75,14 @@ fn add_other<A: Allocator>(text: &mut String<A>, said: &[u8], peer: &str) -> Res
 {
     text.push_str("heard ")?;
     add_quoted(text, said)?;
+    add_expected(text, peer)
+}
+
+/// Appends which end was expected: `peer`, or one that the spool knows.
+fn add_expected<A: Allocator>(text: &mut String<A>, peer: &str) -> Result<(), AllocError>
+    ensures { OnOk result
+        (string_bytes text.new ≡ string_bytes text.old ++ expected_words peer.now) }
+{
     if peer.is_empty() {
         return text.push_str(", but the spool has no folder for that system");
     }

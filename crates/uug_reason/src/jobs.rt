@@ -1,7 +1,7 @@
 //! The words for what is wrong with a line of jobs.
 ghost use Rattle.std.specs.Prelude.{◌≡◌, ◌++◌, IfOk, OnOk, Some, string_bytes, take};
 ghost use Rattle.std.specs.Option.{option_copied};
-ghost use Rattle.uug_reason.specs.JobsWords.{behind_words, jobs_line, jobs_remark, lack_words, line_at, names_words, no_name, place_words, quoted};
+ghost use Rattle.uug_reason.specs.JobsWords.{behind_words, jobs_line, jobs_remark, lack_words, line_at, names_words, no_name, place_words, quoted, words_lack};
 ghost use Rattle.uug_talk.specs.Lines.{lines};
 ghost use Rattle.uug_talk.specs.Name.{is_name};
 ghost use Rattle.uug_talk.specs.Words.{words};
@@ -100,6 +100,14 @@ fn add_lack<A: Allocator>(text: &mut String<A>, line: &[u8]) -> Result<(), Alloc
     if line.ends_with(b"\r") {
         return text.push_str("it ends in CR LF: let the lines end in LF alone");
     }
+    add_words_lack(text, line)
+}
+
+/// Appends what is wrong with the words of a line.
+fn add_words_lack<A: Allocator>(text: &mut String<A>, line: &[u8]) -> Result<(), AllocError>
+    ensures { OnOk result
+        (string_bytes text.new ≡ string_bytes text.old ++ words_lack (words line.now)) }
+{
     let Some((first, rest)) = split_word(line) else {
         return Ok(());
     };

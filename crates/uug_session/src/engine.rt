@@ -13,10 +13,10 @@ ghost use Rattle.uug_session.specs.Sending.{SaysWhatItCan};
 ghost use Rattle.uug_conversation.specs.DialogueState.{end_keeper};
 ghost use Rattle.uug_session.specs.Phases.{phase_at, timeouts_in};
 ghost use Rattle.uug_conversation.specs.DialogueValue.{dialogue_of, dialogue_has_parted};
-
 ghost use Rattle.uug_conversation.specs.Left.{left_of};
 ghost use Rattle.uug_conversation.specs.MemoryHoldings.{held_by, holdings_of};
 ghost use Rattle.uug_conversation.specs.Partials.{partials_then};
+
 use crate::end::End;
 use crate::greeting::{Greeted, Greeting, number_behind};
 use crate::greeting_text::say;
@@ -25,7 +25,7 @@ use crate::place::Place;
 use crate::stage::Stage;
 use std::alloc::{AllocError, Allocator};
 use std::marker::Model;
-use uug_conversation::{MemorySpool, Dialogue, FileFault, Queue, SAYINGS_MAX, Side, Spool};
+use uug_conversation::{Dialogue, FileFault, MemorySpool, Queue, SAYINGS_MAX, Side, Spool};
 use uug_link::{Announce, Link, LinkFault, Outbox, Outcome, TIMEOUTS_MAX, WINDOW_MAX};
 use uug_packet::Packet;
 use uug_talk::{Message, Name};

@@ -5,7 +5,7 @@ use Rattle.clap.specs.declared.error.Error.{Error}
 use Rattle.clap.specs.declared.error.kind.ErrorKind.TheVariants.{OutOfMemory}
 use Rattle.uug_stream.specs.declared.fault.ToolFault.TheVariants as faults
 use Rattle.uug_stop.specs.declared.stop.Stop.{Stop}
-use Rattle.uug_stop.specs.declared.stop.Stop.TheVariants.{Fault, Remarked, File, InUse, Number, Told, CommandLine}
+use Rattle.uug_stop.specs.declared.stop.Stop.TheVariants.{Fault, Remarked, File, InUse, Number, Limit, Told, CommandLine}
 
 -- the command line asks for no task, or there was no memory for reading it
 abbrev pub IsNoTask : Stop → Type 0
@@ -15,6 +15,7 @@ IsNoTask (Remarked fault remark) = ⊥
 IsNoTask (File name reason) = ⊥
 IsNoTask (InUse name) = ⊥
 IsNoTask (Number bad) = ⊥
+IsNoTask (Limit line) = ⊥
 IsNoTask (Told fault line) = ⊥
 
 -- how the program ends where the parser of the words gives this error

@@ -26,6 +26,7 @@ status_of_stop (Remarked fault remark) = status_of fault
 status_of_stop (File name reason) = status_of Read
 status_of_stop (stops.InUse name) = status_of Device
 status_of_stop (stops.Number bad) = status_of Usage
+status_of_stop (stops.Limit line) = status_of Device
 status_of_stop (Told fault line) = status_of fault
 status_of_stop (CommandLine error) = status_of Usage
 
@@ -38,6 +39,7 @@ HasRemark fault remark (Fault f) = ⊥
 HasRemark fault remark (File name reason) = ⊥
 HasRemark fault remark (stops.InUse name) = ⊥
 HasRemark fault remark (stops.Number bad) = ⊥
+HasRemark fault remark (stops.Limit line) = ⊥
 HasRemark fault remark (Told f line) = ⊥
 HasRemark fault remark (CommandLine error) = ⊥
 
@@ -49,6 +51,7 @@ SaysReason reason (Remarked fault remark) = ⊥
 SaysReason reason (File name line) = ⊥
 SaysReason reason (stops.InUse name) = ⊥
 SaysReason reason (stops.Number bad) = ⊥
+SaysReason reason (stops.Limit line) = ⊥
 SaysReason reason (CommandLine error) = ⊥
 
 -- the fault and this line, which may be empty
@@ -59,6 +62,7 @@ HasLine fault line (Remarked f remark) = ⊥
 HasLine fault line (File name reason) = ⊥
 HasLine fault line (stops.InUse name) = ⊥
 HasLine fault line (stops.Number bad) = ⊥
+HasLine fault line (stops.Limit line) = ⊥
 HasLine fault line (CommandLine error) = ⊥
 
 -- the fault, and no line that says why
@@ -77,8 +81,20 @@ NamesFileFor path reason (Fault fault) = fault ≡ Memory
 NamesFileFor path reason (Remarked fault remark) = ⊥
 NamesFileFor path reason (stops.InUse name) = ⊥
 NamesFileFor path reason (stops.Number bad) = ⊥
+NamesFileFor path reason (stops.Limit line) = ⊥
 NamesFileFor path reason (Told f line) = ⊥
 NamesFileFor path reason (CommandLine error) = ⊥
+
+-- this line says which limit something is over, unless there was no memory for that
+abbrev pub SaysLimit : (reason : List ℕ) → Stop → Type 0
+SaysLimit reason (stops.Limit line) = string_bytes line ≡ reason
+SaysLimit reason (Fault fault) = fault ≡ Memory
+SaysLimit reason (Remarked fault remark) = ⊥
+SaysLimit reason (File name line) = ⊥
+SaysLimit reason (stops.InUse name) = ⊥
+SaysLimit reason (stops.Number bad) = ⊥
+SaysLimit reason (Told fault line) = ⊥
+SaysLimit reason (CommandLine error) = ⊥
 
 -- the same, and why it can't be read
 abbrev pub NamesFile : (path : List ℕ) → (why : Option SystemFailure) → Stop → Type 0
@@ -108,6 +124,7 @@ SaysTooMuch (Remarked fault remark) = HasRemark Usage too_much (Remarked fault r
 SaysTooMuch (File name reason) = ⊥
 SaysTooMuch (stops.InUse name) = ⊥
 SaysTooMuch (stops.Number bad) = ⊥
+SaysTooMuch (stops.Limit line) = ⊥
 SaysTooMuch (Told f line) = ⊥
 SaysTooMuch (CommandLine error) = ⊥
 
@@ -119,6 +136,7 @@ StopsOnDrawing fault stop = SaysFault fault stop
 abbrev pub NamesFolder : (dir : List ℕ) → Stop → Type 0
 NamesFolder dir (stops.InUse name) = string_bytes name ≡ dir
 NamesFolder dir (stops.Number bad) = ⊥
+NamesFolder dir (stops.Limit line) = ⊥
 NamesFolder dir (Fault fault) = fault ≡ Memory
 NamesFolder dir (File name reason) = ⊥
 NamesFolder dir (Remarked fault remark) = ⊥
@@ -150,6 +168,7 @@ SaysUsage IsWrong (Fault fault) = fault ≡ Usage
 SaysUsage IsWrong (File name reason) = ⊥
 SaysUsage IsWrong (stops.InUse name) = ⊥
 SaysUsage IsWrong (stops.Number bad) = ⊥
+SaysUsage IsWrong (stops.Limit line) = ⊥
 SaysUsage IsWrong (Told f line) = ⊥
 SaysUsage IsWrong (CommandLine error) = ⊥
 
@@ -177,10 +196,27 @@ StopsOnEnd call why (Jobs line) remark stop = HasLine (Jobs line) remark stop
 StopsOnEnd call (Some failure) Device remark stop = StopsOnCause (places (output_of call failure.end) call.line.now call.dir.now call.locks.now) failure failure.cause stop
 StopsOnEnd call why fault remark stop = stop ≡ Fault fault
 
+abbrev pub is_much : Cause → Bool
+is_much causes.TooMuch = true
+is_much _ = false
+
+-- there is more than the program takes
+abbrev pub is_too_much : (why : Option SystemFailure) → Bool
+is_too_much (Some failure) = is_much failure.cause
+is_too_much None = false
+
+abbrev pub NamesCopiedBy : (is_too_much : Bool) → (path : List ℕ) → (why : Option SystemFailure) → Stop → Type 0
+NamesCopiedBy true path why stop = SaysLimit (why_not_read path why) stop
+NamesCopiedBy false path why stop = NamesFile path why stop
+
+-- the file that can't be copied is named, or the limit that it is over
+abbrev pub NamesCopied : (path : List ℕ) → (why : Option SystemFailure) → Stop → Type 0
+NamesCopied path why stop = NamesCopiedBy (is_too_much why) path why stop
+
 -- Of what was to be queued the file is named that can't be copied, and it is said what is wrong with the order, and on what a call
 -- of the system failed, and why, where it is known.
 abbrev pub StopsOnQueue : (dir file : List ℕ) → (why : Option SystemFailure) → ToolFault → (remark : List ℕ) → Stop → Type 0
-StopsOnQueue dir file why Read remark stop = NamesFile file why stop
+StopsOnQueue dir file why Read remark stop = NamesCopied file why stop
 StopsOnQueue dir file why Usage remark stop = HasRemark Usage remark stop
 StopsOnQueue dir file (Some failure) Device remark stop = SaysReason (reason_line (places [] [] dir dir) failure) stop
 StopsOnQueue dir file why fault remark stop = stop ≡ Fault fault

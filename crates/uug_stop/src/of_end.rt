@@ -5,7 +5,7 @@ ghost use Rattle.uug_reason.specs.Reasons.{places};
 ghost use Rattle.uug_stop.specs.Stop.{StopsOnCause, StopsOnEnd, StopsOnLoudPair, StopsOnPair, StopsOnPairBy, StopsOnQueue, held_by_another, output_of};
 ghost use Rattle.uug_stop.specs.declared.of_end.TheConstants.{LOG};
 
-use crate::said::{names_file, names_folder, says_fault, says_reason, says_usage};
+use crate::said::{names_copied, names_folder, says_fault, says_reason, says_usage};
 use crate::stop::Stop;
 use std::alloc::Global;
 use uug_failure::{Cause, Resource, SystemFailure};
@@ -164,7 +164,7 @@ pub(crate) fn stop_of_queue(
     ensures { StopsOnQueue dir.now (word_or_empty file.entry) why fault (string_bytes remark) result }
 {
     match (fault, why) {
-        (ToolFault::Read, _) => names_file(alloc, file.unwrap_or(""), why),
+        (ToolFault::Read, _) => names_copied(alloc, file.unwrap_or(""), why),
         (ToolFault::Usage, _) => Stop::Remarked(fault, remark),
         (ToolFault::Device, Some(failure)) => {
             says_reason(reason_line(alloc, "", "", dir, dir, failure))

@@ -1,10 +1,10 @@
 //! The messages of a program that ends before its task is done, if there is memory for them.
 ghost use Rattle.std.specs.Prelude.{◌≡◌, IfOk, MatchResult, string_bytes};
-ghost use Rattle.uug_stop.specs.Stop.{NamesFile, NamesFileFor, NamesFolder, SaysFault, SaysTooMuch, why_not_read};
+ghost use Rattle.uug_stop.specs.Stop.{NamesCopied, NamesFile, NamesFileFor, NamesFolder, SaysFault, SaysTooMuch, is_much, is_too_much, why_not_read};
 
 use crate::stop::Stop;
 use std::alloc::{AllocError, Global};
-use uug_failure::SystemFailure;
+use uug_failure::{Cause, SystemFailure};
 use uug_reason::reason_line;
 use uug_stream::ToolFault;
 
@@ -46,6 +46,48 @@ fn why_not_read(alloc: Global, path: &str, why: Option<SystemFailure>) -> Result
     match why {
         Some(failure) => reason_line(alloc, path, "", "", "", failure),
         None => Ok(String::new(alloc)),
+    }
+}
+
+/// Returns the limit that the file of this name is over, or else that it can't be read, and why.
+pub(crate) fn names_copied(alloc: Global, path: &str, why: Option<SystemFailure>) -> Stop
+    ensures { NamesCopied path.now why result }
+{
+    if is_too_much(why) {
+        says_limit(why_not_read(alloc, path, why))
+    } else {
+        names_file(alloc, path, why)
+    }
+}
+
+/// Returns whether a call of the system was given up because there is more than the program takes.
+fn is_too_much(why: Option<SystemFailure>) -> bool
+    ensures { result ≡ is_too_much why }
+{
+    match why {
+        Some(failure) => is_much(failure.cause),
+        None => false,
+    }
+}
+
+/// Returns whether there is more than the program takes.
+fn is_much(cause: Cause) -> bool
+    ensures { result ≡ is_much cause }
+{
+    match cause {
+        Cause::TooMuch => true,
+        _ => false,
+    }
+}
+
+/// Returns that something is over a limit, as this line says, if there was memory for it.
+fn says_limit(reason: Result<String, AllocError>) -> Stop
+    ensures { MatchResult reason (λ line. result ≡ Stop.Limit line)
+        (λ _. result ≡ Stop.Fault ToolFault.Memory) }
+{
+    match reason {
+        Ok(line) => Stop::Limit(line),
+        Err(_) => Stop::Fault(ToolFault::Memory),
     }
 }
 

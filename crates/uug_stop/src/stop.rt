@@ -27,6 +27,9 @@ pub enum Stop {
     /// A number file without a number in it.
     #[error("uucpair: {0}\n")]
     Number(BadNumber),
+    /// Something is over a limit of the program, as a line says.
+    #[error("uucpair: over a limit\n{0}")]
+    Limit(String),
     /// A fault, and where and why, if that is known and asked for.
     #[error("uucpair: {0}\n{1}")]
     Told(ToolFault, String),
@@ -43,7 +46,7 @@ impl Stop {
         match self {
             Stop::Fault(fault) | Stop::Remarked(fault, _) | Stop::Told(fault, _) => fault.status(),
             Stop::File(_, _) => ToolFault::Read.status(),
-            Stop::InUse(_) => ToolFault::Device.status(),
+            Stop::InUse(_) | Stop::Limit(_) => ToolFault::Device.status(),
             Stop::Number(_) | Stop::CommandLine(_) => ToolFault::Usage.status(),
         }
     }

@@ -99,11 +99,15 @@ fn sends_the_rest_that_is_asked_for(rt: HostRuntime) {
 }
 
 /// The command of a giver that sends the file `abc`, and announces its digest.
-const SEND_ABC: &[u8] = b"S x y u - D.0 0644 \"\" 0x00000003 sha256:ba7816bf8f01cfea414140de5dae2223b00361a396177a9cb410ff61f20015ad";
+const SEND_ABC: &[u8] =
+    b"S x y u - D.0 0644 \"\" 0x00000003 sha256:ba7816bf8f01cfea414140de5dae2223b00361a396177a9cb410ff61f20015ad";
 
 /// Takes the first two bytes of the file. Then the line is gone, and a new session begins, up to the same command.
 const CUT: &[Row<'static>] = &[
-    (Hear(&[WideCommand(1, 0, SEND_ABC)]), &[Rr(1), Command(1, 1, b"SY")]),
+    (
+        Hear(&[WideCommand(1, 0, SEND_ABC)]),
+        &[Rr(1), Command(1, 1, b"SY")],
+    ),
     (Hear(&[Wide(2, 1, b"ab")]), &[Rr(2)]),
     (CallAgain, &[Text(b"Shere=b")]),
     (Hear(&[Text(b"Sa")]), &[Text(b"ROK"), Text(b"Pg")]),
@@ -145,7 +149,10 @@ const TAKERS: &[Taker<'static>] = &[
     (
         &[Given::Digests],
         &[
-            (Hear(&[WideCommand(1, 0, SEND_ABC)]), &[Rr(1), Command(1, 1, b"SY")]),
+            (
+                Hear(&[WideCommand(1, 0, SEND_ABC)]),
+                &[Rr(1), Command(1, 1, b"SY")],
+            ),
             (Hear(&[Wide(2, 1, b"abc")]), &[Rr(2)]),
             (Hear(&[Wide(3, 1, b"")]), &[Rr(3), Command(2, 3, b"CY")]),
         ],
