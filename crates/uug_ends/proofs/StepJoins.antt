@@ -14,7 +14,7 @@ use Rattle.uug_conversation.specs.Turns.{other}
 use Rattle.uug_conversation.specs.declared.side.Side.{Side}
 use Rattle.uug_session.specs.declared.end.End.TheVariants as ends
 use Rattle.uug_session.specs.EndStep.{EndEffect, EndEvent, Emitted, Identity, Stage, hailing, linked, ended, text_found, long_text_found, packet_found_whole, broken_found, time_ran_out, line_lost, end_step, ends_so, first_link, how_it_ends, message_of, packet_came, packets, stage_step, then_closes, unmoved}
-use Rattle.uug_line.specs.Belongings.{Belongings, SetupValue}
+use Rattle.uug_line.specs.Belongings.{Belongings, SetupValue, party}
 use Rattle.uug_line.specs.LineEndState.{messages_sent, packets_in}
 use Rattle.uug_line.specs.WereSent.{HavePlaces, WereSent, passed_at}
 use Rattle.uug_line.proofs.AnswerLemmas.{taken_if, taken_message}
@@ -43,7 +43,7 @@ module _ (setup : SetupValue) (brought : AtBoth Belongings) (sound : IsSoundSess
   who = record { side = side; me = name; peer = peer }
 
   abbrev k : Keeper DialogueState
-  k = end_keeper side (at side setup).holdings
+  k = end_keeper side (party setup brought side).holdings
 
   abbrev Near : EndCourse → EndCourse → Type 0
   Near c d = Joins setup brought side c d
@@ -114,11 +114,11 @@ module _ (setup : SetupValue) (brought : AtBoth Belongings) (sound : IsSoundSess
 
   -- any event but a packet
   no_packet : (event : EndEvent) (c d : EndCourse) → IsNoPacket event → (j : Near c d) → IsLive c d j →
-      Near (course_step (at side setup).holdings who event c) d
+      Near (course_step (party setup brought side).holdings who event c) d
   no_packet event c d none j same =
       let x = end_step k who event c.state in
       let far = far_of c d j in
-      let alike = step_alike side (at side setup).holdings (seen_at setup brought side) (J far) (StandsThere far)
+      let alike = step_alike side (party setup brought side).holdings (seen_at setup brought side) (J far) (StandsThere far)
       (is_invariant setup brought sound side far) (at side setup).own name peer c.state.number
       (moment c c.state.keeper j.near_places) c.state.stage event none (live_joined c d j same) j.near_hails in
       joins_after event x c d j x.state.keeper j.near_places
@@ -148,7 +148,7 @@ module _ (setup : SetupValue) (brought : AtBoth Belongings) (sound : IsSoundSess
   taken_up failed p c d j place same on_link there =
       let x = end_step k who (packet_found_whole false p) c.state in
       let far = far_of c d j in
-      let alike = packet_step_alike side (at side setup).holdings (seen_at setup brought side) (J far) (StandsThere far)
+      let alike = packet_step_alike side (party setup brought side).holdings (seen_at setup brought side) (J far) (StandsThere far)
       (is_invariant setup brought sound side far) (at side setup).own name peer c.state.number
       (moment c c.state.keeper j.near_places) p place c.state.stage on_link there (live_joined c d j same) in
       joins_after (packet_found_whole failed p) x c d j x.state.keeper (j.near_places ++ place ∷ [])
@@ -226,7 +226,7 @@ module _ (setup : SetupValue) (brought : AtBoth Belongings) (sound : IsSoundSess
   -- by what its link answers
   linked_packet : (failed : Bool) (p : PacketValue) (c d : EndCourse) (j : Near c d) → IsLive c d j → c.state.stage ≡ linked →
       WereSent (c.found ++ p ∷ []) (packets_in d.emitted) →
-      Near (course_step (at side setup).holdings who (packet_found_whole failed p) c) d
+      Near (course_step (party setup brought side).holdings who (packet_found_whole failed p) c) d
   linked_packet failed p c d j same on_link sent =
       by (fails_or_not c.state.number k who failed (step c.state.link (packet_found p)).outcome
       (step c.state.link (packet_found p)) (message_of p) c.state.keeper)
@@ -256,7 +256,7 @@ module _ (setup : SetupValue) (brought : AtBoth Belongings) (sound : IsSoundSess
   packet_at : (failed : Bool) (p : PacketValue) (stage : Stage) (c d : EndCourse) → c.state.stage ≡ stage → (j : Near c d) →
       IsLive c d j →
       WereSent (c.found ++ packets_found stage (packet_found_whole failed p)) (packets_in d.emitted) →
-      Near (course_step (at side setup).holdings who (packet_found_whole failed p) c) d
+      Near (course_step (party setup brought side).holdings who (packet_found_whole failed p) c) d
   packet_at failed p (hailing g) c d is j same sent =
       still (packet_found_whole failed p) (end_step k who (packet_found_whole failed p) c.state) c d
       (ap (λ (s : Stage). stage_step k who s (packet_found_whole failed p) c.state) is)
@@ -269,7 +269,7 @@ module _ (setup : SetupValue) (brought : AtBoth Belongings) (sound : IsSoundSess
 
   live_event : (event : EndEvent) (c d : EndCourse) (j : Near c d) → IsLive c d j →
       WereSent (c.found ++ packets_found c.state.stage event) (packets_in d.emitted) →
-      Near (course_step (at side setup).holdings who event c) d
+      Near (course_step (party setup brought side).holdings who event c) d
   live_event (text_found text) c d j same sent = no_packet (text_found text) c d tt j same
   live_event long_text_found c d j same sent = no_packet long_text_found c d tt j same
   live_event (packet_found_whole failed p) c d j same sent = packet_at failed p c.state.stage c d refl j same sent
@@ -278,11 +278,11 @@ module _ (setup : SetupValue) (brought : AtBoth Belongings) (sound : IsSoundSess
   live_event line_lost c d j same sent = no_packet line_lost c d tt j same
 
   pub event_joins : (event : EndEvent) (c d : EndCourse) → Near c d →
-      WereSent (course_step (at side setup).holdings who event c).found (packets_in d.emitted) →
-      Near (course_step (at side setup).holdings who event c) d
+      WereSent (course_step (party setup brought side).holdings who event c).found (packets_in d.emitted) →
+      Near (course_step (party setup brought side).holdings who event c) d
   event_joins event c d j sent = by j.near_keeps
     where
-      by : Keeps setup brought side c j.near_talk → Near (course_step (at side setup).holdings who event c) d
+      by : Keeps setup brought side c j.near_talk → Near (course_step (party setup brought side).holdings who event c) d
       by (inl same) = live_event event c d j same sent
       by (inr failed) =
           still event (end_step k who event c.state) c d

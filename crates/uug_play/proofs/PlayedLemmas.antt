@@ -6,7 +6,6 @@ use Rattle.uug_line.specs.Belongings.{Belongings}
 use Rattle.uug_conversation.specs.Sides.{AtBoth}
 use Rattle.uug_conversation.specs.declared.side.Side.TheVariants.{Caller, Called}
 use Rattle.uug_conversation.specs.Holdings.{Holdings}
-use Rattle.uug_conversation.specs.MemoryHoldings.{holdings_of}
 use Rattle.uug_line.specs.OfSomeRun.{IsRunOf}
 use Rattle.uug_line.specs.Told.{SpelledEnd, SpelledReport}
 use Rattle.uug_line.specs.Spelled.{spelled}
@@ -18,7 +17,7 @@ use Rattle.uug_script.specs.ReportText.{EndResult, RunResult, report_text}
 use Rattle.uug_script.specs.Script.{ScriptSays}
 use Rattle.uug_play.specs.Numbers.{session_numbers, end_result, result_of, status_of_result}
 use Rattle.uug_play.specs.Played.{setup_said, holdings_said, IsPlayed, IsPlayedVerbosely}
-use Rattle.uug_play.specs.Reasons.{holdings_in, reasons_text}
+use Rattle.uug_play.specs.Reasons.{given_by, holdings_in, reasons_text}
 use Rattle.uug_play.specs.Settled.{IsRunOfScript}
 
 abbrev pub result_by : List SessionNumbers → EndResult → EndResult → LineVerdict → RunResult
@@ -62,8 +61,8 @@ both_holdings caller called = record { at_caller = caller; at_called = called }
 -- the spools of the report give and accept what the script says
 holdings_are : (report : WholeReport) (script : List ℕ) (run : IsRunOfScript script report) → holdings_in report.spools ≡ holdings_said run.says
 holdings_are report script run =
-    ap (λ h. both_holdings h (holdings_of report.spools.at_called)) (run.is.spools Caller)
-    ∙ ap (λ h. both_holdings (holdings_of run.says.caller.held) h) (run.is.spools Called)
+    ap (λ h. both_holdings h (given_by report.spools.at_called)) (run.is.spools Caller)
+    ∙ ap (λ h. both_holdings (given_by run.says.caller.held) h) (run.is.spools Called)
 
 -- so the reasons are of what the script says, too
 pub plays_with_reasons : (script text reasons : List ℕ) (status : ℕ) (report : WholeReport) → IsRunOfScript script report →

@@ -46,11 +46,17 @@ abbrev some_jobs : Belongings
 some_jobs = record {
   lists = record { passed = job ∷ []; ahead = job ∷ job ∷ []; struck = job ∷ []; failed = job ∷ job ∷ [] };
   kept = [];
+  partials = None;
   number = Some 7;
 }
 
 abbrev no_jobs : Belongings
-no_jobs = record { lists = record { passed = []; ahead = []; struck = []; failed = [] }; kept = stored; number = None }
+no_jobs = record {
+  lists = record { passed = []; ahead = []; struck = []; failed = [] };
+  kept = stored;
+  partials = None;
+  number = None;
+}
 
 -- however the ends stand, which is not shown
 abbrev report : AtBoth EndNow → SpelledReport

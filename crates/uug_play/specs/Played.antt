@@ -1,11 +1,11 @@
 -- What is played from a text (this project's profile).
 use Rattle.std.specs.Io.KnownBytes.{Keeps}
 use Rattle.std.specs.Prelude.{◌≡◌, ◌⊎◌, ℕ, List, [], Option, Some, Result, Ok, Err, IfSome, ⊤}
-use Rattle.uug_conversation.specs.MemoryHoldings.{holdings_of}
 use Rattle.uug_stream.specs.Streams.{Appends, AppendsFront}
 use Rattle.uug_stream.specs.declared.fault.ToolFault.{ToolFault}
 use Rattle.uug_stream.specs.declared.fault.ToolFault.TheVariants as faults
 use Rattle.uug_line.specs.Belongings.{EndSetupValue, SetupValue}
+use Rattle.uug_line.specs.Setup.{with_nothing_held}
 use Rattle.uug_line.specs.Spelled.{spelled}
 use Rattle.uug_line.specs.World.{report_of_world}
 pub use Rattle.uug_script.specs.IsScript.{IsFirstBad, IsScript}
@@ -14,15 +14,20 @@ use Rattle.uug_script.specs.Script.{EndSays, ScriptSays}
 use Rattle.uug_conversation.specs.Sides.{AtBoth}
 use Rattle.uug_conversation.specs.Holdings.{Holdings}
 use Rattle.uug_play.specs.Numbers.{result_of, status_of_result}
-use Rattle.uug_play.specs.Reasons.{reasons_text}
+use Rattle.uug_play.specs.Reasons.{given_by, reasons_text}
 
 -- an end as the script sets it up
 abbrev pub end_setup_said : EndSays → EndSetupValue
 end_setup_said e = record {
   name = e.name;
   own = e.announced;
-  holdings = holdings_of e.held;
-  belongings = record { lists = e.queue; kept = e.held.stored; number = e.number };
+  holdings = given_by e.held;
+  belongings = record {
+    lists = e.queue;
+    kept = e.held.stored;
+    partials = (with_nothing_held e.held).partials;
+    number = e.number;
+  };
 }
 
 abbrev pub setup_said : ScriptSays → SetupValue
@@ -41,7 +46,7 @@ pub record IsPlayed (script text : List ℕ) (status : ℕ) : Type 0 where
 
 -- what the spools of the two ends give and accept
 abbrev pub holdings_said : ScriptSays → AtBoth Holdings
-holdings_said s = record { at_caller = holdings_of s.caller.held; at_called = holdings_of s.called.held }
+holdings_said s = record { at_caller = given_by s.caller.held; at_called = given_by s.called.held }
 
 -- the same, and beside it why the jobs that are not done are not
 pub record IsPlayedVerbosely (script text reasons : List ℕ) (status : ℕ) : Type 0 where

@@ -14,6 +14,7 @@ use Rattle.uug_conversation.specs.Choice.{fetched_by}
 use Rattle.uug_conversation.specs.Holdings.{File, Holdings, to_give}
 use Rattle.uug_conversation.specs.Jobs.{Lists, pending}
 use Rattle.uug_conversation.specs.MemoryHoldings.{MemoryHoldings, holdings_of}
+use Rattle.uug_conversation.specs.Partials.{holding}
 use Rattle.uug_session.specs.Phases.{phase_at}
 use Rattle.uug_conversation.specs.declared.side.Side.{Side}
 use Rattle.uug_conversation.specs.declared.side.Side.TheVariants.{Caller, Called}
@@ -108,6 +109,10 @@ reasons_text r h =
     end_reasons Caller r.belongings.at_caller.lists r.ends.at_caller h.at_caller h.at_called
     ++ end_reasons Called r.belongings.at_called.lists r.ends.at_called h.at_called h.at_caller
 
--- what two spools in memory give and accept
+-- what a spool in memory gives and accepts, whatever it holds of files that were cut off
+abbrev pub given_by : MemoryHoldings → Holdings
+given_by spool = holding None (holdings_of spool)
+
+-- the same of two spools
 abbrev pub holdings_in : AtBoth MemoryHoldings → AtBoth Holdings
-holdings_in spools = record { at_caller = holdings_of spools.at_caller; at_called = holdings_of spools.at_called }
+holdings_in spools = record { at_caller = given_by spools.at_caller; at_called = given_by spools.at_called }

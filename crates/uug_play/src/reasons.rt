@@ -3,9 +3,9 @@ ghost use Rattle.std.specs.Prelude.{◌≡◌, ◌++◌, OnOk, string_bytes};
 ghost use Rattle.uug_conversation.specs.Choice.{fetched_by};
 ghost use Rattle.uug_conversation.specs.FileView.{shown_file};
 ghost use Rattle.uug_conversation.specs.Holdings.{to_give};
-ghost use Rattle.uug_conversation.specs.MemoryHoldings.{held_by, holdings_of};
+ghost use Rattle.uug_conversation.specs.MemoryHoldings.{held_by};
 ghost use Rattle.uug_line.specs.Shown.{owned_by, spool_of, stands_so};
-ghost use Rattle.uug_play.specs.Reasons.{end_reasons, failed_lines, failed_reason, failed_request, failed_send, holdings_in, pending_in, pending_lines, pending_reason, pending_send, reason_line, reason_words, reasons_text};
+ghost use Rattle.uug_play.specs.Reasons.{end_reasons, failed_lines, failed_reason, failed_request, failed_send, given_by, holdings_in, pending_in, pending_lines, pending_reason, pending_send, reason_line, reason_words, reasons_text};
 
 use std::alloc::{AllocError, Allocator};
 use uug_line::{Report, Side};
@@ -54,7 +54,7 @@ fn reason_words(reason: Reason) -> &'static str
 
 /// Returns the file of this name that may be sent, if there is one.
 fn given<'a, A: Allocator + Copy>(spool: &'a MemorySpool<A>, name: &Name) -> Option<FileView<'a>>
-    ensures { shown_file result ≡ to_give (holdings_of (held_by spool.now)) name.now }
+    ensures { shown_file result ≡ to_give (given_by (held_by spool.now)) name.now }
 {
     let file = spool.fetch(name)?;
     if file.bytes.len() <= FILE_MAX {
@@ -101,7 +101,7 @@ fn failed_reason<A: Allocator + Copy>(
     own: &MemorySpool<A>,
     other: &MemorySpool<A>,
 ) -> Reason
-    ensures { result ≡ failed_reason (holdings_of (held_by own.now)) (holdings_of (held_by other.now)) job.now }
+    ensures { result ≡ failed_reason (given_by (held_by own.now)) (given_by (held_by other.now)) job.now }
 {
     match job {
         Job::Send {
@@ -135,7 +135,7 @@ fn pending_send(verdict: Verdict, digests: bool, phase: Phase) -> Reason
 
 /// Returns the reason for which a job is pending at an end in this phase.
 fn pending_reason<A: Allocator + Copy>(job: &Job, phase: Phase, other: &MemorySpool<A>) -> Reason
-    ensures { result ≡ pending_reason phase (holdings_of (held_by other.now)) job.now }
+    ensures { result ≡ pending_reason phase (given_by (held_by other.now)) job.now }
 {
     let digests = other.tells_digests();
     match job {
@@ -168,7 +168,7 @@ fn add_failed<A: Allocator + Copy, B: Allocator>(
     other: &MemorySpool<A>,
 ) -> Result<(), AllocError>
     ensures { OnOk result (string_bytes text.new ≡ string_bytes text.old
-        ++ failed_lines side (holdings_of (held_by own.now)) (holdings_of (held_by other.now)) jobs.now) }
+        ++ failed_lines side (given_by (held_by own.now)) (given_by (held_by other.now)) jobs.now) }
 {
     for job in jobs {
         add_line(text, side, job, failed_reason(job, own, other))?;
@@ -185,7 +185,7 @@ fn add_pending<A: Allocator + Copy, B: Allocator>(
     other: &MemorySpool<A>,
 ) -> Result<(), AllocError>
     ensures { OnOk result (string_bytes text.new ≡ string_bytes text.old
-        ++ pending_lines side phase (holdings_of (held_by other.now)) jobs.now) }
+        ++ pending_lines side phase (given_by (held_by other.now)) jobs.now) }
 {
     for job in jobs {
         add_line(text, side, job, pending_reason(job, phase, other))?;
@@ -202,7 +202,7 @@ fn add_end<A: Allocator + Copy, B: Allocator>(
 ) -> Result<(), AllocError>
     ensures { OnOk result (string_bytes text.new ≡ string_bytes text.old
         ++ end_reasons side (owned_by node.now).lists (stands_so node.now)
-        (holdings_of (spool_of node.now)) (holdings_of (spool_of other.now))) }
+        (given_by (spool_of node.now)) (given_by (spool_of other.now))) }
 {
     let queue = node.queue();
     add_failed(text, side, queue.failed(), node.spool(), other.spool())?;
