@@ -108,7 +108,7 @@ impl<'a, R: Clock, A: Allocator + Copy> SessionLog<'a, R, A> {
             }
         }
         if self.is_begun {
-            let head = self.file.head(system_of(&self.caller, self.system));
+            let head = self.file.head(self.system.as_bytes());
             let line = over_line(self.alloc, &head, self.seconds(), self.bytes);
             self.file.append(line);
         }
