@@ -53,7 +53,7 @@ make_machine() {
         [ -e "$machine$library" ] || install -D "$library" "$machine$library"
     done
     mkdir "$machine/tmp/packaging"
-    cp "$root/packaging/uucico" "$machine/tmp/packaging"
+    cp -r "$root"/packaging/{uucico,uucp_site} "$machine/tmp/packaging"
     there useradd joe
 }
 
@@ -64,7 +64,7 @@ lines_of_readme() {
 }
 
 put_in_place() {
-    lines_of_readme | sed "s/beta.example:540/127.0.0.1:$port/; s/^apt-get/& -y/" >"$machine/tmp/lines"
+    lines_of_readme | sed "s/address beta.example/address 127.0.0.1\\\\nport service $port/; s/^apt-get/& -y/" >"$machine/tmp/lines"
     there env DEBIAN_FRONTEND=noninteractive bash -ec 'cd /tmp; . ./lines' || return 1
     me=$(there uuname -l)
     stand_in
@@ -127,7 +127,9 @@ what_it_says() {
 not_his() {
     printf '#!/bin/sh\nid >/tmp/his\n' >"$machine/tmp/evil"
     chmod 755 "$machine/tmp/evil"
-    echo x | there setpriv --reuid=joe --regid=joe --clear-groups env UUCPAIR_PROGRAM=/tmp/evil BASH_ENV=/tmp/evil PATH=/tmp:/usr/bin:/bin \
+    mkdir "$machine/tmp/evil.d"
+    echo 'import os; os.system("id >/tmp/his")' | tee "$machine/tmp/evil.d"/{serial,getopt}.py >"$machine/tmp/evil.d/pexpect.py"
+    echo x | there setpriv --reuid=joe --regid=joe --clear-groups env PYTHONPATH=/tmp/evil.d BASH_ENV=/tmp/evil PATH=/tmp:/usr/bin:/bin \
         uux - 'beta!rmail' '(you@beta)' || return 1
     for ((i = 0; i < 300; i++)); do
         run_uuxqt beta
@@ -148,7 +150,7 @@ called() {
 }
 
 put_back() {
-    there rm /usr/lib/uucp/uucico && there dpkg-divert --rename --remove /usr/lib/uucp/uucico &&
+    there rm -r /usr/lib/uucp/uucico /usr/lib/uucp/uucp_site && there dpkg-divert --rename --remove /usr/lib/uucp/uucico &&
         there /usr/sbin/uucico --version | grep 'Taylor UUCP'
 }
 

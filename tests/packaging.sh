@@ -32,9 +32,9 @@ make_scene() {
         echo "send from_$end from_$end $other" >"$scene/spool/$end/jobs"
     done
     cp -r "$root/packaging" "$scene/lib"
-    sed -i -e "s:/usr/bin/uucpair:$program:g" -e "s:/var/spool/uucpair:$scene/spool:g" -e "s:/var/log/uucpair:$scene/log:g" \
-        -e "s:/usr/local/lib/uucpair:$scene/lib:g" -e "s:/etc/uucpair:$scene/lib:g" -e "s:/var/lock:$scene/locks:g" \
-        -e "s/there.example:540/127.0.0.1:$port/" -e "s/0.0.0.0:540/127.0.0.1:$port/" "$scene"/lib/*
+    find "$scene/lib" -type f -exec sed -i -e "s:/usr/bin/uucpair:$program:g" -e "s:/var/spool/uucpair:$scene/spool:g" \
+        -e "s:/var/log/uucpair:$scene/log:g" -e "s:/usr/local/lib/uucpair:$scene/lib:g" -e "s:/etc/uucpair:$scene/lib:g" \
+        -e "s:/var/lock:$scene/locks:g" -e "s/there.example:540/127.0.0.1:$port/" -e "s/0.0.0.0:540/127.0.0.1:$port/" {} +
     chmod -R a+rwX "$scene"
     chmod 644 "$scene"/lib/uucpair-*
     chown -R uucp:uucp "$scene/spool"

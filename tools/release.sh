@@ -65,6 +65,7 @@ Architecture: amd64
 Maintainer: $maintainer
 Installed-Size: $(du -sk --apparent-size "$top/usr" | cut -f 1)
 Depends: libc6 (>= $(needed_libc))
+Suggests: uucp, python3-serial, python3-pexpect
 Section: comm
 Priority: optional
 Description: UUCP's g protocol: transfer, list and play sessions

@@ -1,0 +1,89 @@
+"""What of a configuration stops a call."""
+from __future__ import annotations
+
+import os
+from collections.abc import Iterator
+from dataclasses import dataclass
+
+from .configuration import Alternate, Chat, Port
+
+
+@dataclass(frozen=True)
+class Obstacle:
+    """A keyword that can't be honoured, why, and what to do."""
+
+    keyword: str
+    why: str
+    remedy: str
+    port: str | None = None
+
+    def __str__(self) -> str:
+        return f"{self.keyword}: {self.why}: {self.remedy}"
+
+
+def is_public(folders: list[str], public: str) -> bool:
+    """Returns whether the last of these folders that has the public one allows it."""
+    allowed = False
+    for word in folders:
+        folder = os.path.normpath(word.lstrip("!").replace("~", public, 1))
+        if f"{public}/".startswith(folder if folder == "/" else f"{folder}/"):
+            allowed = not word.startswith("!")
+    return allowed
+
+
+def of_chat(keyword: str, chat: Chat) -> Iterator[Obstacle]:
+    if chat.program and "\\P" in chat.program:
+        yield Obstacle(f"{keyword}-program", "\\P would show the password to each user", "use a chat script")
+
+
+def of_system(alternate: Alternate, protocols: str | None) -> Iterator[Obstacle]:
+    """Yields what stops both calls to a system and calls from it."""
+    public = os.path.normpath(alternate.public)
+    if protocols and "g" not in protocols:
+        yield Obstacle("protocol", f"{protocols} has no g", "the other end must offer g, and this line name it")
+    if alternate.counts:
+        yield Obstacle("sequence", "conversations are not counted", "write `sequence false` at both ends")
+    if not is_public(alternate.gives, public):
+        yield Obstacle(
+            "remote-send",
+            "files of the public folder are given to who asks",
+            "let it have ~, and no `send-request false` (HDB: REQUEST=yes)",
+        )
+    if not is_public(alternate.takes, public):
+        yield Obstacle("remote-receive", "files are put into the public folder", "let it have ~, and no `receive-request false`")
+    for word in alternate.takes:
+        folder = os.path.normpath(word[1:].replace("~", public, 1))
+        if word.startswith("!") and folder.startswith(f"{public}/"):
+            yield Obstacle("remote-receive", f"{word}: a folder of the public one can't be excluded", "move it elsewhere")
+
+
+def of_call(alternate: Alternate, port: Port) -> Iterator[Obstacle]:
+    """Yields what stops a call to a system at this port."""
+    yield from of_system(alternate, alternate.protocols or port.protocols)
+    yield from of_chat("chat", alternate.chat)
+    if not alternate.calls_send:
+        yield Obstacle("call-transfer", "a call moves the jobs of both ends", "write `call-transfer true`")
+    for keyword, why, remedy in of_port(port):
+        yield Obstacle(keyword, why, remedy, port.name)
+
+
+def of_port(port: Port) -> Iterator[tuple[str, str, str]]:
+    if port.seven_bit:
+        yield "seven-bit", "g needs eight bits", "write `seven-bit false` if the line has eight"
+    if port.kind not in ("tcp", "pipe", "direct", "modem", "stdin"):
+        yield "type", f"{port.kind} can't be used here", "use tcp, pipe, direct, modem or stdin"
+    for name in port.missing:
+        yield "dialer", f"there is no dialer {name}", "add it to the dial file"
+    if port.kind == "modem" and not port.dialers and not port.missing:
+        yield "dialer", f"port {port.name} has none", "name one in the port file"
+
+
+def of_answer(alternate: Alternate) -> Iterator[Obstacle]:
+    """Yields what stops a call from a system."""
+    yield from of_system(alternate, alternate.protocols)
+    if not alternate.called_send:
+        yield Obstacle(
+            "called-transfer", "a call moves the jobs of both ends", "write `called-transfer true` (HDB: SENDFILES=yes)"
+        )
+    if alternate.called_chat.script or alternate.called_chat.program:
+        yield Obstacle("called-chat", "nothing is said between greeting and protocol", "remove it")

@@ -1,0 +1,6 @@
+"""The programs that are run. A copy for a test has other paths here."""
+UUCPAIR = "/usr/bin/uucpair"
+UUCHK = "/usr/lib/uucp/uuchk"
+UUXQT = "/usr/sbin/uuxqt"
+CONFIG = "/etc/uucp/config"
+ERRORS = "/var/log/uucp/Debug"
