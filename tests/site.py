@@ -6,8 +6,8 @@
 Two nodes, alpha and beta, each with its own configuration and spool. One has packaging/uucico, the other Debian's uucico, or the
 same. Lines are TCP, commands, pseudo-terminals, and a modem that is a script. PROGRAM is crates/uucpair/out/uucpair where none is
 named; a scene is a function of this file that begins with `scene_`. It needs root, and Debian's packages uucp, socat,
-python3-serial and python3-pexpect. The last line counts the rows, and the status is 1 where one failed. CUTS (6) is how many calls of a trial are
-cut, and KEEP=1 leaves the folders.
+python3-serial and python3-pexpect. The last line counts the rows, and the status is 1 where one failed. CUTS (6) is how many
+calls of a trial are cut, and KEEP=1 leaves the folders.
 """
 from __future__ import annotations
 

@@ -436,9 +436,9 @@ where
     };
     if let Ok(1) = result {
         let failure = (*why).or(line.line().line().line().failure());
+        log_failure(alloc, rt, &*task, &failure);
         // A remark for which there is no memory is left out.
         let _ = remark_failure(alloc, remark, task.line, task.dir, failure);
-        log_failure(alloc, rt, task, failure);
     }
     (result, line.into_line().into_observer())
 }

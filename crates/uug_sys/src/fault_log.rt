@@ -58,7 +58,7 @@ pub(crate) fn log_failure<A, R>(
     alloc: A,
     rt: &R,
     task: &CallTask<'_>,
-    failure: Option<SystemFailure>,
+    failure: &Option<SystemFailure>,
 )
 where
     A: Allocator + Copy,
@@ -67,7 +67,7 @@ where
     let Some(failure) = failure else {
         return;
     };
-    if let Ok(line) = reason_line(alloc, "", task.line, task.dir, "", failure) {
+    if let Ok(line) = reason_line(alloc, "", task.line, task.dir, "", *failure) {
         log_fault(alloc, rt, task, words_of(line.as_str()));
     }
 }

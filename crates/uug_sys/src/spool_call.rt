@@ -83,7 +83,7 @@ where
             alloc, rt, task, terms, streams, None, observer, output, remark, why,
         );
     }
-    let lock = lock_telling(alloc, rt, task, station.place.peer);
+    let lock = lock_telling(alloc, rt, task, task.peer);
     call_locked(
         alloc, rt, task, terms, streams, lock, observer, output, remark, why,
     )
@@ -284,17 +284,19 @@ fn lock_telling<A, R>(
     alloc: A,
     rt: &R,
     task: &CallTask<'_>,
-    system: Name,
+    system: &str,
 ) -> Result<DeviceLock<A>, RunFault>
 where
     A: Allocator + Copy,
     R: Files<File = File> + Clock + Env + AllocGlobal,
     ensures { IfErr result IsFolderFault }
 {
-    let is_left = has_lock(alloc, rt, task.locks, system.as_str());
-    let lock = lock_system(alloc, rt, task.locks, system.as_str());
+    let is_left = has_lock(alloc, rt, task.locks, system);
+    let lock = lock_system(alloc, rt, task.locks, system);
     if is_left && lock.is_ok() {
-        tell_fault(alloc, rt, &said_of(task), system, BROKEN_OFF);
+        if let Ok(system) = Name::new(system.as_bytes()) {
+            tell_fault(alloc, rt, &said_of(task), system, BROKEN_OFF);
+        }
     }
     lock
 }
@@ -316,7 +318,7 @@ where
     ensures { IfErr result IsFolderFault }
 {
     let system = station.place.peer;
-    let lock = lock_telling(alloc, rt, task, system);
+    let lock = lock_telling(alloc, rt, task, system.as_str());
     if task.peer != ANY && is_held(&lock) {
         // If any may call it was heard already.
         let _ = meet_caller(alloc, &station.place, line, station.limits().greeting);
