@@ -1,0 +1,79 @@
+-- Which job is cancelled, what is left then, and what is said (this project's profile).
+use Rattle.std.specs.Fmt.{decimal}
+use Rattle.std.specs.Prelude.{◌≡◌, ◌⊎◌, ◌==◌, ◌-◌, ℕ, List, [], ◌∷◌, ◌++◌, codes, length, Option, Some, None, Result, Ok, Err, if◌then◌else◌, slice_get}
+use Rattle.uug_conversation.specs.declared.job.Job.{Job}
+use Rattle.uug_folder.specs.JobsText.{jobs_of, jobs_text}
+use Rattle.uug_folder.specs.NumberText.{number_in}
+use Rattle.uug_folder.specs.OpenJobs.{settled_in}
+use Rattle.uug_folder.specs.Queueing.{is_among}
+use Rattle.uug_scan.specs.Detailed.{escaped}
+use Rattle.uug_stream.specs.Streams.{Appends}
+use Rattle.uug_talk.specs.Lines.{ended}
+use Rattle.uug_pending.specs.declared.answer.Answer.{Answer}
+use Rattle.uug_pending.specs.declared.answer.Answer.TheVariants.{Cancelled, Unknown}
+
+-- ---- which
+
+-- the job of this number, counted from 1
+abbrev pub nth_job : (number : ℕ) → List Job → Option Job
+nth_job number jobs = if number == 0 then None else slice_get jobs (number - 1)
+
+-- the only one
+abbrev pub only_job : List Job → Option Job
+only_job jobs = if length jobs == 1 then nth_job 1 jobs else None
+
+-- the job of a text that says one alone
+abbrev pub said_job : Result (List Job) ℕ → Option Job
+said_job (Ok jobs) = only_job jobs
+said_job (Err line) = None
+
+-- the job, where one of the same words is among these
+abbrev pub waiting : List Job → Option Job → Option Job
+waiting jobs None = None
+waiting jobs (Some job) = if is_among job jobs then Some job else None
+
+-- by its number; a word that is none is the job's line
+abbrev pub named_by : (number : Option ℕ) (word : List ℕ) → List Job → Option Job
+named_by (Some number) word jobs = nth_job number jobs
+named_by None word jobs = waiting jobs (said_job (jobs_of word))
+
+-- the one of these jobs that a word names
+abbrev pub named_job : (word : List ℕ) → List Job → Option Job
+named_job word jobs = named_by (number_in word) word jobs
+
+-- ---- what is left
+
+-- where a store tells what stands in it: all but the job that is cancelled, which is taken out once
+abbrev pub left_of : Option Job → Option (List Job) → Option (List Job)
+left_of None stands = stands
+left_of (Some job) stands = settled_in (job ∷ []) stands
+
+-- a store is as before, or without the job that is cancelled
+abbrev pub IsLeftOrNot : Option Job → (stands stands_after : Option (List Job)) → Type 0
+IsLeftOrNot job stands stands_after = (stands_after ≡ stands) ⊎ (stands_after ≡ left_of job stands)
+
+-- ---- what is said
+
+abbrev pub cancelled_line : Job → List ℕ
+cancelled_line job = codes "cancelled " ++ jobs_text (job ∷ [])
+
+-- how one of so many is named
+abbrev pub count_words : (waiting : ℕ) → List ℕ
+count_words waiting =
+    if waiting == 0 then codes "none waits" else
+    codes "give a number from 1 to " ++ (decimal waiting ++ codes ", or a line of the list")
+
+-- a word that names none of so many jobs
+abbrev pub unknown_line : (word : List ℕ) (waiting : ℕ) → List ℕ
+unknown_line word waiting = codes "uucpair: \"" ++ (escaped word ++ (codes "\": no such job: " ++ ended (count_words waiting)))
+
+abbrev pub status_of : Answer → ℕ
+status_of (Cancelled job) = 0
+status_of (Unknown waiting) = 1
+
+-- which job was cancelled is written; that none was is said beside
+abbrev pub SaysAnswer : Answer → (word : List ℕ) (written written_after : Option (List ℕ)) (remark remark_after : List ℕ) → Type 0
+SaysAnswer (Cancelled job) word written written_after remark remark_after =
+    Appends (cancelled_line job) written written_after × (remark_after ≡ remark)
+SaysAnswer (Unknown waiting) word written written_after remark remark_after =
+    (written_after ≡ written) × (remark_after ≡ remark ++ unknown_line word waiting)
