@@ -285,6 +285,8 @@ row "an answer with a name that is none" 2 \
 row "an answer without the name of the other end" 2 \
     "${usage}the name of the other end is missing: --peer$line_feed" "" answer l a --me a </dev/null
 begins=yes row "a call without the name of the other end" 2 "error: " "" call l a --spool --me a </dev/null
+row "an order with a cancel" 2 "${usage}a job is queued or cancelled, not both$line_feed" "" queue a send x --cancel 1 </dev/null
+begins=yes row "a cancel of nothing" 2 "error: " "" queue a --cancel </dev/null
 row "a word that is no text" 2 "uucpair: bad usage$line_feed" "" $'\377' </dev/null
 begins=yes row "help" 2 "Tools for the" "" --help </dev/null
 helps "help on scan" "scan    Reads bytes"
@@ -564,6 +566,8 @@ folders "send x y u"
 by=to_a_full_disk row "why the output of a pair fails" 3 "$full" "" pair "$socket" "$a" "$b" -v </dev/null
 folders "send x y u"
 by=to_a_full_disk row "a list whose output fails" 3 "$full" "" queue "$a" </dev/null
+by=to_a_full_disk row "a cancel whose output fails" 3 "$full" "" queue "$a" --cancel 1 </dev/null
+holds "the jobs behind a cancel whose output fails" "$a/jobs" ""
 by=with_little_memory row "a script that memory does not hold" 4 "uucpair: out of memory$line_feed" "" \
     play < <(head -c 67108864 /dev/zero)
 

@@ -1,5 +1,5 @@
 #!/usr/bin/env bash
-# Jobs that are queued by `uucpair queue`: each form of it, what it refuses, and 200 jobs from 4 processes at once while
+# Jobs that are queued or cancelled by `uucpair queue`: each form of it, what it refuses, and 200 jobs from 4 processes at once while
 # sessions of `pair`, `call` and `answer` run over the same folder. Each file must come, whole and once.
 #
 #   tests/queue.sh [PROGRAM]
@@ -51,6 +51,12 @@ forms() {
     holds "jobs" "$d/jobs" $'send x x me\nsend x.1 y me\nrequest ~/q q me\nrequest ~/q r me'
     USER=u LOGNAME=l row "the user of the system" 0 "queued request q q u" "" "$d" request q
     USER='a b' LOGNAME=l row "a user that is no name" 0 "queued request q q l" "" "$d" request q
+    row "a cancel by its number" 0 "cancelled request q q l" "" "$d" --cancel 6
+    row "a cancel by its line" 0 "cancelled request q q u" "" "$d" --cancel 'request q q u'
+    row "a cancel of no job" 1 "" "\"request q q u\": no such job: give a number from 1 to 4, or a line of the list" "$d" --cancel 'request q q u'
+    row "a cancel beyond the list" 1 "" "\"5\": no such job: give a number from 1 to 4, or a line of the list" "$d" --cancel 5
+    row "a cancel with an order" 2 "" "a job is queued or cancelled, not both" "$d" send "$work/x" --cancel 1
+    row "the list then" 0 $'send x x me\nsend x.1 y me\nrequest ~/q q me\nrequest ~/q r me' "" "$d"
     (
         unset USER LOGNAME
         row "no user" 0 "queued request q q uucp" "" "$d" request q
@@ -81,6 +87,7 @@ forms() {
     printf 'send x y u\nbad\n' >"$work/e/jobs"
     row "bad jobs" 2 "" "bad jobs at line 2" "$work/e" send "$work/x"
     row "the list of bad jobs" 2 "" "bad jobs at line 2" "$work/e"
+    row "a cancel in bad jobs" 2 "" "bad jobs at line 2" "$work/e" --cancel 1
     holds "bad jobs stay" "$work/e/jobs" $'send x y u\nbad'
     for ((i = 0; i < 1024; i++)); do echo "request q q u"; done >"$work/e/jobs"
     row "a job too many" 2 "" "bad jobs at line 1025" "$work/e" send "$work/x"
@@ -89,6 +96,8 @@ forms() {
         failed=$((failed + 1))
         echo "a refused job leaves $(ls -A "$work/e/send")" >&2
     }
+    row "the last of the most jobs" 0 "cancelled request q q u" "" "$work/e" --cancel 1024
+    row "a job in its place" 0 "queued request r r me" "" "$work/e" request r --user me
     long=$(head -c 200 /dev/zero | tr '\0' n)
     : >"$work/$long"
     row "a long name" 0 "queued send $long $long me" "" "$d" send "$work/$long" --user me

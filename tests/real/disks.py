@@ -233,3 +233,22 @@ def jobs_on_a_full_disk(one):
     os.remove(ends.at("alpha", "filler"))
     one.row("when there is room", one.run(["queue", "alpha", "request", "q", "--user", "me"]).all(),
             (0, "queued request q q me\n", ""))
+
+
+@scene("root")
+def a_cancel_on_a_full_disk(one):
+    """Where the jobs that stay have no room all stay, with their copies."""
+    one.mount(one.path("alpha"), "60k")
+    ends = Ends(one)
+    write(one.path("x"), "x\n")
+    text = "# " + "x" * 4087 + "\n"
+    write(ends.at("alpha", "jobs"), text)
+    one.row("a job", one.run(["queue", "alpha", "send", "x", "--user", "me"]).out, "queued send x x me\n")
+    fill_disk(ends.at("alpha", "filler"))
+    cancelled = lambda: one.run(["queue", "alpha", "--cancel", "1"]).all()
+    one.row("a cancel", cancelled(), (3, "", said("device fault", "alpha/jobs: no space left")))
+    one.row("all is as before", (text_of(ends.at("alpha", "jobs")) == f"{text}send x x me\n", names_in(ends.at("alpha")),
+            names_in(ends.at("alpha", "send"))), (True, ["filler", "got", "jobs", "send"], [".copy.x", "x"]))
+    os.remove(ends.at("alpha", "filler"))
+    one.row("when there is room", (cancelled(), text_of(ends.at("alpha", "jobs")) == text, names_in(ends.at("alpha", "send"))),
+            ((0, "cancelled send x x me\n", ""), True, []))

@@ -1,4 +1,5 @@
-"""`queue`: what it does and says; copies, which go where their jobs go; and jobs that come while a session runs."""
+"""`queue`: what it does and says; copies, which go where their jobs go; jobs that come while a session runs; and jobs that are
+cancelled."""
 import fcntl
 import os
 import threading
@@ -303,6 +304,199 @@ def kills_of_who_queues(one):
         if ended.status == 0:
             break
     one.row("what is left", faults, [])
+
+
+def cancel(one, word, **how):
+    return one.run(["queue", "alpha", "--cancel", word], **how)
+
+
+def unknown(word, why):
+    return (1, "", said(f'"{word}": no such job: {why}'))
+
+
+IN_USE = (3, "", said("device fault", "alpha is in use"))
+
+
+@scene()
+def a_job_that_is_cancelled(one):
+    """It is named by its number or its line, and leaves the list with its copy. All else stays, in its order."""
+    ends = Ends(one)
+    one.row("without a file of jobs", cancel(one, "1").all(), unknown("1", "none waits"))
+    one.row("none is made", names_in(ends.at("alpha")), ["got", "send"])
+    for name in ("a", "b", "c"):
+        write(one.path(f"files/{name}"), f"{name}\n")
+        queue(one, "send", f"files/{name}", "--user", "me")
+    ends.give("alpha", mine="mine\n")
+    write(ends.at("alpha", "jobs"), "# first\n\nsend mine mine me\n  request  q q me\nsend ~/a again me\n# last\nrequest q q me", "ab")
+    for word, why in (("0", "1 to 7"), ("8", "1 to 7"), ("4294967296", "1 to 7"), ("send a a you", "1 to 7"), ("a", "1 to 7"),
+            ("", "1 to 7"), ("send a a me\nsend b b me", "1 to 7")):
+        shown = word.replace("\n", "\\x0a")
+        one.row(f"no such job: {shown}", cancel(one, word).all(),
+                unknown(shown, f"give a number from {why}, or a line of the list"))
+    one.row("what can't be seen is escaped", cancel(one, "\t\\").err, said(
+            '"\\x09\\x5c": no such job: give a number from 1 to 7, or a line of the list'))
+    one.row("nothing has changed", text_of(ends.at("alpha", "jobs")), "send a a me\nsend b b me\nsend c c me\n# first\n\n"
+            "send mine mine me\n  request  q q me\nsend ~/a again me\n# last\nrequest q q me")
+    one.row("by its number", cancel(one, "2").all(), (0, "cancelled send b b me\n", ""))
+    one.row("its copy goes with it", names(ends, "send"), [".copy.a", ".copy.c", "a", "c", "mine"])
+    one.row("by its line", cancel(one, " send  a a me ").all(), (0, "cancelled send a a me\n", ""))
+    one.row("a copy that another job needs stays", names(ends, "send"), [".copy.a", ".copy.c", "a", "c", "mine"])
+    one.row("of equal ones the first", cancel(one, "request q q me").all(), (0, "cancelled request q q me\n", ""))
+    one.row("all else stays", text_of(ends.at("alpha", "jobs")),
+            "send c c me\n# first\n\nsend mine mine me\nsend ~/a again me\n# last\nrequest q q me\n")
+    one.row("a file that is no copy stays", (cancel(one, "2").all(), names(ends, "send")),
+            ((0, "cancelled send mine mine me\n", ""), [".copy.a", ".copy.c", "a", "c", "mine"]))
+    one.row("the last one", cancel(one, "3").all(), (0, "cancelled request q q me\n", ""))
+    one.row("with leading zeros", cancel(one, "002").all(), (0, "cancelled send ~/a again me\n", ""))
+    one.row("the copies then", names(ends, "send"), [".copy.c", "c", "mine"])
+    caller, called = ends.talk()
+    one.row("the next session", (caller.all(), names_in(ends.at("beta", "got"))), ((0, report("caller", struck=1), ""), ["c"]))
+    one.row("the jobs then", text_of(ends.at("alpha", "jobs")), "# first\n\n# last\n")
+    one.row("none is left", cancel(one, "1").all(), unknown("1", "none waits"))
+    write(ends.at("alpha", "jobs"), "send x x me\nsend x\n")
+    ended = cancel(one, "1")
+    one.row("bad jobs", (ended.all(), text_of(ends.at("alpha", "jobs"))),
+            ((2, "", said("bad jobs at line 2")), "send x x me\nsend x\n"))
+    one.row("no folder", one.run(["queue", "none", "--cancel", "1"]).all(),
+            (3, "", said("device fault", "none: no such file or directory")))
+    one.row("with an order", one.run(["queue", "alpha", "send", "files/a", "--cancel", "1"]).all(),
+            (2, "", said("bad usage", "a job is queued or cancelled, not both")))
+
+
+@scene()
+def a_cancel_while_a_session_runs(one):
+    """A session holds its jobs: none is cancelled then, none is lost, and none is done twice."""
+    ends = Ends(one)
+    write(one.path("files/q"), "queued\n")
+    for number in range(4):
+        write(one.path(f"files/f{number}"), filler(f"f{number}", 4000))
+        queue(one, "send", f"files/f{number}", "--user", "me")
+    one.run(["queue", "beta", "send", "files/q", "--user", "me"])
+    called = ends.answer(one.line)
+    one.row("while an end waits to be called", (one.run(["queue", "beta", "--cancel", "1"]).all(), names_in(ends.at("beta", "send"))),
+            ((0, "cancelled send q q me\n", ""), []))
+    cable = Cable(one, rate=12_000)
+    caller = one.start(ends.words("call", cable.line))
+    wait_until(lambda: len(names_in(ends.at("beta", "got"))) > 1)
+    queue(one, "send", "files/q", "--user", "me")
+    one.row("at the end that calls", [cancel(one, word).all() for word in ("1", "send f3 f3 me", "send q q me", "9")], [IN_USE] * 4)
+    one.row("at the one that is called", one.run(["queue", "beta", "--cancel", "1"]).all(),
+            (3, "", said("device fault", "beta is in use")))
+    cable.rate = 10_000_000
+    one.row("the session", (caller.end().all(), called.end().all()),
+            ((0, report("caller", struck=4), ""), (0, report("called"), "")))
+    one.row("what has come", names_in(ends.at("beta", "got")), ["f0", "f1", "f2", "f3"])
+    one.row("the jobs then", text_of(ends.at("alpha", "jobs")), "send q q me\n")
+    one.row("when it is over", (cancel(one, "send q q me").all(), names(ends, "send")), ((0, "cancelled send q q me\n", ""), []))
+    # a session that is killed holds nothing any more
+    queue(one, "send", "files/q", "--user", "me")
+    called = ends.answer(one.line)
+    cable = Cable(one, rate=1_000)
+    caller = one.start(ends.words("call", cable.line))
+    wait_until(lambda: cancel(one, "9").all() == IN_USE)
+    caller.kill()
+    one.row("behind a kill", cancel(one, "1").all(), (0, "cancelled send q q me\n", ""))
+    called.stop()
+
+
+@scene()
+def many_who_cancel(one):
+    """Of four processes that cancel each line one does it; what is queued meanwhile stays."""
+    ends = Ends(one)
+    ends.jobs("alpha", *(f"request q{number} q me" for number in range(20)))
+    ended, faults = [], []
+
+    def take():
+        for number in range(20):
+            while True:
+                came = cancel(one, f"request q{number} q me")
+                if came.all() != IN_USE:
+                    break
+            ended.append((number, came.status, came.out))
+
+    def feed():
+        for number in range(20):
+            write(one.path("feed/f"), f"file {number}\n")
+            came = queue(one, "send", "feed/f", f"t{number}", "--user", "me")
+            if came.status:
+                faults.append(came.all())
+
+    threads = [threading.Thread(target=take) for _ in range(4)] + [threading.Thread(target=feed)]
+    for thread in threads:
+        thread.start()
+    for thread in threads:
+        thread.join()
+    one.row("each is cancelled once", sorted(came for came in ended if came[1] == 0),
+            [(number, 0, f"cancelled request q{number} q me\n") for number in range(20)])
+    one.row("the others hear that it is gone", sorted(came for came in ended if came[1]), [(number, 1, "") for number in range(20)
+            for _ in range(3)])
+    one.row("nothing fails", faults, [])
+    caller, called = ends.talk()
+    one.row("what was queued meanwhile", (caller.all(), names(ends, "send")), ((0, report("caller", struck=20), ""), []))
+    one.row("has come", {name: text_of(ends.at("beta", f"got/{name}")) for name in names_in(ends.at("beta", "got"))},
+            {f"t{number}": f"file {number}\n" for number in range(20)})
+
+
+@scene("strace")
+def kills_of_who_cancels(one):
+    """A kill at each change leaves the job with its copy, or neither; a copy that is left goes with the next session."""
+    changes = "openat,write,rename,unlink,unlinkat,fsync,fchown,fchmod"
+    faults, when, status = [], 0, None
+    while status != 0 and when < 80:
+        when += 1
+        ends = Ends(one)
+        write(one.path("files/x"), "x\n")
+        write(one.path("files/y"), "y\n")
+        write(ends.at("alpha", "jobs"), "")
+        queue(one, "send", "files/x", "--user", "me")
+        queue(one, "send", "files/y", "--user", "me")
+        status = cancel(one, "1", front=("strace", "-f", "-qq", "-o", "/dev/null", "-e", f"trace={changes}", "-e",
+                f"inject={changes}:signal=SIGKILL:when={when}")).status
+        jobs = text_of(ends.at("alpha", "jobs"))
+        if jobs not in ("send x x me\nsend y y me\n", "send y y me\n") or jobs.startswith("send x") and text_in(
+                ends.at("alpha", "send/x")) != "x\n":
+            faults.append((when, jobs, names(ends, "send")))
+        caller, _ = ends.talk()
+        if caller.all() != (0, report("caller", struck=jobs.count("\n")), "") or names(ends, "send"):
+            faults.append((when, caller.all(), names(ends, "send")))
+        come = names_in(ends.at("beta", "got"))
+        if come != (["x", "y"] if jobs.startswith("send x") else ["y"]):
+            faults.append((when, jobs, come))
+        for name in come:
+            os.remove(ends.at("beta", f"got/{name}"))
+    one.row("what is left", faults, [])
+    one.holds("it was killed at many points", 10 < when < 80, when)
+
+
+@scene("strace")
+def refused_calls_of_who_cancels(one):
+    """Where the system refuses a call, at each one in turn, the job is there with its copy, or gone; nothing else changes."""
+    faults, said_so = [], 0
+    for call in ("openat", "flock", "lseek", "write", "fsync", "rename", "unlink"):
+        when, ended = 0, None
+        while when < 30 and (ended is None or ended.status != 0 or when < 12):
+            when += 1
+            ends = Ends(one)
+            write(one.path("files/x"), "x\n")
+            write(ends.at("alpha", "jobs"), "# mine\n")
+            queue(one, "send", "files/x", "--user", "me")
+            queue(one, "request", "q", "--user", "me")
+            ended = cancel(one, "1", front=("strace", "-f", "-qq", "-o", "/dev/null", "-e", f"trace={call}", "-e",
+                    f"inject={call}:error=EIO:when={when}"))
+            jobs = text_of(ends.at("alpha", "jobs"))
+            said_so += ended.status == 3
+            whole, left = "# mine\nsend x x me\nrequest q q me\n", "# mine\nrequest q q me\n"
+            if jobs not in (whole, left) or jobs == whole and text_in(ends.at("alpha", "send/x")) != "x\n" or (
+                    jobs == whole) and ended.out or ended.status == 0 and jobs == whole:
+                faults.append((call, when, ended.all(), jobs, names(ends, "send")))
+            queue(one, "request", "r", "--user", "me")
+            # a copy that can't be removed stays
+            if jobs == left and call != "unlink" and cancel(one, "request r r me").status == 0 and names(ends, "send"):
+                faults.append((call, when, names(ends, "send")))
+            for name in names(ends, "send"):
+                os.remove(ends.at("alpha", f"send/{name}"))
+    one.row("what is left", faults, [])
+    one.holds("it was told", said_so > 6, said_so)
 
 
 @scene()

@@ -10,7 +10,7 @@ use Rattle.uug_failure.specs.declared.failure.SystemFailure.{SystemFailure}
 use Rattle.uug_words.specs.Asked.{Asks}
 use Rattle.uug_words.specs.Tools.{uucpair}
 use Rattle.uug_words.specs.declared.command_line.Task.{Task}
-use Rattle.uug_words.specs.declared.command_line.Task.TheVariants.{Version, Scan, ScanVerbose, Play, PlayVerbose, PlaySettled, PlayDrawn, Pair, Call, Queue}
+use Rattle.uug_words.specs.declared.command_line.Task.TheVariants.{Version, Scan, ScanVerbose, Play, PlayVerbose, PlaySettled, PlayDrawn, Pair, Call, Queue, Cancel}
 use Rattle.uug_input.specs.Inputs.{DoesOn, StaysUnread, StaysUnwritten, Streams}
 use Rattle.uug_input.specs.declared.input_task.InputTask.TheVariants as over
 use Rattle.uug_stop.specs.Refused.{IsNoTask}
@@ -40,6 +40,13 @@ pub record Queues (s : Streams) (why : Option SystemFailure) (answer : Result �
   pub named : answer ≡ Err faults.Device → IsSome why
   pub no_other : IfErr answer IsQueueFault
 
+-- `queue --cancel`: the same, and that no such job waits is a status of its own
+pub record Cancels (s : Streams) (why : Option SystemFailure) (answer : Result ℕ ToolFault) : Type 0 where
+  pub status : IfOk answer (λ status. status ≤ 1)
+  pub reads : StaysUnread s
+  pub named : answer ≡ Err faults.Device → IsSome why
+  pub no_other : IfErr answer IsQueueFault
+
 -- ---- the tasks
 
 abbrev pub Does : Task → Streams → (remark : List ℕ) → (why : Option SystemFailure) → Result ℕ ToolFault → Type 0
@@ -53,6 +60,7 @@ Does (PlayDrawn how file) s remark why answer = DoesOn (over.PlayDrawn how) file
 Does (Pair pair) s remark why answer = Pairs s why answer
 Does (Call call) s remark why answer = Pairs s why answer
 Does (Queue queue) s remark why answer = Queues s why answer
+Does (Cancel cancel) s remark why answer = Cancels s why answer
 
 -- ---- the program
 

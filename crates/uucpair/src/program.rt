@@ -17,6 +17,7 @@ use uug_conversation::Side;
 use uug_disk::queue_run;
 use uug_failure::SystemFailure;
 use uug_input::{InputTask, do_on};
+use uug_pending::cancel_run;
 use uug_port::{StandardStreams, SystemInput, SystemOutput};
 use uug_stop::{Stop, end_of, with_reason};
 use uug_stream::{Output, ToolFault, write_all};
@@ -70,6 +71,7 @@ where
         Task::Pair(pair) => return do_pair(rt, &pair, output, remark, why),
         Task::Call(call) => return do_call(rt, &call, terminals, standard, output, remark, why),
         Task::Queue(queue) => return queue_run(rt.alloc(), rt, &queue, output, remark, why),
+        Task::Cancel(cancel) => return cancel_run(rt.alloc(), rt, &cancel, output, remark, why),
     };
     do_on(rt, over, file, input, output, remark, why)
 }

@@ -14,7 +14,7 @@ use Rattle.uug_words.specs.UsageWords.{IsUsageOf, pair_words}
 use Rattle.uug_task.specs.declared.task.CallTask.{CallTask}
 use Rattle.uug_words.specs.declared.command_line.PairTask.{PairTask}
 use Rattle.uug_words.specs.declared.command_line.Task.{Task}
-use Rattle.uug_words.specs.declared.command_line.Task.TheVariants.{Scan, ScanVerbose, Play, PlayVerbose, PlaySettled, PlayDrawn, Pair, Call, Queue}
+use Rattle.uug_words.specs.declared.command_line.Task.TheVariants.{Scan, ScanVerbose, Play, PlayVerbose, PlaySettled, PlayDrawn, Pair, Call, Queue, Cancel}
 use Rattle.uug_stop.specs.declared.stop.Stop.{Stop}
 use Rattle.uug_stop.specs.declared.stop.Stop.TheVariants.{Fault, Remarked, File, Told, CommandLine}
 use Rattle.uug_stop.specs.declared.stop.Stop.TheVariants as stops
@@ -221,6 +221,13 @@ StopsOnQueue dir file why Usage remark stop = HasRemark Usage remark stop
 StopsOnQueue dir file (Some failure) Device remark stop = SaysReason (reason_line (places [] [] dir dir) failure) stop
 StopsOnQueue dir file why fault remark stop = stop ≡ Fault fault
 
+-- Of a job that was to be cancelled it is said what is wrong with the usage. The folder is named that another run holds, and it is
+-- said on what another call of the system failed, and why.
+abbrev pub StopsOnCancel : (dir : List ℕ) → (why : Option SystemFailure) → ToolFault → (remark : List ℕ) → Stop → Type 0
+StopsOnCancel dir why Usage remark stop = HasRemark Usage remark stop
+StopsOnCancel dir (Some failure) Device remark stop = StopsOnCause (places [] [] dir dir) failure failure.cause stop
+StopsOnCancel dir why fault remark stop = stop ≡ Fault fault
+
 -- `scan`, `play` and `pair` say no more than the fault where nothing more is asked for
 abbrev pub StopsAs : Task → ToolFault → (remark : List ℕ) → (why : Option SystemFailure) → Stop → Type 0
 StopsAs (Scan file) fault remark why stop = SaysFault fault stop
@@ -233,6 +240,7 @@ StopsAs (PlayDrawn how file) fault remark why stop = StopsOnDrawing fault stop
 StopsAs (Pair pair) fault remark why stop = StopsOnPair pair why fault remark stop
 StopsAs (Call call) fault remark why stop = StopsOnEnd call why fault remark stop
 StopsAs (Queue queue) fault remark why stop = StopsOnQueue queue.dir.now (word_or_empty queue.file) why fault remark stop
+StopsAs (Cancel cancel) fault remark why stop = StopsOnCancel cancel.dir.now why fault remark stop
 StopsAs task fault remark why stop = stop ≡ Fault fault
 
 -- how the program ends after a task that answered this, with this remark, where this call of the system failed

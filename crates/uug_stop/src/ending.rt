@@ -3,7 +3,7 @@ ghost use Rattle.std.specs.Prelude.{◌≡◌, IfErr, IfOk, IsErrAnd, MatchResul
 ghost use Rattle.uug_reason.specs.Reasons.{places, reason_line};
 ghost use Rattle.uug_stop.specs.Stop.{EndsSo, SaysReason, SaysStream, StopsAs, status_of_stop};
 
-use crate::of_end::{stop_of_end, stop_of_pair, stop_of_queue};
+use crate::of_end::{stop_of_cancel, stop_of_end, stop_of_pair, stop_of_queue};
 use crate::of_input::{stop_of_drawing, stop_of_file, stop_of_script, stop_of_script_file};
 use crate::said::{says_fault, says_reason};
 use crate::stop::Stop;
@@ -32,6 +32,7 @@ fn stop_of(
         Task::Pair(pair) => stop_of_pair(alloc, &pair, fault, remark, why),
         Task::Call(call) => stop_of_end(alloc, &call, fault, remark, why),
         Task::Queue(queue) => stop_of_queue(alloc, queue.dir, queue.file, fault, remark, why),
+        Task::Cancel(cancel) => stop_of_cancel(alloc, cancel.dir, fault, remark, why),
         _ => Stop::Fault(fault),
     }
 }

@@ -1,8 +1,8 @@
-//! The reasons why one end or both gave up, and why nothing was queued.
+//! The reasons why one end or both gave up, and why nothing was queued or cancelled.
 ghost use Rattle.std.specs.Prelude.{◌≡◌, [], string_bytes};
 ghost use Rattle.uug_disk.specs.Queued.{word_or_empty};
 ghost use Rattle.uug_reason.specs.Reasons.{places};
-ghost use Rattle.uug_stop.specs.Stop.{StopsOnCause, StopsOnEnd, StopsOnLoudPair, StopsOnPair, StopsOnPairBy, StopsOnQueue, held_by_another, output_of};
+ghost use Rattle.uug_stop.specs.Stop.{StopsOnCancel, StopsOnCause, StopsOnEnd, StopsOnLoudPair, StopsOnPair, StopsOnPairBy, StopsOnQueue, held_by_another, output_of};
 ghost use Rattle.uug_stop.specs.declared.of_end.TheConstants.{LOG};
 
 use crate::said::{names_copied, names_folder, says_fault, says_reason, says_usage};
@@ -169,6 +169,24 @@ pub(crate) fn stop_of_queue(
         (ToolFault::Device, Some(failure)) => {
             says_reason(reason_line(alloc, "", "", dir, dir, failure))
         }
+        (fault, _) => Stop::Fault(fault),
+    }
+}
+
+/// Returns why no job was cancelled. It says what is wrong with the usage, names the folder if another run holds it, and
+/// says on what another call of the system failed, and why, if that is known.
+pub(crate) fn stop_of_cancel(
+    alloc: Global,
+    dir: &str,
+    fault: ToolFault,
+    remark: String,
+    why: Option<SystemFailure>,
+) -> Stop
+    ensures { StopsOnCancel dir.now why fault (string_bytes remark) result }
+{
+    match (fault, why) {
+        (ToolFault::Usage, _) => Stop::Remarked(fault, remark),
+        (ToolFault::Device, Some(failure)) => stop_of_cause(alloc, "", "", dir, dir, failure),
         (fault, _) => Stop::Fault(fault),
     }
 }

@@ -215,6 +215,27 @@ queue_is_taken : takes uucpair queue_words ≡ true
 unfolding clap_on_literals
 queue_is_taken = refl
 
+queue_cancels_none : first_of (codes "cancel") (entries_of queue_words) ≡ None
+unfolding clap_on_literals
+queue_cancels_none = refl
+
+-- ---- uucpair queue dir --cancel 3
+
+abbrev cancel_words : List Text
+cancel_words = codes "uucpair" ∷ codes "queue" ∷ codes "dir" ∷ codes "--cancel" ∷ codes "3" ∷ []
+
+cancel_is_named : tool_of cancel_words ≡ Some (codes "queue")
+unfolding clap_on_literals
+cancel_is_named = refl
+
+cancel_has_job : first_of (codes "cancel") (entries_of cancel_words) ≡ Some (codes "3")
+unfolding clap_on_literals
+cancel_has_job = refl
+
+cancel_is_taken : takes uucpair cancel_words ≡ true
+unfolding clap_on_literals
+cancel_is_taken = refl
+
 -- ---- uucpair --version
 
 version_is_no_tool : takes uucpair (codes "uucpair" ∷ codes "--version" ∷ []) ≡ false

@@ -15,9 +15,10 @@ use Rattle.uug_ladder.specs.declared.play.Drawn.{Drawn}
 use Rattle.uug_ladder.specs.declared.play.Drawn.TheVariants.{AsText, AsPicture}
 use Rattle.uug_task.specs.declared.task.CallTask.{CallTask}
 use Rattle.uug_disk.specs.declared.queue.QueueTask.{QueueTask}
+use Rattle.uug_pending.specs.declared.cancel.CancelTask.{CancelTask}
 use Rattle.uug_words.specs.declared.command_line.PairTask.{PairTask}
 use Rattle.uug_words.specs.declared.command_line.Task.{Task}
-use Rattle.uug_words.specs.declared.command_line.Task.TheVariants.{Version, Scan, ScanVerbose, Play, PlayVerbose, PlaySettled, PlayDrawn, Pair, Call, Queue}
+use Rattle.uug_words.specs.declared.command_line.Task.TheVariants.{Version, Scan, ScanVerbose, Play, PlayVerbose, PlaySettled, PlayDrawn, Pair, Call, Queue, Cancel}
 
 -- ---- what stands behind the name of a tool: an entry for each argument that has a value
 
@@ -182,7 +183,15 @@ pub record IsQueueIn (entries : Entries) (task : QueueTask) : Type 0 where
 
 pub record AsksToQueue (tool : Text) (entries : Entries) (task : QueueTask) : Type 0 where
   pub queues : tool ≡ codes "queue"
+  pub none_cancelled : first_of (codes "cancel") entries ≡ None
   pub says : IsQueueIn entries task
+
+-- which job is cancelled
+pub record AsksToCancel (tool : Text) (entries : Entries) (task : CancelTask) : Type 0 where
+  pub queues : tool ≡ codes "queue"
+  pub dir : task.dir.now ≡ text_in entries (codes "DIR")
+  pub job : first_of (codes "cancel") entries ≡ Some task.job.now
+  pub order : IsWordIn entries (codes "ORDER") task.order
 
 -- ---- the words of a command line
 
@@ -202,6 +211,7 @@ AsksIn tool entries (PlayDrawn how file) = AsksToPlay tool entries (drawn how) f
 AsksIn tool entries (Pair pair) = AsksForPair tool entries pair
 AsksIn tool entries (Call call) = AsksForEnd tool entries call
 AsksIn tool entries (Queue queue) = AsksToQueue tool entries queue
+AsksIn tool entries (Cancel cancel) = AsksToCancel tool entries cancel
 
 -- the words, of which the first is the program's name, name this tool, and have these entries behind its name
 pub record AsksByTool (words : List Text) (task : Task) : Type 0 where

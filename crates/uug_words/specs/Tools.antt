@@ -131,7 +131,7 @@ answer_tool = with_arguments (end_tool (codes "answer") (word_rule (codes "peer"
 abbrev pub queue_tool : Shape
 queue_tool = tool (codes "queue")
     (path_rule (codes "DIR") ∷ optional_rule (codes "ORDER") ∷ optional_rule (codes "FILE") ∷ optional_rule (codes "TARGET")
-    ∷ word_rule (codes "user") ∷ [])
+    ∷ word_rule (codes "user") ∷ word_rule (codes "cancel") ∷ [])
 
 abbrev pub tools : List Shape
 tools = scan_tool ∷ play_tool ∷ pair_tool ∷ call_tool ∷ answer_tool ∷ queue_tool ∷ []

@@ -13,6 +13,7 @@ use std::convert::AsStr;
 use uug_conversation::Side;
 use uug_disk::QueueTask;
 use uug_ladder::Drawn;
+use uug_pending::CancelTask;
 use uug_task::CallTask;
 
 /// The default packet size of an end. A smaller one lets more of what a line changes pass the checksum.
@@ -49,6 +50,8 @@ pub enum Task<'a> {
     Call(CallTask<'a>),
     /// A job to queue, or the list of those that wait.
     Queue(QueueTask<'a>),
+    /// A job that is cancelled.
+    Cancel(CancelTask<'a>),
 }
 
 /// The task of two ends.
@@ -186,7 +189,21 @@ fn pair_task<'a>(matches: &ArgMatches<'a>) -> PairTask<'a>
 }
 
 /// Returns the task of `queue`, from the words after it.
-fn queue_task<'a>(matches: &ArgMatches<'a>) -> QueueTask<'a>
+fn queue_task<'a>(matches: &ArgMatches<'a>) -> Task<'a>
+    ensures { AsksIn (codes "queue") (entries_of matches.now) result }
+{
+    match word(matches, "cancel") {
+        Some(job) => Task::Cancel(CancelTask {
+            dir: text(matches, "DIR"),
+            job,
+            order: word(matches, "ORDER"),
+        }),
+        None => Task::Queue(order_task(matches)),
+    }
+}
+
+/// Returns the task of `queue` if no job is cancelled.
+fn order_task<'a>(matches: &ArgMatches<'a>) -> QueueTask<'a>
     ensures { IsQueueIn (entries_of matches.now) result }
 {
     let dir = text(matches, "DIR");
@@ -238,7 +255,7 @@ fn task_of_tool<'a>(tool: &str, matches: &ArgMatches<'a>) -> Task<'a>
         "pair" => Task::Pair(pair_task(matches)),
         "call" => Task::Call(end_task(Side::Caller, matches)),
         "answer" => Task::Call(end_task(Side::Called, matches)),
-        "queue" => Task::Queue(queue_task(matches)),
+        "queue" => queue_task(matches),
         _ => scan_task(matches),
     }
 }

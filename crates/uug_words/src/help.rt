@@ -134,9 +134,11 @@ pub const QUEUE: &str =
     "send copies FILE into DIR/send, under its own name or one with a number, and appends a job
 for the copy to DIR/jobs. request appends a job that asks the other end for FILE. So
 nobody has to edit jobs, and it may be done while a session runs. A line says which job
-was queued. Without an order the jobs that wait are listed, a line each.
+was queued. Without an order the jobs that wait are listed, a line each. --cancel takes
+one out of that list, with its copy, while no session runs over DIR.
 
-Status: 0 done, 2 bad usage or bad jobs, 3 a device fault, 4 out of memory
+Status: 0 done, 1 no such job waits, 2 bad usage or bad jobs, 3 a device fault, 4 out of
+memory
 
 Example:
   mkdir -p a/send && echo hello > x && uucpair queue a send x y --user me
@@ -146,6 +148,8 @@ prints
 pub const WHY: &str = "Says why it gave up, where it did";
 
 pub const USER: &str = "Who queues it; without it USER, LOGNAME or uucp";
+
+pub const CANCEL: &str = "Cancels the job of this number in the list, from 1, or of this line";
 
 pub const PEER: &str = "The name of the other end";
 

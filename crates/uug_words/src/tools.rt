@@ -252,7 +252,7 @@ fn queue_command<'a>(alloc: Global) -> Result<Command<'a>, AllocError>
     tool(
         alloc,
         "queue",
-        "Queues a job in the folder of an end, or lists those that wait",
+        "Queues a job in the folder of an end, cancels one, or lists those that wait",
         help::QUEUE,
     )
     .arg(path(alloc, "DIR", "The folder of the end"))?
@@ -271,7 +271,8 @@ fn queue_command<'a>(alloc: Global) -> Result<Command<'a>, AllocError>
         "TARGET",
         "The name that it gets where it comes; without it its own name",
     ))?
-    .arg(named(alloc, "user", "USER", help::USER))
+    .arg(named(alloc, "user", "USER", help::USER))?
+    .arg(named(alloc, "cancel", "JOB", help::CANCEL))
 }
 
 /// Returns the argument for the file that is read, if there is one.

@@ -8,4 +8,5 @@ returns c =
     let order = adds dir c.in_ok-arg-2.ensures c.optional.ensures in
     let file = adds order c.in_ok-arg-3.ensures c.optional-2.ensures in
     let target = adds file c.in_ok-arg-4.ensures c.optional-3.ensures in
-    IfOk-weaker c.arg-5.result _ _ (λ made step. adds target step c.named.ensures) c.arg-5.ensures
+    let user = adds target c.in_ok-arg-5.ensures c.named.ensures in
+    IfOk-weaker c.arg-6.result _ _ (λ made step. adds user step c.named-2.ensures) c.arg-6.ensures
