@@ -62,7 +62,7 @@ HasLine fault line (Remarked f remark) = ⊥
 HasLine fault line (File name reason) = ⊥
 HasLine fault line (stops.InUse name) = ⊥
 HasLine fault line (stops.Number bad) = ⊥
-HasLine fault line (stops.Limit line) = ⊥
+HasLine fault line (stops.Limit limit) = ⊥
 HasLine fault line (CommandLine error) = ⊥
 
 -- the fault, and no line that says why

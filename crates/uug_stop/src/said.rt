@@ -53,7 +53,7 @@ fn why_not_read(alloc: Global, path: &str, why: Option<SystemFailure>) -> Result
 pub(crate) fn names_copied(alloc: Global, path: &str, why: Option<SystemFailure>) -> Stop
     ensures { NamesCopied path.now why result }
 {
-    if is_too_much(why) {
+    if is_too_much(&why) {
         says_limit(why_not_read(alloc, path, why))
     } else {
         names_file(alloc, path, why)
@@ -61,8 +61,8 @@ pub(crate) fn names_copied(alloc: Global, path: &str, why: Option<SystemFailure>
 }
 
 /// Returns whether a call of the system was given up because there is more than the program takes.
-fn is_too_much(why: Option<SystemFailure>) -> bool
-    ensures { result ≡ is_too_much why }
+fn is_too_much(why: &Option<SystemFailure>) -> bool
+    ensures { result ≡ is_too_much why.now }
 {
     match why {
         Some(failure) => is_much(failure.cause),
