@@ -367,38 +367,40 @@ row "a pair that can't keep" 1 "" \
     "caller peerclosed pending 1 struck 0 failed 0${line_feed}called spoolfault pending 0 struck 0 failed 0$line_feed" \
     pair "$socket" "$a" "$b" </dev/null
 holds "the job that is left" "$a/jobs" "send x y u$line_feed"
+spool=$work/spool
+mkdir "$spool"
 row "a spool that is not there" 3 \
-    "uucpair: device fault${line_feed}uucpair: $a/none: no such file or directory$line_feed" "" \
-    call unix:"$socket" "$a/none" --spool --me a --peer b --locks "$a" </dev/null
+    "uucpair: device fault${line_feed}uucpair: $spool/none: no such file or directory$line_feed" "" \
+    call unix:"$socket" "$spool/none" --spool --me a --peer b --locks "$spool" </dev/null
 row "a spool whose line is not there" 3 \
     "uucpair: device fault${line_feed}uucpair: unix:$socket: no such file or directory$line_feed" "" \
-    call unix:"$socket" "$a" --spool --me a --peer b --locks "$a" </dev/null
+    call unix:"$socket" "$spool" --spool --me a --peer b --locks "$spool" </dev/null
 fault=
-grep -qx '2 1 [0-9]* 600 Dial failed b' "$a/.Status/b" || fault="the status is $(cat "$a/.Status/b")"
+grep -qx '2 1 [0-9]* 600 Dial failed b' "$spool/.Status/b" || fault="the status is $(cat "$spool/.Status/b")"
 report "the status of a call that nobody answered" "$fault"
-printf '%10d\n' $$ >"$a/LCK..b"
-cp "$a/.Status/b" "$work/status"
-row "a spool whose other system is locked" 1 "uucpair: system b is locked by $a/LCK..b$line_feed" "" \
-    call unix:"$socket" "$a" --spool --me a --peer b --locks "$a" </dev/null
-holds "the status of a system that is locked" "$a/.Status/b" "$(cat "$work/status")$line_feed"
+printf '%10d\n' $$ >"$spool/LCK..b"
+cp "$spool/.Status/b" "$work/status"
+row "a spool whose other system is locked" 1 "uucpair: system b is locked by $spool/LCK..b$line_feed" "" \
+    call unix:"$socket" "$spool" --spool --me a --peer b --locks "$spool" </dev/null
+holds "the status of a system that is locked" "$spool/.Status/b" "$(cat "$work/status")$line_feed"
 row "a spool whose folder of locks is a file" 3 \
-    "uucpair: device fault${line_feed}uucpair: $a/LCK..b: not a directory$line_feed" "" \
-    call unix:"$socket" "$a" --spool --me a --peer b --locks "$a/LCK..b" </dev/null
+    "uucpair: device fault${line_feed}uucpair: $spool/LCK..b: not a directory$line_feed" "" \
+    call unix:"$socket" "$spool" --spool --me a --peer b --locks "$spool/LCK..b" </dev/null
 row "a spool whose folder of locks is not there" 3 \
-    "uucpair: device fault${line_feed}uucpair: $a/none: no such file or directory$line_feed" "" \
-    call unix:"$socket" "$a" --spool --me a --peer b --locks "$a/none" </dev/null
+    "uucpair: device fault${line_feed}uucpair: $spool/none: no such file or directory$line_feed" "" \
+    call unix:"$socket" "$spool" --spool --me a --peer b --locks "$spool/none" </dev/null
 # hears NAME WORDS [OPTION]..: what a caller `b` hears of an end over a spool
 hears() {
     local name=$1 words=$2 heard
     shift 2
-    heard=$(printf '\020Sb\0' | "$program" answer - "$a" --spool --me a --timeout 1 --locks "$a" --report "$work/report" "$@" 2>/dev/null | tr '\020\0' '<>') || true
+    heard=$(printf '\020Sb\0' | "$program" answer - "$spool" --spool --me a --timeout 1 --locks "$spool" --report "$work/report" "$@" 2>/dev/null | tr '\020\0' '<>') || true
     report "$name" "$([ "$heard" = "$words" ] || echo "heard: $heard")"
 }
-mkdir -p "$a/b"
+mkdir -p "$spool/b"
 hears "a caller of a hub whose system is locked" "<Shere=a><RLCK>"
 hears "a caller of an end whose system is locked" "<Shere=a><RLCK>" --peer b
-rm "$a/LCK..b"
-rm -r "$a/b"
+rm "$spool/LCK..b"
+rm -r "$spool/b"
 hears "a caller of a hub that knows no such system" "<Shere=a><RYou are unknown to me>"
 folders "send x y"
 row "a pair with a bad job" 2 "uucpair: bad jobs at line 1$line_feed" "" pair "$socket" "$a" "$b" </dev/null
