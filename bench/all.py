@@ -11,7 +11,7 @@ script runs once, on little, to see that it works: FOLDER must be another then. 
 leaves out figures that are not there. Ends with status 1 where a script printed no row; one that prints rows but ends badly has
 missed an aim of its own, or a file did not come, which is printed.
 
-`bytes.sh` and `changes.py` are left out: their figures are computed.
+`bytes.sh`, `changes.py` and `cut_line.py` are left out: their figures are computed.
 """
 import argparse
 import csv
