@@ -1,4 +1,4 @@
--- What is held under a key is what was put there, and nothing that is done with another key changes it.
+-- Shows that what is held under a key is what was put there, and that nothing done with another key changes it.
 use Rattle.std.proofs.Common.{◌≡◌, Bool, true, false, List, [], ◌∷◌, ◌++◌, filter, not, bytes_eq, if◌then◌else◌, refl, ap, ap₂, ◌∙◌}
 use Rattle.std.proofs.lemmas.Bool.Decides.{Decides-and, Decides-like}
 use Rattle.std.specs.Bool.{Decides}

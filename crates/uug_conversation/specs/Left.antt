@@ -1,4 +1,4 @@
--- What is left of a file whose session ends in its middle (this project's profile).
+-- Defines the part that is left of a file whose session ends in its middle (this project's profile).
 use Rattle.std.specs.Prelude.{◌≡◌, ℕ, List, [], ◌∷◌, ◌++◌, length, drop, Contains, Option, Some, None}
 use Rattle.uug_conversation.specs.declared.awaits.Awaits.{Awaits}
 use Rattle.uug_conversation.specs.declared.awaits.Awaits.TheVariants as awaits

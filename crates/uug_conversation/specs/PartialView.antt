@@ -1,4 +1,4 @@
--- How the program keeps what an end holds of files that were cut off.
+-- Reads the program's value of an end's partial files.
 use Rattle.std.specs.Prelude.{ℕ, List, map}
 use Rattle.uug_digest.specs.declared.file_digest.FileDigest.{FileDigest}
 use Rattle.uug_conversation.specs.declared.partial_file.PartialFile.{PartialFile}

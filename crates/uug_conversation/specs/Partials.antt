@@ -1,5 +1,5 @@
--- What an end holds of files that were cut off, of each name and digest one (this project's profile): what an end holds that resumes, and
--- none where it does not.
+-- Defines the files that were cut off and that an end holds, of each name and digest one; an end that doesn't resume has
+-- none (this project's profile).
 use Rattle.std.specs.Prelude.{ℕ, Bool, ◌&&◌, List, [], ◌∷◌, ◌++◌, filter, not, Option, Some, None, if◌then◌else◌}
 use Rattle.std.specs.Str.{bytes_eq}
 use Rattle.uug_digest.specs.declared.file_digest.FileDigest.{FileDigest}

@@ -1,4 +1,4 @@
--- What the program's set-up of two ends says. A run begins with nothing held of files of earlier sessions.
+-- Reads the program's set-up of two ends. A run begins with nothing held of files of earlier sessions.
 use Rattle.std.specs.Prelude.{None}
 use Rattle.uug_link.specs.Announced.{announced}
 use Rattle.uug_conversation.specs.MemoryHoldings.{MemoryHoldings, held_by, holdings_of}

@@ -1,4 +1,4 @@
--- What becomes of a store from which one job is taken, of which nothing is told.
+-- Shows the store from which one job was taken, of which nothing is told.
 use Rattle.std.proofs.Common.{◌≡◌, ◌++◌, inl, inr, ℕ, List, [], ◌∷◌, Option, Some, None, Result, Ok, Err, refl, ap, ◌∙◌}
 use Rattle.std.proofs.lemmas.List.{append-nil}
 use Rattle.std.specs.Prelude.{OnErr, OnOk}

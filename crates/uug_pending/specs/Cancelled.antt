@@ -1,4 +1,4 @@
--- Which job is cancelled, what is left then, and what is said (this project's profile).
+-- Defines the job that is cancelled, the jobs that are left, and the answer (this project's profile).
 use Rattle.std.specs.Fmt.{decimal}
 use Rattle.std.specs.Prelude.{◌≡◌, ◌⊎◌, ◌==◌, ◌-◌, ℕ, List, [], ◌∷◌, ◌++◌, codes, length, Option, Some, None, Result, Ok, Err, if◌then◌else◌, slice_get}
 use Rattle.uug_conversation.specs.declared.job.Job.{Job}

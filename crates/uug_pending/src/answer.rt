@@ -1,4 +1,4 @@
-//! What a person is told who cancels a job.
+//! Answers a person who cancels a job.
 ghost use Rattle.std.specs.Prelude.{◌≡◌, ◌≤◌, IfErr, IfOk, OnOk, string_bytes};
 ghost use Rattle.uug_failure.specs.Faults.{IsQueueFault};
 ghost use Rattle.uug_pending.specs.Cancelled.{SaysAnswer, status_of};
@@ -8,7 +8,7 @@ use std::alloc::Allocator;
 use uug_session::Job;
 use uug_stream::{Output, ToolFault, write_all};
 
-/// What came of a word that names a job.
+/// Says whether a word named a job, and which.
 #[derive(Clone, Copy)]
 pub(crate) enum Answer {
     /// This job was cancelled.

@@ -1,4 +1,4 @@
--- Which faults of a session leave the next ones be, of several of one end (this project's profile).
+-- Defines the faults of a session after which an end goes on with the next (this project's profile).
 use Rattle.std.specs.Prelude.{◌==◌, Bool, true, false, Option, Some, None, if◌then◌else◌}
 use Rattle.uug_failure.specs.declared.failure.SystemFailure.{SystemFailure}
 use Rattle.uug_failure.specs.declared.failure.Resource.{Resource}

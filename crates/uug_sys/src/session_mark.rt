@@ -9,7 +9,7 @@ use std::rt::{Env, Files};
 use std::time::Clock;
 use uug_task::CallTask;
 
-/// What the log says of a session that a signal ended, or a power cut.
+/// Says in the log that a signal or a power cut ended the last session.
 pub(crate) const BROKEN_OFF: &str = "the last session was broken off";
 
 /// Marks that a session begins, if the end has a log. If the mark of the last one is still there the log says so.

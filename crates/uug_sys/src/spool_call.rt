@@ -37,7 +37,7 @@ use uug_transfer::{EndLine, GreetedLine, LineMonitor, SessionObserver, SessionSt
 /// The word in place of a system's name that lets any system of the spool call.
 pub(crate) const ANY: &str = "*";
 
-/// What the log says of a system with which another run talks.
+/// Says in the log that another run talks with the system.
 const LOCKED: &str = "System already locked";
 
 /// Runs an end over a spool. A calling end locks the other system first.

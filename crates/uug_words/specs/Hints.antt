@@ -1,4 +1,4 @@
--- What to do about words that are often mistaken for those of the program (this project's profile).
+-- Defines the hints for words that are often mistaken for those of the program (this project's profile).
 use Rattle.std.specs.Prelude.{ℕ, Bool, List, [], codes, if◌then◌else◌}
 use Rattle.std.specs.Str.{bytes_eq}
 

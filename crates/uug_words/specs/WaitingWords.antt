@@ -1,4 +1,4 @@
--- Where an end waits to be called, in words (this project's profile).
+-- Spells the place at which an end waits to be called (this project's profile).
 use Rattle.std.specs.Fmt.{decimal}
 use Rattle.std.specs.Prelude.{ℕ, Bool, false, not, List, [], ◌++◌, codes, eqb, Option, Some, None, if◌then◌else◌}
 use Rattle.std.specs.List.{list_any}
