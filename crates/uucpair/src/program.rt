@@ -1,5 +1,6 @@
 //! The program, from its command line to its status.
-ghost use Rattle.std.specs.Prelude.{◌≡◌, IfOk, OnOk, map, string_bytes};
+ghost use Rattle.std.specs.Prelude.{◌≡◌, ◌≤◌, IfErr, IfOk, IsSome, OnOk, map, string_bytes};
+ghost use Rattle.uug_failure.specs.Faults.{IsQueueFault};
 ghost use Rattle.uug_input.specs.Inputs.{streams};
 ghost use Rattle.uug_stream.specs.Streams.{Appends};
 ghost use Rattle.uucpair.specs.Performed.{Does, Performs, version_line};
@@ -14,15 +15,18 @@ use std::rt::{Env, Files};
 use std::time::Clock;
 use std::{env, io};
 use uug_conversation::Side;
-use uug_disk::queue_run;
+use uug_disk::{QueueTask, queue_run};
 use uug_failure::SystemFailure;
 use uug_input::{InputTask, do_on};
-use uug_pending::cancel_run;
+use uug_pending::{CancelFault, CancelTask, cancel_run, rival_remark};
 use uug_port::{StandardStreams, SystemInput, SystemOutput};
 use uug_stop::{Stop, end_of, with_reason};
 use uug_stream::{Output, ToolFault, write_all};
 use uug_task::CallTask;
 use uug_words::{Task, VERSION, has_no_host, hint_words, task_of, waiting_words};
+
+/// The remark on an order beside a job to cancel.
+const QUEUED_OR_CANCELLED: &str = "a job is queued or cancelled, not both";
 
 /// Prints the name of the program and its version.
 fn show_version<O: Output>(alloc: Global, output: &mut O) -> Result<u8, ToolFault>
@@ -33,6 +37,62 @@ fn show_version<O: Output>(alloc: Global, output: &mut O) -> Result<u8, ToolFaul
     let line = format!(in alloc; "uucpair {VERSION}\n")?;
     write_all(output, line.as_bytes())?;
     Ok(0)
+}
+
+/// Lists the jobs that wait, or queues one more, and remarks on another job that sends to its target.
+fn do_queue<R, O>(
+    rt: &R,
+    queue: &QueueTask<'_>,
+    output: &mut O,
+    remark: &mut String,
+    why: &mut Option<SystemFailure>,
+) -> Result<u8, ToolFault>
+where
+    R: Files<File = File> + Env + AllocGlobal + Clone + Drop,
+    O: Output,
+    ensures status { IfOk result (λ status. status ≡ 0) }
+    ensures no_other { IfErr result IsQueueFault }
+    ensures named { result ≡ Err ToolFault.Device → IsSome why.new }
+{
+    let rival = match queue_run(rt.alloc(), rt, queue, output, remark, why) {
+        Ok(rival) => rival,
+        Err(fault) => return Err(fault),
+    };
+    if let Some(target) = rival {
+        // A remark for which there is no memory is left out.
+        if let Ok(said) = rival_remark(rt.alloc(), &target) {
+            *remark = said;
+        }
+    }
+    Ok(0)
+}
+
+/// Cancels a job, and returns the program's status.
+fn do_cancel<R, O>(
+    rt: &R,
+    cancel: &CancelTask<'_>,
+    output: &mut O,
+    remark: &mut String,
+    why: &mut Option<SystemFailure>,
+) -> Result<u8, ToolFault>
+where
+    R: Files<File = File> + AllocGlobal + Clone + Drop,
+    O: Output,
+    ensures status { IfOk result (λ status. status ≤ 1) }
+    ensures no_other { IfErr result IsQueueFault }
+    ensures named { result ≡ Err ToolFault.Device → IsSome why.new }
+{
+    match cancel_run(rt.alloc(), rt, cancel, output) {
+        Ok(done) => {
+            *remark = done.remark;
+            Ok(done.status)
+        }
+        Err(CancelFault::Ordered) => {
+            remark.push_str(QUEUED_OR_CANCELLED)?;
+            Err(ToolFault::Usage)
+        }
+        Err(CancelFault::Run(fault)) => Err(fault.tell(why)),
+    }
 }
 
 /// Does a task, and returns the program's status.
@@ -70,8 +130,8 @@ where
         Task::Version => return show_version(rt.alloc(), output),
         Task::Pair(pair) => return do_pair(rt, &pair, output, remark, why),
         Task::Call(call) => return do_call(rt, &call, terminals, standard, output, remark, why),
-        Task::Queue(queue) => return queue_run(rt.alloc(), rt, &queue, output, remark, why),
-        Task::Cancel(cancel) => return cancel_run(rt.alloc(), rt, &cancel, output, remark, why),
+        Task::Queue(queue) => return do_queue(rt, &queue, output, remark, why),
+        Task::Cancel(cancel) => return do_cancel(rt, &cancel, output, remark, why),
     };
     do_on(rt, over, file, input, output, remark, why)
 }

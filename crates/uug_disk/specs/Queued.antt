@@ -1,12 +1,11 @@
 -- What is listed of jobs, and the words of what a person queues (this project's profile).
-use Rattle.std.specs.Prelude.{◌≡◌, ◌&&◌, ℕ, Bool, false, not, List, [], ◌++◌, Option, Ok, codes, option_map, unwrap_or}
+use Rattle.std.specs.Prelude.{◌≡◌, ◌&&◌, ℕ, Bool, false, not, List, [], Option, Some, None, Ok, option_map, unwrap_or, if◌then◌else◌}
 use Rattle.std.specs.Borrow.{Bor}
 use Rattle.std.specs.List.{list_any}
 use Rattle.std.specs.Str.{bytes_eq}
 use Rattle.uug_conversation.specs.declared.job.Job.{Job}
 use Rattle.uug_conversation.specs.declared.job.Job.TheVariants.{Send, Request}
 use Rattle.uug_folder.specs.JobsText.{jobs_of, jobs_text}
-use Rattle.uug_talk.specs.Lines.{ended}
 
 abbrev pub word_in : Option (Bor (List ℕ)) → Option (List ℕ)
 word_in word = option_map (λ (w : Bor (List ℕ)). w.now) word
@@ -28,6 +27,6 @@ is_rival source target (Request other place user) = false
 abbrev pub has_rival : (source target : List ℕ) → List Job → Bool
 has_rival source target jobs = list_any (is_rival source target) jobs
 
--- what is said then
-abbrev pub rival_remark : (target : List ℕ) → List ℕ
-rival_remark target = codes "uucpair: another job sends to " ++ (target ++ ended (codes ", and this one replaces its file"))
+-- the target, where another job has it
+abbrev pub rival_among : (source target : List ℕ) → List Job → Option (List ℕ)
+rival_among source target jobs = if has_rival source target jobs then Some target else None

@@ -1,8 +1,8 @@
 //! Jobs that a person queues, also while sessions run over the same folder, and the list of jobs that wait.
-ghost use Rattle.std.specs.Prelude.{◌≡◌, ◌++◌, IfErr, IfOk, IsSome, OnOk, string_bytes};
+ghost use Rattle.std.specs.Prelude.{◌≡◌, IfErr, IfOk, IsSome, string_bytes};
 ghost use Rattle.uug_folder.specs.Queueing.{ordered, shown_text, target_with, user_with};
 ghost use Rattle.uug_failure.specs.Faults.{IsQueueFault, IsReadingFault};
-ghost use Rattle.uug_disk.specs.Queued.{IsListOf, has_rival, is_rival, rival_remark, word_in, word_or_empty};
+ghost use Rattle.uug_disk.specs.Queued.{IsListOf, has_rival, is_rival, rival_among, word_in, word_or_empty};
 
 use crate::dir_lock::see_dir;
 use crate::queued_copy::{place_copy, read_copied};
@@ -53,8 +53,8 @@ impl<'a> QueueTask<'a> {
 
 /// Lists the jobs that wait in the folder of an end, or queues one more. A file that is sent is copied into `send`,
 /// under its own name or one with a number. The job is appended to `jobs`, whether a session runs or not. A line says
-/// which one it is. Returns the program's status. `remark` says why an order is bad usage, and `why` which call of the
-/// system failed.
+/// which one it is. Returns its target if another job sends a file there. `remark` says why an order is bad usage, and
+/// `why` which call of the system failed.
 pub fn queue_run<A, R, O, B>(
     alloc: A,
     rt: &R,
@@ -62,25 +62,23 @@ pub fn queue_run<A, R, O, B>(
     output: &mut O,
     remark: &mut String<B>,
     why: &mut Option<SystemFailure>,
-) -> Result<u8, ToolFault>
+) -> Result<Option<Name>, ToolFault>
 where
     A: Allocator + Copy,
     R: Files<File = File> + Env + Alloc + Clone + Drop,
     O: Output,
     B: Allocator,
-    ensures status { IfOk result (λ status. status ≡ 0) }
     ensures no_other { IfErr result IsQueueFault }
     // A device fault always says which call it was.
     ensures why { result ≡ Err ToolFault.Device → IsSome why.new }
 {
     *why = None;
-    let done = match task.order {
+    match task.order {
         Some(order) => queue_order(alloc, rt, task, order, output, remark, why),
-        None => list_dir(alloc, rt, task.end_dir(), output, why),
-    };
-    match done {
-        Ok(()) => Ok(0),
-        Err(fault) => Err(fault),
+        None => match list_dir(alloc, rt, task.end_dir(), output, why) {
+            Ok(()) => Ok(None),
+            Err(fault) => Err(fault),
+        },
     }
 }
 
@@ -126,7 +124,7 @@ fn list_of<A: Allocator + Copy>(alloc: A, text: &[u8]) -> Result<String<A>, RunF
     Ok(write_jobs(alloc, queue.pending())?)
 }
 
-/// Queues the job that a person orders.
+/// Queues the job that a person orders. Returns its target if another job sends a file there.
 fn queue_order<A, R, O, B>(
     alloc: A,
     rt: &R,
@@ -135,7 +133,7 @@ fn queue_order<A, R, O, B>(
     output: &mut O,
     remark: &mut String<B>,
     why: &mut Option<SystemFailure>,
-) -> Result<(), ToolFault>
+) -> Result<Option<Name>, ToolFault>
 where
     A: Allocator + Copy,
     R: Files<File = File> + Env + Alloc + Clone + Drop,
@@ -155,43 +153,36 @@ where
     let queued = queue_job(alloc, rt, task, &job, why)?;
     let line = queued_line(alloc, &queued)?;
     write_all(output, line.as_bytes())?;
-    // What can't be said is left out.
-    let _ = remark_rival(alloc, rt, task.end_dir(), &queued, remark);
-    Ok(())
+    // Jobs that can't be read again are passed over.
+    Ok(rival_of(alloc, rt, task.end_dir(), &queued).unwrap_or(None))
 }
 
-/// Appends to the remark that another job sends a file to the target of this one, which was queued after it, if one
-/// does.
-fn remark_rival<A: Allocator + Copy, R: Files, B: Allocator>(
+/// Returns the target of a job that was queued, if another job sends a file there.
+fn rival_of<A: Allocator + Copy, R: Files>(
     alloc: A,
     rt: &R,
     dir: EndDir<'_>,
     queued: &Job,
-    remark: &mut String<B>,
-) -> Result<(), RunFault>
+) -> Result<Option<Name>, RunFault>
     ensures { IfErr result IsReadingFault }
 {
     let Job::Send { source, target, .. } = queued else {
-        return Ok(());
+        return Ok(None);
     };
     let text = jobs_at(alloc, rt, dir)?;
     let waiting = jobs_in(alloc, text.as_slice())?;
-    if has_rival(source, target, waiting.pending()) {
-        add_rival(remark, target)?;
-    }
-    Ok(())
+    Ok(rival_among(source, target, waiting.pending()))
 }
 
-/// Appends that another job has this target.
-fn add_rival<B: Allocator>(remark: &mut String<B>, target: &Name) -> Result<(), AllocError>
-    ensures { OnOk result
-        (string_bytes remark.new ≡ string_bytes remark.old ++ rival_remark target.now) }
+/// Returns this target, if one of these jobs sends another file than `source` there.
+fn rival_among(source: &Name, target: &Name, jobs: &[Job]) -> Option<Name>
+    ensures { result ≡ rival_among source.now target.now jobs.now }
 {
-    let target = target.as_str();
-    write!(
-        remark,
-        "uucpair: another job sends to {target}, and this one replaces its file\n"
-    )
+    if has_rival(source, target, jobs) {
+        Some(*target)
+    } else {
+        None
+    }
 }
 
 /// Returns whether one of these jobs sends another file than `source` to this target.

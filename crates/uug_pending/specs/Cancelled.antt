@@ -1,16 +1,24 @@
--- Defines the job that is cancelled, the jobs that are left, and the answer (this project's profile).
+-- Defines the job that is cancelled, the jobs that are left, the answer and the faults (this project's profile).
 use Rattle.std.specs.Fmt.{decimal}
-use Rattle.std.specs.Prelude.{◌≡◌, ◌⊎◌, ◌==◌, ◌-◌, ℕ, List, [], ◌∷◌, ◌++◌, codes, length, Option, Some, None, Result, Ok, Err, if◌then◌else◌, slice_get}
+use Rattle.std.specs.Borrow.{Bor}
+use Rattle.std.specs.Prelude.{◌≡◌, ◌⊎◌, ◌==◌, ◌-◌, ℕ, List, [], ◌∷◌, ◌++◌, codes, length, Option, Some, None, Result, Ok, Err, if◌then◌else◌, slice_get, IsSome, ⊤}
 use Rattle.uug_conversation.specs.declared.job.Job.{Job}
 use Rattle.uug_folder.specs.JobsText.{jobs_of, jobs_text}
 use Rattle.uug_folder.specs.NumberText.{number_in}
 use Rattle.uug_folder.specs.OpenJobs.{settled_in}
 use Rattle.uug_folder.specs.Queueing.{is_among}
 use Rattle.uug_scan.specs.Detailed.{escaped}
+use Rattle.uug_failure.specs.Faults.{IsReadingFault}
+use Rattle.uug_failure.specs.declared.run_fault.RunFault.{RunFault}
+use Rattle.uug_failure.specs.declared.run_fault.RunFault.TheVariants.{Tool}
 use Rattle.uug_stream.specs.Streams.{Appends}
+use Rattle.uug_stream.specs.declared.fault.ToolFault.{ToolFault}
+use Rattle.uug_stream.specs.declared.fault.ToolFault.TheVariants as faults
 use Rattle.uug_talk.specs.Lines.{ended}
 use Rattle.uug_pending.specs.declared.answer.Answer.{Answer}
 use Rattle.uug_pending.specs.declared.answer.Answer.TheVariants.{Cancelled, Unknown}
+use Rattle.uug_pending.specs.declared.cancel.CancelFault.{CancelFault}
+use Rattle.uug_pending.specs.declared.cancel.CancelFault.TheVariants.{Ordered, Run}
 
 -- ---- which
 
@@ -72,8 +80,26 @@ status_of (Cancelled job) = 0
 status_of (Unknown waiting) = 1
 
 -- which job was cancelled is written; that none was is said beside
-abbrev pub SaysAnswer : Answer → (word : List ℕ) (written written_after : Option (List ℕ)) (remark remark_after : List ℕ) → Type 0
-SaysAnswer (Cancelled job) word written written_after remark remark_after =
-    Appends (cancelled_line job) written written_after × (remark_after ≡ remark)
-SaysAnswer (Unknown waiting) word written written_after remark remark_after =
-    (written_after ≡ written) × (remark_after ≡ remark ++ unknown_line word waiting)
+abbrev pub SaysAnswer : Answer → (word : List ℕ) (written written_after : Option (List ℕ)) (remark : List ℕ) → Type 0
+SaysAnswer (Cancelled job) word written written_after remark =
+    Appends (cancelled_line job) written written_after × (remark ≡ [])
+SaysAnswer (Unknown waiting) word written written_after remark =
+    (written_after ≡ written) × (remark ≡ unknown_line word waiting)
+
+-- ---- what a cancel gives up for
+
+-- saying it: a write, and memory
+abbrev pub IsSayingFault : ToolFault → Type 0
+IsSayingFault faults.Write = ⊤
+IsSayingFault faults.Memory = ⊤
+IsSayingFault _ = ⊥
+
+-- a run: also what it reads; a device fault is a call of the system, which is named
+abbrev pub IsGivenUp : RunFault → Type 0
+IsGivenUp (Tool faults.Write) = ⊤
+IsGivenUp fault = IsReadingFault fault
+
+-- an order beside it, or the run gave up
+abbrev pub IsCancelFault : (order : Option (Bor (List ℕ))) → CancelFault → Type 0
+IsCancelFault order Ordered = IsSome order
+IsCancelFault order (Run fault) = IsGivenUp fault

@@ -1,8 +1,9 @@
 //! A job that a person cancels while no session runs over its folder.
-ghost use Rattle.std.specs.Prelude.{◌≡◌, ◌≤◌, IfErr, IfOk, IsSome, None};
-ghost use Rattle.uug_failure.specs.Faults.{IsFolderFault, IsQueueFault, IsReadingFault};
+ghost use Rattle.std.specs.Prelude.{◌≡◌, ◌≤◌, IfErr, IfOk, None};
+ghost use Rattle.uug_failure.specs.Faults.{IsFolderFault, IsReadingFault};
+ghost use Rattle.uug_pending.specs.Cancelled.{IsCancelFault};
 
-use crate::answer::{Answer, say};
+use crate::answer::{Answer, CancelOutcome, say};
 use crate::taken_job::cancel_in;
 use std::alloc::Allocator;
 use std::fs::File;
@@ -33,37 +34,44 @@ impl<'a> CancelTask<'a> {
     }
 }
 
+/// The reason why no job was cancelled.
+#[derive(Clone, Copy)]
+pub enum CancelFault {
+    /// An order was given as well.
+    Ordered,
+    /// The run gave up.
+    Run(RunFault),
+}
+
 /// Cancels the job that a word names in the folder of an end: by its number in the list of those that wait, counted
 /// from 1, or by its line. Of equal lines the first goes. The copy that was made when it was queued is removed with it.
-/// The folder is locked as for a session, so a job that one holds stays. Returns the program's status: 1 if no such job
-/// waits, which `remark` says. An order beside it is bad usage. `why` says which call of the system failed.
-pub fn cancel_run<A, R, O, B>(
+/// The folder is locked as for a session, so a job that one holds stays. Returns the program's status, and a line that
+/// says if no such job waits.
+pub fn cancel_run<A, R, O>(
     alloc: A,
     rt: &R,
     task: &CancelTask<'_>,
     output: &mut O,
-    remark: &mut String<B>,
-    why: &mut Option<SystemFailure>,
-) -> Result<u8, ToolFault>
+) -> Result<CancelOutcome<A>, CancelFault>
 where
     A: Allocator + Copy,
     R: Files<File = File> + Alloc + Clone + Drop,
     O: Output,
-    B: Allocator,
-    ensures status { IfOk result (λ status. status ≤ 1) }
+    ensures status { IfOk result (λ done. done.status ≤ 1) }
     ensures alone { IfOk result (λ _. task.now.order ≡ None) }
-    ensures no_other { IfErr result IsQueueFault }
     // A device fault always says which call it was.
-    ensures why { result ≡ Err ToolFault.Device → IsSome why.new }
+    ensures why { IfErr result (IsCancelFault task.now.order) }
 {
-    *why = None;
     if task.order.is_some() {
-        remark.push_str("a job is queued or cancelled, not both")?;
-        return Err(ToolFault::Usage);
+        return Err(CancelFault::Ordered);
     }
-    match cancel_at(alloc, rt, task.end_dir(), task.job) {
-        Ok(answer) => say(alloc, answer, task.job, output, remark),
-        Err(fault) => Err(fault.tell(why)),
+    let answer = match cancel_at(alloc, rt, task.end_dir(), task.job) {
+        Ok(answer) => answer,
+        Err(fault) => return Err(CancelFault::Run(fault)),
+    };
+    match say(alloc, answer, task.job, output) {
+        Ok(done) => Ok(done),
+        Err(fault) => Err(CancelFault::Run(RunFault::Tool(fault))),
     }
 }
 

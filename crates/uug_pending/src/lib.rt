@@ -1,4 +1,5 @@
-//! The jobs that wait in the folder of an end, for a person who cancels one of them.
+//! The jobs that wait in the folder of an end, for a person who cancels one of them, and the words for two jobs that
+//! send to one target.
 #![tactic(auto)]
 
 mod answer;
@@ -7,4 +8,6 @@ mod named_job;
 mod taken_job;
 mod words;
 
-pub use cancel::{CancelTask, cancel_run};
+pub use answer::CancelOutcome;
+pub use cancel::{CancelFault, CancelTask, cancel_run};
+pub use words::rival_remark;

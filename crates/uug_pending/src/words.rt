@@ -1,11 +1,13 @@
-//! The words about a job that is cancelled, or that nobody knows.
+//! The words about a job that is cancelled, that nobody knows, or that another one replaces.
 ghost use Rattle.std.specs.Prelude.{◌≡◌, ◌++◌, IfOk, OnOk, string_bytes};
 ghost use Rattle.uug_pending.specs.Cancelled.{cancelled_line, count_words, unknown_line};
+ghost use Rattle.uug_pending.specs.Rivals.{rival_remark};
 
 use std::alloc::{AllocError, Allocator};
 use uug_folder::write_jobs;
 use uug_reason::add_escaped;
 use uug_session::Job;
+use uug_talk::Name;
 
 /// Returns the line that reports the cancelled job.
 pub(crate) fn cancelled_line<A: Allocator + Copy>(
@@ -20,20 +22,28 @@ pub(crate) fn cancelled_line<A: Allocator + Copy>(
     Ok(line)
 }
 
-/// Appends that a word names none of so many jobs, as a line for standard error.
-pub(crate) fn add_unknown<A: Allocator>(
-    text: &mut String<A>,
+/// Returns that a word names none of so many jobs, as a line for standard error.
+pub(crate) fn unknown_line<A: Allocator>(
+    alloc: A,
     word: &str,
     waiting: usize,
-) -> Result<(), AllocError>
-    ensures { OnOk result (string_bytes text.new
-        ≡ string_bytes text.old ++ unknown_line word.now waiting) }
+) -> Result<String<A>, AllocError>
+    ensures { IfOk result (λ line. string_bytes line ≡ unknown_line word.now waiting) }
 {
-    text.push_str("uucpair: \"")?;
-    add_escaped(text, word.as_bytes())?;
-    text.push_str("\": no such job: ")?;
-    add_count(text, waiting)?;
-    text.push_str("\n")
+    let mut line = String::from_str(alloc, "uucpair: \"")?;
+    add_escaped(&mut line, word.as_bytes())?;
+    line.push_str("\": no such job: ")?;
+    add_count(&mut line, waiting)?;
+    line.push_str("\n")?;
+    Ok(line)
+}
+
+/// Returns that another job sends a file to this target, as a line for standard error.
+pub fn rival_remark<A: Allocator>(alloc: A, target: &Name) -> Result<String<A>, AllocError>
+    ensures { IfOk result (λ line. string_bytes line ≡ rival_remark target.now) }
+{
+    let target = target.as_str();
+    format!(in alloc; "uucpair: another job sends to {target}, and this one replaces its file\n")
 }
 
 /// Appends how one of so many jobs is named.

@@ -118,8 +118,14 @@ where
                     return Err(fault);
                 }
                 match fault {
-                    ToolFault::Jobs(line) => note_bad_line(alloc, rt, task, line, &mut bad_line),
-                    _ => note_failure(alloc, rt, task, &*why, &mut failed),
+                    ToolFault::Jobs(line) => {
+                        report_bad_line(alloc, rt, task, line);
+                        bad_line = bad_line.or(Some(line));
+                    }
+                    _ => {
+                        report_failure(alloc, rt, task, *why);
+                        failed = failed.or(*why);
+                    }
                 }
             }
         }
@@ -190,17 +196,13 @@ fn ended(
     }
 }
 
-/// Reports at once that this line of the jobs is bad, which the next sessions may not know, and keeps the first one.
-fn note_bad_line<A: Allocator + Copy, R: Files + Eprint + AllocGlobal>(
+/// Reports at once that this line of the jobs is bad, which the next sessions may not know.
+fn report_bad_line<A: Allocator + Copy, R: Files + Eprint + AllocGlobal>(
     alloc: A,
     rt: &R,
     task: &CallTask<'_>,
     line: usize,
-    bad_line: &mut Option<usize>,
 ) {
-    if bad_line.is_none() {
-        *bad_line = Some(line);
-    }
     let fault = ToolFault::Jobs(line);
     let _ = eprint!(rt; "uucpair: {fault}\n");
     if let Ok(remark) = jobs_remark_at(alloc, rt, task.dir, line) {
@@ -209,21 +211,17 @@ fn note_bad_line<A: Allocator + Copy, R: Files + Eprint + AllocGlobal>(
     }
 }
 
-/// Reports at once why a session has ended, which the next ones don't know, and keeps the first of these failures.
-fn note_failure<A: Allocator + Copy, R: Eprint>(
+/// Reports at once why a session has ended, which the next ones don't know.
+fn report_failure<A: Allocator + Copy, R: Eprint>(
     alloc: A,
     rt: &R,
     task: &CallTask<'_>,
-    why: &Option<SystemFailure>,
-    failed: &mut Option<SystemFailure>,
+    why: Option<SystemFailure>,
 ) {
     let Some(failure) = why else {
         return;
     };
-    if failed.is_none() {
-        *failed = Some(*failure);
-    }
-    let Ok(line) = reason_line(alloc, "", task.line, task.dir, "", *failure) else {
+    let Ok(line) = reason_line(alloc, "", task.line, task.dir, "", failure) else {
         return;
     };
     let line = line.as_str();
