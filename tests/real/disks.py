@@ -84,9 +84,56 @@ def folders_that_cant_be_written(one):
         return change, mend
 
     for at in ("alpha", "beta"):
-        broken(one, "a folder got that can't be written", at, *shut("got"), None, status=1)
-        for end in ("alpha", "beta"):
-            shutil.rmtree(one.path(end))
+        for name, told in (("", "{at}"), ("got", "{at}/got")):
+            broken(one, f"a folder {name or 'of an end'} that can't be written", at, *shut(name),
+                   f"{told}: read-only file system")
+            for end in ("alpha", "beta"):
+                shutil.rmtree(one.path(end))
+
+
+@scene("root")
+def jobs_that_cant_be_removed(one):
+    """An end that could not take a job out of `jobs` opens no line: the file would come again in each session."""
+    ends = Ends(one)
+    line = f"unix:open/{one.line[5:]}"
+    ends.give("alpha", x="x\n")
+    ends.jobs("alpha", "send x x me")
+    os.mkdir(one.path("open"))
+    for folder in ("open", *(f"{end}/{name}" for end in ("alpha", "beta") for name in ("", "send", "got"))):
+        os.chmod(one.path(folder), 0o777)
+    at_alpha = lambda verb, *more: [verb, line, "alpha", "--me", "alpha", "--peer", "beta", "--timeout", "2", *more]
+
+    def refused(what, told, name, mode):
+        os.chmod(ends.at("alpha", name), mode)
+        there = names_in(ends.at("alpha"))
+        fault = (3, "", said("device fault", f"{told}: permission denied"))
+        called = ends.answer(line)
+        caller = one.run(at_alpha("call"), front=NOBODY)
+        one.row(f"{what}: who calls", caller.all(), fault)
+        one.row(f"{what}: nobody is called, and nothing comes", (called.stop().status, names_in(ends.at("beta", "got"))),
+                ("waits", []))
+        for place in (one.path(line[5:]), ends.at("beta", "got/x")):
+            if os.path.lexists(place):
+                os.remove(place)
+        one.row(f"{what}: who waits to be called", one.run(at_alpha("answer", "--wait", "2"), front=NOBODY).all(), fault)
+        one.row(f"{what}: no socket is made, and nothing is left", (names_in(one.path("open")), names_in(ends.at("alpha"))),
+                ([], there))
+        os.chmod(ends.at("alpha", name), 0o777)
+
+    refused("a folder that can't be written", "alpha", "", 0o555)
+    refused("a folder that keeps the files of others", "alpha/jobs", "", 0o1777)
+    os.chown(ends.at("alpha", "jobs"), 65534, 65534)
+    write(ends.at("alpha", "failed"), "")
+    refused("a list of failed jobs that can't be written", "alpha/failed", "failed", 0o444)
+    refused("a folder got that can't be written", "alpha/got", "got", 0o555)
+    write(ends.at("alpha", "number"), "7\n")
+    refused("a number that can't be written", "alpha/number", "", 0o1777)
+    os.remove(ends.at("alpha", "number"))
+    os.chmod(ends.at("beta"), 0o555)
+    called = ends.answer(line, front=NOBODY)
+    caller = one.run(at_alpha("call"), front=NOBODY)
+    one.row("who has no jobs needs got alone", (caller.all(), called.end().all(), ends.state("beta"), ends.state("alpha")),
+            ((0, report("caller", struck=1), ""), (0, report("called"), ""), {"got/x": "x\n"}, {"jobs": "", "failed": ""}))
 
 
 @scene("root")

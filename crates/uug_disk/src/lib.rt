@@ -1,5 +1,5 @@
 //! The folder of an end on a disk: its lock, its jobs and its number, the files that it gives and takes, files that are
-//! replaced as a whole, and jobs that a person queues. Also the lock files of devices.
+//! replaced as a whole, trials of what is written there, and jobs that a person queues. Also the lock files of devices.
 #![tactic(auto)]
 
 mod atomic_file;
@@ -23,6 +23,7 @@ mod system_folder;
 mod system_jobs;
 mod system_number;
 mod system_text;
+mod writable;
 mod written;
 
 pub use device_lock::{DeviceLock, lock_device};
@@ -38,3 +39,4 @@ pub use system_folder::SystemFolder;
 pub use system_jobs::SystemJobs;
 pub use system_number::SystemNumber;
 pub use system_text::SystemText;
+pub use writable::{see_jobs, see_writable};

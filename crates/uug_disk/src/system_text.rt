@@ -136,7 +136,7 @@ impl<R: Files<File = File>, A: Allocator> TextFile for SystemText<'_, R, A> {
 }
 
 /// Returns the path of the file at a path: at the end of the links, if the path is one.
-fn end_of_links<A: Allocator + Copy, R: Files>(
+pub(crate) fn end_of_links<A: Allocator + Copy, R: Files>(
     alloc: A,
     rt: &R,
     path: String<A>,

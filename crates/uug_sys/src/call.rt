@@ -26,8 +26,10 @@ use std::net::{Net, TcpListener, TcpStream};
 use std::os::fd::AsRawFd;
 use std::rt::{Env, Files};
 use std::time::{Clock, Duration};
-use uug_disk::{DirLock, lock_device, lock_dir, open_jobs, see_folders, settle_copies};
-use uug_failure::{Cause, Resource, RunFault, SystemFailure};
+use uug_disk::{
+    DirLock, lock_device, lock_dir, open_jobs, see_folders, see_writable, settle_copies,
+};
+use uug_failure::{Cause, EndDir, Resource, RunFault, SystemFailure};
 use uug_port::{
     DeviceLine, PolledStream, SessionLine, SilentLine, StandardLine, StandardStreams, StreamLine,
     SystemLine, TimedLine, TimedStream, call_tcp, call_unix, listen_tcp, listen_unix,
@@ -40,10 +42,10 @@ use uug_transfer::{EndLine, GreetedLine, LineMonitor, LineName, SessionObserver}
 /// Runs one end over its folder and its line, for one session, or at a socket where it is called for several, one after
 /// the other. `docs/OPERATING.md` describes what is in a folder. The folder is locked before anything in it is read;
 /// `why` says if another run holds it. A called end releases the lock while it waits, and locks the folder again when
-/// its line is up. It reads the jobs, the number and the files then. Whether the jobs and the number can be read
-/// is checked before the line opens. Returns the program's status. `remark` says which conversation numbers the ends
-/// have if they differ, and why jobs have failed or were put off. `why` says which call of the system failed first, if
-/// one did.
+/// its line is up. It reads the jobs, the number and the files then. Whether the jobs and the number can be read, and
+/// what a session writes can be written, is checked before the line opens. Returns the program's status. `remark` says
+/// which conversation numbers the ends have if they differ, and why jobs have failed or were put off. `why` says which
+/// call of the system failed first, if one did.
 pub fn call_run<A, R, W, O, B>(
     alloc: A,
     rt: &R,
@@ -118,9 +120,9 @@ fn lock_and_look<A: Allocator + Copy, R: Files<File = File> + Alloc + Clone + Dr
     }
 }
 
-/// Checks that the folder is no spool, that the number and the jobs can be read, and that the folders exist that they
-/// need.
-fn look<A: Allocator + Copy, R: Files>(
+/// Checks that the folder is no spool, that the number and the jobs can be read, that the folders exist that they need,
+/// and that what a session writes there can be written.
+fn look<A: Allocator + Copy, R: Files<File = File>>(
     alloc: A,
     rt: &R,
     task: &CallTask<'_>,
@@ -129,11 +131,28 @@ fn look<A: Allocator + Copy, R: Files>(
     ensures { IfErr result IsReadingFault }
 {
     see_no_spool(alloc, rt, lock.dir())?;
-    read_numbers(alloc, rt, task, lock)?;
+    let numbers = read_numbers(alloc, rt, task, lock)?;
     let jobs = open_jobs(alloc, rt, lock, task.end_dir())?;
-    let seen = see_folders(alloc, rt, lock.dir(), jobs.queue.pending());
+    let is_numbered = numbers.begins.is_some();
+    let seen = see_dir(alloc, rt, lock.dir(), jobs.queue.pending(), is_numbered);
     drop(jobs);
     seen
+}
+
+/// Checks that the folders exist that these jobs need, and that what a session writes can be written.
+fn see_dir<A: Allocator + Copy, R: Files<File = File>>(
+    alloc: A,
+    rt: &R,
+    dir: EndDir<'_>,
+    jobs: &[Job],
+    is_numbered: bool,
+) -> Result<(), RunFault>
+    ensures { IfErr result IsFolderFault }
+{
+    match see_folders(alloc, rt, dir, jobs) {
+        Ok(()) => see_writable(alloc, rt, dir, jobs, is_numbered),
+        Err(fault) => Err(fault),
+    }
 }
 
 /// Opens the end's line, and talks over it.

@@ -1,19 +1,20 @@
 //! The parts of an end over a folder of the system.
-ghost use Rattle.std.specs.Prelude.{◌≡◌, ◌<◌, IfErr, IfOk, IsSome, length};
+ghost use Rattle.std.specs.Prelude.{◌≡◌, ◌<◌, ◌≤◌, IfErr, IfOk, IsSome, length};
 ghost use Rattle.uug_conversation.specs.Jobs.{pending};
-ghost use Rattle.uug_failure.specs.Faults.{IsReadingFault};
+ghost use Rattle.uug_failure.specs.Faults.{IsFolderFault, IsReadingFault};
 ghost use Rattle.uug_folder.specs.JobsText.{IsFrontOf};
 
 use crate::numbers::Numbers;
 use std::alloc::{AllocError, Allocator};
+use std::fs::File;
 use std::rt::Files;
 use uug_disk::{
     DirLock, Given, OpenJobs, SystemFolder, SystemJobs, SystemNumber, SystemText, open_jobs,
-    read_given,
+    read_given, see_jobs,
 };
 use uug_failure::{EndText, RunFault, SystemFailure};
 use uug_folder::{FolderSpool, JobsFile, LocalNames, first_jobs};
-use uug_session::{Place, Spool, Stored};
+use uug_session::{Job, Place, Spool, Stored};
 use uug_talk::Name;
 use uug_task::{CallTask, EndParts};
 use uug_transfer::TransferEnd;
@@ -51,7 +52,11 @@ pub(crate) fn failure_of<R: Files, A: Allocator + Copy>(
 }
 
 /// Reads the parts of an end over the folder of the task, as it is now.
-pub(crate) fn read_parts<'a, A: Allocator + Copy, R: Files + Eprint + Alloc + Clone + Drop>(
+pub(crate) fn read_parts<
+    'a,
+    A: Allocator + Copy,
+    R: Files<File = File> + Eprint + Alloc + Clone + Drop,
+>(
     alloc: A,
     rt: &'a R,
     task: &CallTask<'a>,
@@ -68,8 +73,7 @@ pub(crate) fn read_parts<'a, A: Allocator + Copy, R: Files + Eprint + Alloc + Cl
 {
     place.number = numbers.begins;
     let jobs = open_jobs(alloc, rt, lock, task.end_dir())?;
-    let most = u64::from(task.most);
-    let given = match read_given(alloc, rt, lock, jobs.queue.pending(), most) {
+    let given = match see_given(alloc, rt, task, lock, jobs.queue.pending()) {
         Ok(given) => given,
         Err(fault) => {
             drop(jobs);
@@ -77,6 +81,25 @@ pub(crate) fn read_parts<'a, A: Allocator + Copy, R: Files + Eprint + Alloc + Cl
         }
     };
     Ok(make_parts(alloc, rt, task, place, numbers.held, jobs, given)?)
+}
+
+/// Returns the files that an end with these jobs gives, if the jobs can be removed: those of an end that is called may
+/// be others than when it began to wait.
+fn see_given<A: Allocator + Copy, R: Files<File = File> + Eprint + Alloc + Clone + Drop>(
+    alloc: A,
+    rt: &R,
+    task: &CallTask<'_>,
+    lock: &DirLock<A>,
+    jobs: &[Job],
+) -> Result<Given<A>, RunFault>
+    ensures offered { IfOk result (λ given. given.offered ≤ length jobs.now) }
+    ensures some { IfOk result (λ given. given.offered ≡ 0 → length jobs.now ≡ 0) }
+    ensures no_other { IfErr result IsFolderFault }
+{
+    match see_jobs(alloc, rt, lock.dir(), jobs) {
+        Ok(()) => read_given(alloc, rt, lock, jobs, u64::from(task.most)),
+        Err(fault) => Err(fault),
+    }
 }
 
 /// Makes the parts of an end over the folder of the task, with these files to give, and the first of these jobs to

@@ -9,7 +9,7 @@ use std::net::Net;
 use std::process;
 use std::process::Abort;
 use std::rt::Files;
-use uug_disk::{SystemFolder, lock_dir, read_given};
+use uug_disk::{SystemFolder, lock_dir, read_given, see_writable};
 use uug_folder::{Folder, read_jobs};
 use uug_talk::Name;
 
@@ -207,4 +207,50 @@ fn look_into_got(rt: &(impl Files + Net + Abort + AllocGlobal + Clone + Drop), d
 fn bars_the_names_of_folders(rt: HostRuntime) {
     let dir = folder_path(&rt, process::id(rt.process()), "barred");
     look_into_got(&rt, dir.as_str());
+}
+
+/// A folder, and whether what a session with one job writes there can be written.
+const WRITTEN: &[(&[Given<'static>], bool)] = &[
+    (
+        &[
+            Given::Folder("a/got"),
+            Given::File("a/jobs", b"send x x u\n"),
+        ],
+        true,
+    ),
+    // no `got`
+    (&[Given::File("a/jobs", b"send x x u\n")], false),
+    // a folder in the place of the file that lists failed jobs
+    (
+        &[
+            Given::Folder("a/got"),
+            Given::File("a/jobs", b"send x x u\n"),
+            Given::Folder("a/failed"),
+        ],
+        false,
+    ),
+];
+
+fn is_writable(
+    rt: &(impl Files<File = File> + Abort + AllocGlobal + Clone + Drop),
+    dir: &str,
+) -> bool {
+    let queue = read_jobs(rt.alloc(), b"send x x u\n").expect(rt, "jobs");
+    see_writable(rt.alloc(), rt, first(dir), queue.pending(), true).is_ok()
+}
+
+fn see_each(rt: &(impl Files<File = File> + Net + Abort + AllocGlobal + Clone + Drop), dir: &str) {
+    for (given, is_so) in WRITTEN {
+        place_all(rt, dir, given);
+        let folder = within(rt, dir, "a");
+        assert_same(rt, is_writable(rt, folder.as_str()), *is_so);
+        remove(rt, dir);
+    }
+}
+
+// a trial that leaves no file; a fault that is passed over
+#[test]
+fn sees_what_can_be_written(rt: HostRuntime) {
+    let dir = folder_path(&rt, process::id(rt.process()), "written");
+    see_each(&rt, dir.as_str());
 }
