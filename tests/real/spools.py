@@ -884,3 +884,29 @@ def jobs_that_cant_be_taken_away(one):
     caller, called = nodes.talk()
     deliver(nodes, mails)
     one.row("it comes once, when it is mended", (caller.status, mails, nodes.there("alpha")), (0, ["mail\n"], {}))
+@scene("root")
+def a_spool_that_cant_be_written(one):
+    """A job that could not be taken off the disk is not sent: it would come again in each session."""
+    nodes = Nodes(one)
+    write(nodes.at("alpha", "src/x"), "x\n")
+    nodes.queue("alpha", "C.A1", f"S {nodes.at('alpha', 'src/x')} ~/x u -c D.0 0644 ")
+    nodes.queue("alpha", "C.A2", "S /y ~/y v -C D.0002 0644 ", _0002="y\n")
+    nodes.known("beta", "alpha")
+    os.makedirs(nodes.at("alpha", "spool/.Temp/beta"))
+    nodes.own()
+    spool = nodes.at("alpha", "spool")
+    for what, folder in (("C. files", "beta/C."), ("data", "beta/D."), ("what is written anew", ".Temp/beta")):
+        os.chown(f"{spool}/{folder}", 0, 0)
+        called = nodes.answer("beta", "--wait", "10", peer="alpha", own=False)
+        caller = nodes.call("alpha", own=False)
+        called = called.end()
+        one.row(f"a folder of {what}: who calls", caller.all(), (3, "", said("device fault", f"{spool}: permission denied")))
+        one.row(f"a folder of {what}: nothing comes", (called.status, nodes.pub("beta")), (1, {}))
+        os.chown(f"{spool}/{folder}", NOBODY, NOBODY)
+        for name in names_in(nodes.at("beta", "pub")):
+            os.remove(nodes.at("beta", f"pub/{name}"))
+    caller, called = nodes.talk()
+    one.row("it is mended", (caller.all(), called.all(), nodes.pub("beta")),
+            ((0, report("caller", struck=2), ""), (0, report("called"), ""), {"x": "x\n", "y": "y\n"}))
+
+

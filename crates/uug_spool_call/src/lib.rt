@@ -4,6 +4,7 @@
 mod arrivals;
 mod notices;
 mod public_files;
+mod removable;
 mod session;
 mod spool_call;
 mod spool_end;

@@ -11,9 +11,11 @@ ghost use Rattle.uug_talk.specs.Lines.{lines as lines_of_text};
 ghost use Rattle.uug_talk.specs.Name.{name_of};
 ghost use Rattle.uug_talk.specs.declared.mode.TheConstants.{MODE_MAX};
 
+use crate::removable::see_lines;
 use arrayvec::ArrayVec;
 use std::alloc::{AllocError, Allocator};
 use std::cmp::Ordering;
+use std::fs::File;
 use std::rt::Files;
 use uug_conversation::has_name;
 use uug_failure::{Cause, RunFault};
@@ -119,8 +121,9 @@ impl<A: Allocator + Copy> Work<A> {
 }
 
 /// Reads what waits for a system, C. file after C. file and line after line, as long as the files that are offered have so many
-/// bytes together at most; the first file always. What this node is called stands in the texts of commands.
-pub(crate) fn read_work<A: Allocator + Copy, R: Files + Alloc + Clone + Drop>(
+/// bytes together at most; the first file always. What this node is called stands in the texts of commands. Lines that a session
+/// could not take off the disk are a fault.
+pub(crate) fn read_work<A: Allocator + Copy, R: Files<File = File> + Alloc + Clone + Drop>(
     alloc: A,
     rt: &R,
     paths: &SpoolPaths<A>,
@@ -148,6 +151,7 @@ pub(crate) fn read_work<A: Allocator + Copy, R: Files + Alloc + Clone + Drop>(
             &mut budget,
         )?;
     }
+    see_lines(alloc, rt, paths, work.lines.as_slice())?;
     Ok(work)
 }
 

@@ -1,4 +1,4 @@
-//! A spool of Taylor UUCP on a disk: its folders, what is done to them and read there, and the files about calls.
+//! A spool of Taylor UUCP on a disk: its folders, what is done to them, tried and read there, and the files about calls.
 #![tactic(auto)]
 
 mod call_files;
@@ -7,6 +7,7 @@ mod public_listing;
 mod spool_disk;
 mod spool_files;
 mod spool_paths;
+mod writable;
 
 pub use call_files::{append_line, process_number, read_status_file, write_status_file};
 pub use moments::seconds_since_1970;
@@ -17,3 +18,4 @@ pub use spool_files::{
     read_whole,
 };
 pub use spool_paths::SpoolPaths;
+pub use writable::{see_removable, see_rewritable};

@@ -208,7 +208,7 @@ fn unless_gone(answer: io::Result<()>) -> io::Result<()>
 }
 
 /// Creates a file, and writes it.
-fn make_file<A: Allocator + Copy, R: Files<File = File>>(
+pub(crate) fn make_file<A: Allocator + Copy, R: Files<File = File>>(
     alloc: A,
     rt: &R,
     paths: &SpoolPaths<A>,
@@ -389,7 +389,7 @@ fn free_path<A: Allocator + Copy, R: Files>(
 }
 
 /// Removes a name.
-fn remove_file<A: Allocator + Copy, R: Files>(
+pub(crate) fn remove_file<A: Allocator + Copy, R: Files>(
     alloc: A,
     rt: &R,
     paths: &SpoolPaths<A>,

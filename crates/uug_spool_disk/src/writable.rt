@@ -1,0 +1,71 @@
+//! Trials of what a session removes from a spool, and writes there in its place.
+ghost use Rattle.std.specs.Prelude.{IfErr};
+ghost use Rattle.uug_failure.specs.Faults.{IsFolderFault};
+
+use crate::spool_disk::{make_file, remove_file};
+use crate::spool_paths::SpoolPaths;
+use std::alloc::Allocator;
+use std::fs::File;
+use std::io::ErrorKind;
+use std::rt::Files;
+use std::{fs, io};
+use uug_failure::{Resource, RunFault};
+use uug_spool::{Room, Spot};
+use uug_talk::Name;
+
+/// Checks that this run may remove the file at a spot, and removes nothing: the call is one that removes a folder. The
+/// system asks whether a name may go before it says that a file has it.
+pub fn see_removable<A: Allocator + Copy, R: Files>(
+    alloc: A,
+    rt: &R,
+    paths: &SpoolPaths<A>,
+    spot: &Spot,
+) -> Result<(), RunFault>
+    ensures { IfErr result IsFolderFault }
+{
+    let path = paths.file(alloc, spot)?;
+    match fs::remove_dir(rt, path.as_str()) {
+        Err(error) if is_refusal(error.kind()) => {
+            Err(RunFault::of(&error, paths.end_dir(), Resource::Dir))
+        }
+        _ => Ok(()),
+    }
+}
+
+/// Checks that the C. file of this name can be written anew: makes one beside its place, and removes that.
+pub fn see_rewritable<A: Allocator + Copy, R: Files<File = File>>(
+    alloc: A,
+    rt: &R,
+    paths: &SpoolPaths<A>,
+    name: &Name,
+) -> Result<(), RunFault>
+    ensures { IfErr result IsFolderFault }
+{
+    let part = Spot {
+        room: Room::Temporary,
+        name: *name,
+    };
+    match make_and_remove(alloc, rt, paths, &part) {
+        Ok(()) => Ok(()),
+        Err(error) => Err(RunFault::of(&error, paths.end_dir(), Resource::Dir)),
+    }
+}
+
+/// Makes an empty file, and removes it.
+fn make_and_remove<A: Allocator + Copy, R: Files<File = File>>(
+    alloc: A,
+    rt: &R,
+    paths: &SpoolPaths<A>,
+    spot: &Spot,
+) -> io::Result<()> {
+    make_file(alloc, rt, paths, spot, b"")?;
+    remove_file(alloc, rt, paths, spot)
+}
+
+/// Returns whether an error of this kind says that the system lets nothing be removed.
+fn is_refusal(kind: ErrorKind) -> bool {
+    matches!(
+        kind,
+        ErrorKind::PermissionDenied | ErrorKind::ReadOnlyFilesystem
+    )
+}
