@@ -274,6 +274,24 @@ def many_who_queue(one):
 
 
 @scene("strace")
+def a_copy_that_cant_be_removed_once(one):
+    """It keeps its mark, and the next session removes both; so does the next one who queues."""
+    ends = Ends(one)
+    refused = traced(one, "-P", "alpha/send/x", "-e", "inject=unlink,unlinkat:error=EIO:when=1")
+    write(one.path("files/x"), "x\n")
+    write(one.path("files/y"), "y\n")
+    for what, then in (("session", ends.talk), ("one who queues", lambda: queue(one, "send", "files/y", "--user", "me"))):
+        queue(one, "send", "files/x", "--user", "me")
+        called = ends.answer(one.line)
+        caller = ends.call(one.line, front=refused)
+        called.end()
+        one.row("the job is done", (caller.status, caller.out, text_of(ends.at("alpha", "jobs")), names(ends, "send")),
+                (0, report("caller", struck=1), "", [".copy.x", "x"]))
+        then()
+        one.row(f"the next {what} removes them", [name for name in names(ends, "send") if name.endswith("x")], [])
+
+
+@scene("strace")
 def kills_of_who_queues(one):
     """A kill at each change leaves a job with its copy, or none of both but for what the next one takes away."""
     changes = "openat,write,rename,link,linkat,unlink,unlinkat,fsync,ftruncate"

@@ -1,5 +1,6 @@
 //! The copy in `send` of a file that a person queues.
-ghost use Rattle.std.specs.Prelude.{◌≡◌, ◌≤◌, false, IfErr, IfOk, IfSome, length};
+ghost use Rattle.std.specs.IoError.{error_kind};
+ghost use Rattle.std.specs.Prelude.{◌≡◌, ◌≤◌, ◌↔◌, false, true, IfErr, IfOk, IfSome, length};
 ghost use Rattle.uug_disk.specs.Copies.{is_needed_by};
 ghost use Rattle.uug_failure.specs.Faults.{IsCopyFault, IsFolderFault};
 ghost use Rattle.uug_talk.specs.declared.gather.TheConstants.{FILE_MAX};
@@ -84,10 +85,11 @@ pub(crate) struct Copied<A: Allocator> {
 }
 
 impl<A: Allocator> Copied<A> {
-    /// Removes it and its mark.
+    /// Removes it and its mark. A copy that can't be removed keeps its mark, so the next run removes it.
     pub(crate) fn remove<R: Files>(&self, rt: &R) {
-        let _ = fs::remove_file(rt, self.path.as_str());
-        let _ = fs::remove_file(rt, self.mark.as_str());
+        if is_gone(fs::remove_file(rt, self.path.as_str())) {
+            let _ = fs::remove_file(rt, self.mark.as_str());
+        }
     }
 
     /// Marks it as ours: the name of the incomplete file becomes that of the mark.
@@ -98,18 +100,22 @@ impl<A: Allocator> Copied<A> {
     }
 
     /// Returns whether it is still the file of its mark.
-    fn is_marked<R: Files>(&self, rt: &R) -> bool {
+    fn is_marked<R: Files>(&self, rt: &R) -> io::Result<bool> {
         is_same(rt, self.path.as_str(), self.mark.as_str())
     }
 
-    /// Removes it, if it is still the file of its mark, and then the mark. None of the jobs that wait needs it.
+    /// Removes it, if it is still the file of its mark, and then the mark. None of the jobs that wait needs it. A copy
+    /// that can't be removed or looked at keeps its mark, so the next run removes it.
     pub(crate) fn clear<R: Files>(&self, rt: &R, _waiting: &[Job])
         requires { is_needed_by self.now.name _waiting.now ≡ false }
     {
-        if self.is_marked(rt) {
-            let _ = fs::remove_file(rt, self.path.as_str());
+        match self.is_marked(rt) {
+            Ok(true) => self.remove(rt),
+            Err(error) if error.kind() != ErrorKind::NotFound => (),
+            _ => {
+                let _ = fs::remove_file(rt, self.mark.as_str());
+            }
         }
-        let _ = fs::remove_file(rt, self.mark.as_str());
     }
 
     /// Moves it to the files of failed jobs below this folder of an end. It is on disk there before it is removed here.
@@ -134,8 +140,9 @@ impl<A: Allocator> Copied<A> {
         let aside = self.aside.as_str();
         match fs::hard_link(rt, mark, aside) {
             Ok(()) => (),
-            Err(error) if error.kind() == ErrorKind::AlreadyExists && is_same(rt, mark, aside) =>
-                (),
+            Err(error)
+                if error.kind() == ErrorKind::AlreadyExists
+                    && is_same(rt, mark, aside).unwrap_or(false) => (),
             Err(error) if error.kind() == ErrorKind::NotFound => {
                 fs::create_dir(rt, failed_files)?;
                 see_folder(rt, front)?;
@@ -276,13 +283,24 @@ pub(crate) fn is_copy<A: Allocator + Copy, R: Files>(
     name: Name,
 ) -> Result<bool, AllocError> {
     let copy = copied_as(alloc, dir, name)?;
-    Ok(copy.is_marked(rt))
+    Ok(copy.is_marked(rt).unwrap_or(false))
 }
 
 /// Returns whether two paths are names of one file.
-fn is_same<R: Files>(rt: &R, path: &str, other: &str) -> bool {
-    match (fs::metadata(rt, path), fs::metadata(rt, other)) {
-        (Ok(file), Ok(other)) => file.dev() == other.dev() && file.ino() == other.ino(),
-        _ => false,
+fn is_same<R: Files>(rt: &R, path: &str, other: &str) -> io::Result<bool> {
+    let file = fs::metadata(rt, path)?;
+    let other = fs::metadata(rt, other)?;
+    Ok(file.dev() == other.dev() && file.ino() == other.ino())
+}
+
+/// Returns whether a file is gone once the system has answered to its removal.
+fn is_gone(removed: io::Result<()>) -> bool
+    ensures removed { IfOk removed (λ _. result ≡ true) }
+    ensures missing { IfErr removed (λ error.
+        (result ≡ true) ↔ (error_kind error ≡ ErrorKind.NotFound)) }
+{
+    match removed {
+        Ok(()) => true,
+        Err(error) => error.kind() == ErrorKind::NotFound,
     }
 }
