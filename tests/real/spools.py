@@ -910,3 +910,16 @@ def a_spool_that_cant_be_written(one):
             ((0, report("caller", struck=2), ""), (0, report("called"), ""), {"x": "x\n", "y": "y\n"}))
 
 
+@scene()
+def names_that_lead_elsewhere(one):
+    """A system's name is that of its folder in the spool: with a slash, or a dot in front, it is none, and nothing is made."""
+    nodes = Nodes(one)
+    there = names_in(one.work)
+    for verb, more in (("call", ()), ("answer", ("--wait", "1"))):
+        for name in (".", "..", ".Status", "../x", "x/y"):
+            ended = one.run(nodes.words(verb, "alpha", one.line, name, *more))
+            one.row(f"{verb} of {name}", ended.all(),
+                    (2, "", said("bad usage", f'"{name}" is no name of a system in a spool: it has no slash, and no dot in front')))
+    made = [name for name in names_in(one.work) if name not in there and not name.startswith((".out", ".err"))]
+    one.row("nothing is made", (made, names_in(nodes.at("alpha")), names_in(nodes.at("alpha", "spool"))),
+            ([], ["lock", "pub", "spool", "src"], []))

@@ -1,5 +1,5 @@
 -- What a task of one end says (this project's profile).
-use Rattle.std.specs.Prelude.{◌≡◌, ◌==◌, ◌≢◌, ◌<◌, ◌≤◌, ℕ, Bool, List, [], Option, Some, None, IfSome, IsTrue, true, false}
+use Rattle.std.specs.Prelude.{◌≡◌, ◌==◌, ◌≢◌, ◌<◌, ◌≤◌, ◌||◌, not, ℕ, Bool, List, [], Option, Some, None, IfSome, IsTrue, true, false}
 use Rattle.uug_link.specs.Announced.{Announced, announced}
 use Rattle.uug_link.specs.Terms.{IsSize, IsWindow, size_of_code}
 use Rattle.uug_talk.specs.Name.{IsName}
@@ -13,6 +13,7 @@ use Rattle.uug_session.specs.Engine.{BeginsSession, all_ahead}
 use Rattle.uug_session.specs.Node.{NodeState}
 use Rattle.uug_session.specs.Sessions.{HoldsNothing}
 use Rattle.uug_session.specs.declared.place.Place.{Place}
+use Rattle.uug_spool.specs.SpoolNames.{is_system_name}
 use Rattle.uug_transfer.specs.BufferedNodes.{IsCleared}
 use Rattle.uug_transfer.specs.LineNames.{LineShown, line_of, shown, tcp, unix}
 use Rattle.uug_transfer.specs.declared.thinning.Thinning.{Thinning}
@@ -29,6 +30,10 @@ may_have sessions sides.Called (unix path) = true
 may_have sessions sides.Called (tcp host port) = true
 may_have sessions side line = sessions == 1
 
+-- whether the other end may have this name: in a spool it is that of a folder, and leads nowhere else
+abbrev pub has_place : (is_spool : Bool) → (peer : List ℕ) → Bool
+has_place is_spool peer = not is_spool || is_system_name peer
+
 -- a task that may be run: its numbers are in their ranges, so that the largest file may go, its line is one, and its names are
 -- names
 pub record IsTask (task : CallTask) : Type 0 where
@@ -43,6 +48,7 @@ pub record IsTask (task : CallTask) : Type 0 where
   pub turns : IfSome (line_of task.line.now) (λ line. IsTrue (may_have task.sessions task.side line))
   pub me : IsName task.me.now
   pub peer : IsName task.peer.now
+  pub place : IsTrue (has_place task.is_spool task.peer.now)
 
 -- An end announces this window and packets of so many bytes, and is quiet on repeats or not, with short commands or not.
 pub record Announces (window size : ℕ) (quiet short : Bool) (a : Announced) : Type 0 where

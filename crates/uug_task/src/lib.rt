@@ -9,6 +9,6 @@ mod task;
 pub use end_parts::{EndParts, FinishedEnd, begin_end, make_node};
 pub use places::place_in_pair;
 pub use task::{
-    CallTask, MOST_MIN, ReportPlace, SECONDS_MAX, SESSIONS_MAX, Station, Terms, WAIT_MAX, may_have,
-    read_terms,
+    CallTask, MOST_MIN, ReportPlace, SECONDS_MAX, SESSIONS_MAX, Station, Terms, WAIT_MAX,
+    has_place, may_have, read_terms,
 };

@@ -1,6 +1,6 @@
 //! The task of one end, and the terms in its words.
 ghost use Rattle.std.specs.Prelude.{◌≡◌, ◌≢◌, ◌≤◌, ◌↔◌, IfSome, IsTrue, MatchOption, Some};
-ghost use Rattle.uug_task.specs.Tasks.{IsSaidBy, IsTask, may_have, thinning_with, wait_at_device};
+ghost use Rattle.uug_task.specs.Tasks.{IsSaidBy, IsTask, has_place, may_have, thinning_with, wait_at_device};
 ghost use Rattle.uug_transfer.specs.LineNames.{line_of, shown, standard};
 
 use std::time::Duration;
@@ -8,6 +8,7 @@ use uug_failure::EndDir;
 use uug_link::Announce;
 use uug_port::{Pace, SPEED_MAX, SPEED_MIN, packets};
 use uug_session::{Place, Side};
+use uug_spool::is_system_name;
 use uug_talk::Name;
 use uug_transfer::{LineName, PatienceLimits, Thinning, read_line_name};
 
@@ -201,15 +202,19 @@ pub fn read_terms<'a>(task: &CallTask<'a>) -> Option<Terms<'a>>
     if !may_have(task.sessions, task.side, line) {
         return None;
     }
+    let place = Place {
+        me: Name::new(task.me.as_bytes()).ok()?,
+        peer: Name::new(task.peer.as_bytes()).ok()?,
+        announce: announce.with_quiet(task.is_quiet).with_short(task.is_short),
+        number: None,
+    };
+    if !has_place(task.is_spool, &place.peer) {
+        return None;
+    }
     Some(Terms {
         line,
         station: Station {
-            place: Place {
-                me: Name::new(task.me.as_bytes()).ok()?,
-                peer: Name::new(task.peer.as_bytes()).ok()?,
-                announce: announce.with_quiet(task.is_quiet).with_short(task.is_short),
-                number: None,
-            },
+            place,
             pace: Pace {
                 timeout: task.seconds,
                 speed: task.speed,
@@ -230,6 +235,13 @@ pub fn may_have(sessions: u32, side: Side, line: LineName<'_>) -> bool
         (Side::Called, LineName::Unix(_) | LineName::Tcp(_, _)) => true,
         _ => sessions == 1,
     }
+}
+
+/// Returns whether the other end may have this name: in a spool it is that of a folder, and leads nowhere else.
+pub fn has_place(is_spool: bool, peer: &Name) -> bool
+    ensures { result ≡ has_place is_spool peer.now }
+{
+    !is_spool || is_system_name(peer)
 }
 
 /// Returns whether a number is in its range, or there is none.

@@ -2,13 +2,13 @@
 use Rattle.std.specs.Prelude.{◌≢◌, ◌<◌, ◌≤◌, None, IfSome, IsTrue, ⊤}
 use Rattle.uug_link.specs.Terms.{IsSize, IsWindow}
 use Rattle.uug_port.specs.Timers.{IsSpeed}
-use Rattle.uug_task.specs.Tasks.{may_have}
+use Rattle.uug_task.specs.Tasks.{has_place, may_have}
 use Rattle.uug_task.specs.declared.task.CallTask.{CallTask}
 use Rattle.uug_task.specs.declared.task.TheConstants.{MOST_MIN, SECONDS_MAX, SESSIONS_MAX, WAIT_MAX}
 use Rattle.uug_talk.specs.Name.{IsName}
 use Rattle.uug_transfer.specs.LineNames.{line_of}
 use Rattle.uug_words.specs.declared.part.Part.{Part}
-use Rattle.uug_words.specs.declared.part.Part.TheVariants.{Seconds, Speed, Wait, Sessions, Window, Size, Most, Line, Me, Peer, Turns}
+use Rattle.uug_words.specs.declared.part.Part.TheVariants.{Seconds, Speed, Wait, Sessions, Window, Size, Most, Line, Me, Peer, Place, Turns}
 
 -- this part is as a task has to have it that may be run
 abbrev pub IsRight : CallTask → Part → Type 0
@@ -22,6 +22,7 @@ IsRight task Most = MOST_MIN ≤ task.most
 IsRight task Line = line_of task.line.now ≢ None
 IsRight task Me = IsName task.me.now
 IsRight task Peer = IsName task.peer.now
+IsRight task Place = IsName task.peer.now → IsTrue (has_place task.is_spool task.peer.now)
 IsRight task Turns = IfSome (line_of task.line.now) (λ line. IsTrue (may_have task.sessions task.side line))
 
 abbrev pub RightTimes : CallTask → Type 0
@@ -42,7 +43,8 @@ RightBefore task Most = RightTimes task × IsRight task Window × IsRight task S
 RightBefore task Line = RightNumbers task
 RightBefore task Me = RightNumbers task × IsRight task Line
 RightBefore task Peer = RightNumbers task × IsRight task Line × IsRight task Me
-RightBefore task Turns = RightNumbers task × IsRight task Line × IsRight task Me × IsRight task Peer
+RightBefore task Place = RightNumbers task × IsRight task Line × IsRight task Me × IsRight task Peer
+RightBefore task Turns = RightNumbers task × IsRight task Line × IsRight task Me × IsRight task Peer × IsRight task Place
 
 -- of the parts that are wrong it is the first
 pub record IsFirstWrong (task : CallTask) (part : Part) : Type 0 where

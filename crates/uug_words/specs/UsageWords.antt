@@ -6,7 +6,7 @@ use Rattle.std.specs.Option.{option_map}
 use Rattle.std.specs.Path.{rsplit_once}
 use Rattle.uug_words.specs.Parts.{IsFirstWrong}
 use Rattle.uug_words.specs.declared.part.Part.{Part}
-use Rattle.uug_words.specs.declared.part.Part.TheVariants.{Seconds, Speed, Wait, Sessions, Window, Size, Most, Line, Me, Peer, Turns}
+use Rattle.uug_words.specs.declared.part.Part.TheVariants.{Seconds, Speed, Wait, Sessions, Window, Size, Most, Line, Me, Peer, Place, Turns}
 use Rattle.uug_scan.specs.Detailed.{escaped}
 use Rattle.uug_task.specs.Tasks.{IsTask}
 use Rattle.uug_task.specs.declared.task.CallTask.{CallTask}
@@ -24,6 +24,10 @@ name_words name = codes "\"" ++ (escaped name ++ codes "\" is no name of a syste
 -- of the other end's name, which an end may be told none of
 abbrev pub peer_words : List ℕ → List ℕ
 peer_words name = if length name == 0 then codes "the name of the other end is missing: --peer" else name_words name
+
+-- of a name that is no folder's of a spool
+abbrev pub place_words : List ℕ → List ℕ
+place_words name = codes "\"" ++ (escaped name ++ codes "\" is no name of a system in a spool: it has no slash, and no dot in front")
 
 -- what stands behind the last colon is a port
 abbrev pub is_port_behind : Option (List ℕ × List ℕ) → Bool
@@ -54,6 +58,7 @@ part_words task Most = range_words (codes "most") (Some task.most) (codes "10485
 part_words task Line = line_words task.line.now
 part_words task Me = name_words task.me.now
 part_words task Peer = peer_words task.peer.now
+part_words task Place = place_words task.peer.now
 part_words task Turns = range_words (codes "sessions") (Some task.sessions) (codes "1: only at a socket there may be more")
 
 -- nothing is said of a task that may be run, and of another what is wrong first

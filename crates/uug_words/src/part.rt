@@ -7,7 +7,7 @@ ghost use Rattle.uug_words.specs.Parts.{IsFirstWrong, IsRight};
 use uug_link::{Announce, WINDOW_MAX};
 use uug_port::{SPEED_MAX, SPEED_MIN};
 use uug_talk::{FILE_MAX, Name};
-use uug_task::{CallTask, SECONDS_MAX, SESSIONS_MAX, WAIT_MAX, may_have};
+use uug_task::{CallTask, SECONDS_MAX, SESSIONS_MAX, WAIT_MAX, has_place, may_have};
 use uug_transfer::read_line_name;
 
 /// The minimum for the bytes of files that an end offers in a session, if it has as many. Each file that may go fits.
@@ -36,6 +36,8 @@ pub enum Part {
     Me,
     /// The other end's name.
     Peer,
+    /// The other end's name, as that of its folder in a spool.
+    Place,
     /// The number of its sessions, which is more than one only at a socket.
     Turns,
 }
@@ -74,6 +76,9 @@ pub fn wrong_part(task: &CallTask<'_>) -> Option<Part>
     if !is_right(task, Part::Peer) {
         return Some(Part::Peer);
     }
+    if !is_right(task, Part::Place) {
+        return Some(Part::Place);
+    }
     if !is_right(task, Part::Turns) {
         return Some(Part::Turns);
     }
@@ -95,6 +100,7 @@ fn is_right(task: &CallTask<'_>, part: Part) -> bool
         Part::Line => read_line_name(task.line).is_some(),
         Part::Me => Name::new(task.me.as_bytes()).is_ok(),
         Part::Peer => Name::new(task.peer.as_bytes()).is_ok(),
+        Part::Place => is_place(task),
         Part::Turns => has_turns(task),
     }
 }
@@ -106,6 +112,16 @@ fn is_within(number: Option<u32>, least: u32, most: u32) -> bool
     match number {
         Some(number) => least <= number && number <= most,
         None => true,
+    }
+}
+
+/// Returns whether the other end may have its name, or that is none.
+fn is_place(task: &CallTask<'_>) -> bool
+    ensures { IsTrue result ↔ IsRight task.now Part.Place }
+{
+    match Name::new(task.peer.as_bytes()) {
+        Ok(peer) => has_place(task.is_spool, &peer),
+        Err(_) => true,
     }
 }
 

@@ -1,6 +1,6 @@
 //! The words for what is wrong with the usage.
 ghost use Rattle.std.specs.Prelude.{◌≡◌, ◌++◌, IfOk, OnOk, is_some, string_bytes};
-ghost use Rattle.uug_words.specs.UsageWords.{IsUsageOf, is_port, lack_words, line_words, name_words, pair_words, part_words, peer_words, range_words};
+ghost use Rattle.uug_words.specs.UsageWords.{IsUsageOf, is_port, lack_words, line_words, name_words, pair_words, part_words, peer_words, place_words, range_words};
 ghost use Rattle.uug_transfer.specs.FaultInjection.{is_in_range};
 ghost use Rattle.uug_transfer.specs.LineNames.{port_of};
 
@@ -90,6 +90,7 @@ fn add_part<A: Allocator>(
         Part::Line => add_line(text, task.line),
         Part::Me => add_name(text, task.me),
         Part::Peer => add_peer(text, task.peer),
+        Part::Place => add_place(text, task.peer),
         Part::Turns => add_range(
             text,
             "sessions",
@@ -135,6 +136,16 @@ fn add_peer<A: Allocator>(text: &mut String<A>, name: &str) -> Result<(), AllocE
     } else {
         add_name(text, name)
     }
+}
+
+/// Appends that this is no name of a system in a spool.
+fn add_place<A: Allocator>(text: &mut String<A>, name: &str) -> Result<(), AllocError>
+    ensures { OnOk result
+        (string_bytes text.new ≡ string_bytes text.old ++ place_words name.now) }
+{
+    text.push_str("\"")?;
+    add_escaped(text, name.as_bytes())?;
+    text.push_str("\" is no name of a system in a spool: it has no slash, and no dot in front")
 }
 
 /// Appends what is missing for this to be a line.
