@@ -678,7 +678,8 @@ def locks_of_systems(one):
         called = called.stop()
         one.row(f"the caller of {what}", caller.all(), (1, report("caller", "refused", pending=2),
                 said('the other end refused: "RLCK" (it is busy: call later)')))
-        one.row(f"{what}, whose caller is locked, waits for the next one", (called.status, called.out), ("waits", ""))
+        one.row(f"{what}, whose caller is locked, says so, and waits for the next one", called.all(),
+                ("waits", "", said(f"system alpha is locked by {other}")))
     one.row("its log", [line for line in nodes.log("beta") if "locked" in line],
             ["uucico alpha - (TIME) ERROR: System already locked"] * 2)
     one.row("alpha's status", re.sub(r" TIME \d+", " TIME N", nodes.status("alpha")), "4 4 TIME N Handshake failed beta\n")
@@ -884,6 +885,8 @@ def jobs_that_cant_be_taken_away(one):
     caller, called = nodes.talk()
     deliver(nodes, mails)
     one.row("it comes once, when it is mended", (caller.status, mails, nodes.there("alpha")), (0, ["mail\n"], {}))
+
+
 @scene("root")
 def a_spool_that_cant_be_written(one):
     """A job that could not be taken off the disk is not sent: it would come again in each session."""

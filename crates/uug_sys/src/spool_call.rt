@@ -419,9 +419,19 @@ where
         return Err(fault.tell(why));
     }
     tell_fault(alloc, rt, &said_of(task), station.place.peer, LOCKED);
+    say_locked(alloc, rt, task.locks, station.place.peer);
     let words = lock_words(alloc, &station.place.me)?;
     let _ = say(line, words.as_slice());
     talk_to_nobody(alloc, rt, task, station, output, why)
+}
+
+/// Says on standard error that another run talks with this system, which has called.
+fn say_locked<A: Allocator + Copy, R: Eprint>(alloc: A, rt: &R, locks: &str, system: Name) {
+    let mut remark = String::new(alloc);
+    if remark_locked(alloc, &mut remark, locks, system.as_str()).is_ok() {
+        let said = remark.as_str();
+        let _ = eprint!(rt; "{said}");
+    }
 }
 
 /// Runs the session of an end that has heard no caller's name, or only the name of one with which another run talks.
