@@ -523,7 +523,7 @@ folders "send x y u"
 row "a call where nobody listens" 3 "${device}uucpair: unix:$socket: no such file or directory$line_feed" "" \
     call "unix:$socket" "$a" --me a --peer b </dev/null
 # EPERM: a regular file can't be waited for
-row "a call over what is no device" 3 "${device}uucpair: $a/jobs: permission denied$line_feed" "" call "$a/jobs" "$a" --me a --peer b </dev/null
+row "a call over what is no device" 3 "${device}uucpair: $a/jobs: not a terminal$line_feed" "" call "$a/jobs" "$a" --me a --peer b </dev/null
 holds "the job that is left after no call" "$a/jobs" "send x y u$line_feed"
 
 by=at_a_terminal row "an answer at a terminal" 1 "uucpair: waiting on unix:$socket${line_feed}uucpair: heard nothing$line_feed" \

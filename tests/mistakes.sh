@@ -103,6 +103,10 @@ mistake "standard input that is no line" 3 "${fault}-: standard input or output 
 chmod 0 "$work/device"
 call_of ./device a
 mistake "no right to a device" 3 "${fault}./device: permission denied" "${call[@]}"
+chmod 666 "$work/device"
+mistake "a file that is no device" 3 "${fault}./device: not a terminal" "${call[@]}"
+call_of /dev/null a
+mistake "a device that is no terminal" 3 "${fault}/dev/null: not a terminal" "${call[@]}"
 
 # waiting LINE SAID: who waits there is told so at the start.
 waiting() {

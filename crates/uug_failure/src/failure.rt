@@ -110,6 +110,8 @@ pub enum Cause {
     NoSpool,
     /// A standard stream is something that can't be waited for.
     NoStream,
+    /// A device is something that can't be waited for.
+    NoTerminal,
 }
 
 impl Cause {
@@ -131,7 +133,8 @@ impl Cause {
             | Cause::InUse
             | Cause::IsSpool
             | Cause::NoSpool
-            | Cause::NoStream => false,
+            | Cause::NoStream
+            | Cause::NoTerminal => false,
         }
     }
 }

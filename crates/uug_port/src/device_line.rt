@@ -7,6 +7,7 @@ use crate::waiting::Waiting;
 use mio::Interest;
 use std::alloc::Allocator;
 use std::fs::{File, OpenOptions, TryLockError};
+use std::io::ErrorKind;
 use std::net::Net;
 use std::rt::Files;
 use std::time::Duration;
@@ -22,8 +23,9 @@ pub struct DeviceLine<A: Allocator> {
 }
 
 impl<A: Allocator + Copy> DeviceLine<A> {
-    /// Opens the device at this path for this run alone. If another run holds it, `InUse` is the cause of the failure.
-    /// Its calls wait as long as `time`, in whole seconds.
+    /// Opens the device at this path for this run alone. If another run holds it, `InUse` is the cause of the failure,
+    /// and `NoTerminal` if it can't be waited for, which the system reports as `PermissionDenied`: a file, or
+    /// `/dev/null`. Its calls wait as long as `time`, in whole seconds.
     pub fn open<R: Files<File = File> + Net>(
         alloc: A,
         rt: &R,
@@ -39,6 +41,7 @@ impl<A: Allocator + Copy> DeviceLine<A> {
                 waiting,
                 faults: Faults::none(),
             }),
+            Err(error) if error.kind() == ErrorKind::PermissionDenied => Err(Cause::NoTerminal),
             Err(error) => Err(Cause::of(&error)),
         }
     }

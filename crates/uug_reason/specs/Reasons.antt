@@ -2,7 +2,7 @@
 use Rattle.std.specs.Fmt.{signed_decimal}
 use Rattle.std.specs.Prelude.{ℕ, ℤ, ◌==◌, List, [], ◌++◌, codes, Option, Some, None, if◌then◌else◌}
 use Rattle.uug_failure.specs.declared.failure.Cause.{Cause}
-use Rattle.uug_failure.specs.declared.failure.Cause.TheVariants.{Refused, MovedNothing, TooMuch, NotAFile, NotANumber, InUse, IsSpool, NoSpool, NoStream}
+use Rattle.uug_failure.specs.declared.failure.Cause.TheVariants.{Refused, MovedNothing, TooMuch, NotAFile, NotANumber, InUse, IsSpool, NoSpool, NoStream, NoTerminal}
 use Rattle.uug_failure.specs.declared.failure.EndText.{EndText}
 use Rattle.uug_failure.specs.declared.failure.EndText.TheVariants.{Jobs, Number, Failed}
 use Rattle.uug_failure.specs.declared.failure.Resource.{Resource}
@@ -85,6 +85,7 @@ cause_words resource InUse = codes "in use"
 cause_words resource IsSpool = codes "it is a spool of Taylor UUCP: give --spool"
 cause_words resource NoSpool = codes "it has jobs or send, and is no spool: leave out --spool"
 cause_words resource NoStream = codes "standard input or output is no socket, pipe or terminal"
+cause_words resource NoTerminal = codes "not a terminal"
 
 -- ---- both, as a line
 abbrev pub reason_line : Places → SystemFailure → List ℕ

@@ -29,6 +29,7 @@ pub(crate) fn add_cause<A: Allocator>(
         Cause::NoStream => {
             text.push_str("standard input or output is no socket, pipe or terminal")
         }
+        Cause::NoTerminal => text.push_str("not a terminal"),
     }
 }
 
