@@ -515,7 +515,7 @@ holds "what the called end says of both numbers" "$work/answered" \
     "uucpair: the number of this end is 2, that of the other end 17${line_feed}uucpair: heard nothing${line_feed}called gaveup pending 0 struck 0 failed 0$line_feed"
 folders "send x y u"
 printf 'seven\n' >"$a/number"
-row "a call with a bad number file" 2 "uucpair: bad number file$line_feed" "" \
+row "a call with a bad number file" 2 "uucpair: bad number file${line_feed}uucpair: $a/number: not a number$line_feed" "" \
     call "unix:$socket" "$a" --me a --peer b --number </dev/null
 holds "the bad number" "$a/number" "seven$line_feed"
 holds "the job that is left behind a bad number" "$a/jobs" "send x y u$line_feed"

@@ -280,7 +280,7 @@ def the_number(one):
         one.row(f"the called end of one that is {what}, and the right one behind it", (caller.status, *called.end().all()),
                 (0, 0, report("called"), said(f"the number of this end is {kept}{heard}")))
     write(ends.at("beta", "number"), "two\n")
-    one.row("a bad number", one.run(ends.words("answer", one.line)).all(), (2, "", said("bad number file")))
+    one.row("a bad number", one.run(ends.words("answer", one.line)).all(), (2, "", said("bad number file", "beta/number: not a number")))
 
 
 @scene()

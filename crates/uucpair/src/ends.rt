@@ -300,13 +300,13 @@ fn fault_text(
     fault: ToolFault,
     why: Option<SystemFailure>,
 ) -> Result<String, AllocError> {
-    let word = format!(in alloc; "{fault}")?;
+    let mut word = format!(in alloc; "{fault}")?;
     let (ToolFault::Device, Some(failure)) = (fault, why) else {
         return Ok(word);
     };
     match (failure.resource, failure.cause) {
         (Resource::Dir, Cause::InUse) => return Ok(word),
-        (_, Cause::NotANumber) => return format!(in alloc; "{}", BadNumber),
+        (_, Cause::NotANumber) => word = format!(in alloc; "{}", BadNumber)?,
         _ => (),
     }
     let report = call.report.unwrap_or("");

@@ -154,11 +154,22 @@ abbrev pub held_by_another : Places → (end : ℕ) → Resource → List ℕ
 held_by_another p end Line = p.line
 held_by_another p end resource = dir_of p.first p.second end
 
--- The message names the line or the folder that another run holds. It reports a bad number file alone, and of another failed call
--- of the system on what and why.
+-- this line says which file has no number in it, unless there was no memory for that
+abbrev pub SaysNumber : (reason : List ℕ) → Stop → Type 0
+SaysNumber reason (stops.Number line) = string_bytes line ≡ reason
+SaysNumber reason (Fault fault) = fault ≡ Memory
+SaysNumber reason (Remarked fault remark) = ⊥
+SaysNumber reason (File name line) = ⊥
+SaysNumber reason (stops.InUse name) = ⊥
+SaysNumber reason (stops.Limit line) = ⊥
+SaysNumber reason (Told fault line) = ⊥
+SaysNumber reason (CommandLine error) = ⊥
+
+-- The message names the line or the folder that another run holds, and a bad number file. It reports of another failed call of the
+-- system on what and why.
 abbrev pub StopsOnCause : Places → SystemFailure → Cause → Stop → Type 0
 StopsOnCause p failure causes.InUse stop = NamesFolder (held_by_another p failure.end failure.resource) stop
-StopsOnCause p failure causes.NotANumber stop = stop ≡ stops.Number (record {})
+StopsOnCause p failure causes.NotANumber stop = SaysNumber (reason_line p failure) stop
 StopsOnCause p failure cause stop = SaysReason (reason_line p failure) stop
 
 -- it is said what is wrong with the usage, which this holds of, unless there was no memory for that

@@ -5,11 +5,10 @@ ghost use Rattle.uug_reason.specs.Reasons.{places};
 ghost use Rattle.uug_stop.specs.Stop.{StopsOnCancel, StopsOnCause, StopsOnEnd, StopsOnLoudPair, StopsOnPair, StopsOnPairBy, StopsOnQueue, held_by_another, output_of};
 ghost use Rattle.uug_stop.specs.declared.of_end.TheConstants.{LOG};
 
-use crate::said::{names_copied, names_folder, says_fault, says_reason, says_usage};
+use crate::said::{names_copied, names_folder, says_fault, says_number, says_reason, says_usage};
 use crate::stop::Stop;
 use std::alloc::Global;
 use uug_failure::{Cause, Resource, SystemFailure};
-use uug_folder::BadNumber;
 use uug_reason::reason_line;
 use uug_stream::ToolFault;
 use uug_task::CallTask;
@@ -103,7 +102,7 @@ pub(crate) fn stop_of_end(
 }
 
 /// Returns why one end gave up after a failed call of the system, by its folders and its line. It names what another
-/// run holds, and says a bad number file alone.
+/// run holds, and a bad number file.
 fn stop_of_cause(
     alloc: Global,
     output: &str,
@@ -115,10 +114,14 @@ fn stop_of_cause(
     ensures { StopsOnCause (places output.now line.now first.now second.now)
         failure failure.cause result }
 {
-    match failure.cause {
-        Cause::InUse => names_folder(alloc, held_by_another(line, first, second, failure)),
-        Cause::NotANumber => Stop::Number(BadNumber),
-        _ => says_reason(reason_line(alloc, output, line, first, second, failure)),
+    let cause = failure.cause;
+    if let Cause::InUse = cause {
+        return names_folder(alloc, held_by_another(line, first, second, failure));
+    }
+    let reason = reason_line(alloc, output, line, first, second, failure);
+    match cause {
+        Cause::NotANumber => says_number(reason),
+        _ => says_reason(reason),
     }
 }
 

@@ -91,6 +91,17 @@ fn says_limit(reason: Result<String, AllocError>) -> Stop
     }
 }
 
+/// Returns that a number file has no number in it, as this line says, if there was memory for it.
+pub(crate) fn says_number(reason: Result<String, AllocError>) -> Stop
+    ensures { MatchResult reason (λ line. result ≡ Stop.Number line)
+        (λ _. result ≡ Stop.Fault ToolFault.Memory) }
+{
+    match reason {
+        Ok(line) => Stop::Number(line),
+        Err(_) => Stop::Fault(ToolFault::Memory),
+    }
+}
+
 /// Returns that the file of this name can't be read, and why, if there is memory to say that.
 pub(crate) fn names_file(alloc: Global, path: &str, why: Option<SystemFailure>) -> Stop
     ensures { NamesFile path.now why result }

@@ -24,9 +24,9 @@ pub enum Stop {
     /// Another run works in the folder of this name, or holds the line of this name.
     #[error("uucpair: device fault\nuucpair: {0} is in use\n")]
     InUse(String),
-    /// A number file without a number in it.
-    #[error("uucpair: {0}\n")]
-    Number(BadNumber),
+    /// A number file without a number in it, which a line names.
+    #[error("uucpair: {BadNumber}\n{0}")]
+    Number(String),
     /// Something is over a limit of the program, as a line says.
     #[error("uucpair: over a limit\n{0}")]
     Limit(String),
