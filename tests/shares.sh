@@ -44,7 +44,7 @@ try() {
         left=$(wc -l <"$work/a/jobs")
         seen="$seen$left "
         [ "$status" = 0 ] || { echo "  $name: status $status: $(cat "$work/said")"; bad=1; }
-        [ "$left" = 0 ] || grep -q "^uucpair: $left jobs wait for the next session\$" "$work/said" ||
+        [ "$left" = 0 ] || grep -qE "^uucpair: (1 job waits|$left jobs wait) for the next session\$" "$work/said" ||
             { echo "  $name: it is not said that $left wait: $(cat "$work/said")"; bad=1; }
     done
     for number in $(seq "$count"); do

@@ -38,7 +38,7 @@ CALLER_LOG = [
 CALLED_LOG = [
     "Incoming call (login - port {line})", "Receiving ~/x (9 bytes)", "Receiving empty (0 bytes)", "Sending r (14 bytes)",
     "ERROR: request gone g: refused", "Receiving long (9000 bytes)", "Sending y (5000 bytes)", "Receiving asked (15 bytes)",
-    "ERROR: send y .hidden: refused", "ERROR: 1 jobs were given up", "Call complete (14038 bytes)",
+    "ERROR: send y .hidden: refused", "ERROR: 1 job was given up", "Call complete (14038 bytes)",
 ]
 
 

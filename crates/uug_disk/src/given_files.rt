@@ -107,7 +107,9 @@ fn list_given<A: Allocator + Copy, R: Files + Eprint + Alloc + Clone + Drop>(
 
 /// Reports how many jobs wait for another session.
 fn say_waiting(rt: &impl Eprint, count: usize) {
-    if count > 0 {
+    if count == 1 {
+        let _ = eprint!(rt; "uucpair: 1 job waits for the next session\n");
+    } else if count > 1 {
         let _ = eprint!(rt; "uucpair: {count} jobs wait for the next session\n");
     }
 }

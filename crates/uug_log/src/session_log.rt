@@ -98,7 +98,8 @@ impl<'a, R: Clock, A: Allocator + Copy> SessionLog<'a, R, A> {
     /// and `said` what else is to be said of it.
     pub fn end(&mut self, bad: Option<&str>, said: &str, failed: usize) {
         if failed > 0 && !self.file.is_spool() {
-            if let Ok(text) = format!(in self.alloc; "{failed} jobs were given up") {
+            let words = if failed == 1 { "job was" } else { "jobs were" };
+            if let Ok(text) = format!(in self.alloc; "{failed} {words} given up") {
                 self.fault(text.as_str());
             }
         }
