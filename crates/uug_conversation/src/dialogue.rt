@@ -6,6 +6,7 @@ ghost use Rattle.uug_conversation.specs.Jobs.{Lists, at_start, pending};
 ghost use Rattle.uug_conversation.specs.Left.{left_of};
 ghost use Rattle.uug_conversation.specs.MemoryHoldings.{held_by, holdings_of};
 ghost use Rattle.uug_conversation.specs.Partials.{partials_then};
+ghost use Rattle.uug_conversation.specs.PartialView.{shown_partial};
 ghost use Rattle.uug_conversation.specs.Machine.{between, kind_awaited, on_past_limit, opening, replies, reply_to, step};
 ghost use Rattle.uug_conversation.specs.Outgoing.{IsSayable, sayings_of};
 ghost use Rattle.uug_conversation.specs.Party.{HasNames};
@@ -19,6 +20,7 @@ use crate::choice::front_of;
 use crate::machine::{go_on, on_text};
 use crate::memory_spool::MemorySpool;
 use crate::outgoing::{Outgoing, SAYINGS_MAX};
+use crate::partial_file::PartialFile;
 use crate::queue::Queue;
 use crate::reaction::Reaction;
 use crate::side::Side;
@@ -286,6 +288,18 @@ impl<A: Allocator + Copy> Dialogue<A> {
         }) }
         ensures err { OnErr result (held_by spool.new ≡ held_by spool.old) }
     {
+        match self.left(spool)? {
+            Some(file) => spool.hold(file),
+            None => Ok(()),
+        }
+    }
+
+    /// Returns what is left of a file if the session has ended in its middle: what the spool held of it, and what came
+    /// behind that.
+    pub fn left<S: Spool>(&self, spool: &S) -> Result<Option<PartialFile<A>>, AllocError>
+        ensures { IfOk result (λ found.
+            shown_partial found ≡ left_of (S.holdings spool.now) self.now.machine) }
+    {
         match self.awaits {
             Awaits::SentFile {
                 source,
@@ -293,10 +307,14 @@ impl<A: Allocator + Copy> Dialogue<A> {
                 ..
             } => {
                 let front = front_of(spool, &source, &Some(told));
-                let whole = joined(front, self.gather.bytes(), self.alloc)?;
-                spool.hold(source, told, whole)
+                let bytes = joined(front, self.gather.bytes(), self.alloc)?;
+                Ok(Some(PartialFile {
+                    source,
+                    told,
+                    bytes,
+                }))
             }
-            _ => Ok(()),
+            _ => Ok(None),
         }
     }
 

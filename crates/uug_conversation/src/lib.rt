@@ -28,6 +28,8 @@ pub use dialogue::Dialogue;
 pub use job::Job;
 pub use memory_spool::{MemorySpool, has_name};
 pub use outgoing::SAYINGS_MAX;
+pub use partial_file::PartialFile;
+pub use partials::Partials;
 pub use queue::{JOBS_MAX, Queue, QueueFault};
 pub use side::Side;
 pub use spool::{FileView, KeepFault, Spool};

@@ -2,10 +2,11 @@ ghost use Rattle.std.specs.Prelude.{◌≡◌, ℕ, ◌≤◌, [], ◌∷◌, �
 ghost use Rattle.uug_conversation.specs.FileView.{shown_file};
 ghost use Rattle.uug_conversation.specs.Holdings.{kept_file};
 ghost use Rattle.uug_conversation.specs.Partials.{none_of, partials_then};
-ghost use Rattle.uug_conversation.specs.PartialView.{key_of};
+ghost use Rattle.uug_conversation.specs.PartialView.{partial_of};
 ghost use Rattle.uug_conversation.specs.MemoryHoldings.{no_holdings, has_name, first_named, holdings_of, kept_of, held_by};
 ghost use Rattle.uug_conversation.specs.Code.StoredModes.{modes_in_range};
 
+use crate::partial_file::PartialFile;
 use crate::partials::Partials;
 use crate::spool::{FileView, KeepFault, Spool};
 use crate::stored::Stored;
@@ -136,22 +137,14 @@ impl<A: Allocator + Copy> MemorySpool<A> {
 
     /// Holds the first bytes of a file, in place of those that were held of it, if the end resumes. Without memory
     /// nothing changes.
-    pub(crate) fn hold(
-        &mut self,
-        source: Name,
-        told: FileDigest,
-        bytes: Vec<u8, A>,
-    ) -> Result<(), AllocError>
+    pub(crate) fn hold(&mut self, file: PartialFile<A>) -> Result<(), AllocError>
         ensures ok { OnOk result (held_by self.new ≡ record (held_by self.old) {
-          partials = partials_then (held_by self.old).partials (Some (record {
-            key = key_of source told;
-            bytes = bytes.items;
-          }));
+          partials = partials_then (held_by self.old).partials (Some (partial_of file));
         }) }
         ensures err { OnErr result (held_by self.new ≡ held_by self.old) }
     {
         match &mut self.partials {
-            Some(partials) => partials.put(source, told, bytes),
+            Some(partials) => partials.put(file),
             None => Ok(()),
         }
     }
@@ -209,6 +202,8 @@ impl<A: Allocator + Copy> Spool for MemorySpool<A> {
         }
         Ok(())
     }
+
+    fn let_go(&mut self, _told: &FileDigest) {}
 
     fn is_lenient(&self) -> bool {
         self.lenient

@@ -9,13 +9,13 @@ use uug_talk::Name;
 
 /// The first bytes of a file that was cut off.
 #[derive(Drop)]
-pub(crate) struct PartialFile<A: Allocator> {
+pub struct PartialFile<A: Allocator> {
     /// Its name at its giver.
-    pub(crate) source: Name,
+    pub source: Name,
     /// The digest that was announced for it.
-    pub(crate) told: FileDigest,
+    pub told: FileDigest,
     /// The bytes that have come.
-    pub(crate) bytes: Vec<u8, A>,
+    pub bytes: Vec<u8, A>,
 }
 
 impl<A: Allocator> PartialFile<A> {

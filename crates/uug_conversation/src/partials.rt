@@ -1,7 +1,7 @@
 ghost use Rattle.std.specs.Prelude.{◌≡◌, ◌≤◌, [], OnOk, OnErr, vec_capacity, vec_len};
 ghost use Rattle.uug_conversation.specs.Partial.{Partial};
 ghost use Rattle.uug_conversation.specs.Partials.{bytes_under, put, without};
-ghost use Rattle.uug_conversation.specs.PartialView.{key_of, partials_of};
+ghost use Rattle.uug_conversation.specs.PartialView.{key_of, partial_of, partials_of};
 
 use crate::partial_file::PartialFile;
 use std::alloc::{AllocError, Allocator};
@@ -11,8 +11,10 @@ use uug_talk::Name;
 
 /// The first bytes of files that were cut off, one of each name and digest.
 #[derive(Drop)]
-pub(crate) struct Partials<A: Allocator> {
+pub struct Partials<A: Allocator> {
     files: Vec<PartialFile<A>, A>,
+    /// The digests of those that are over. There is room for one of each file.
+    over: Vec<FileDigest, A>,
 }
 
 impl<A: Allocator> Model for Partials<A> {
@@ -27,43 +29,49 @@ impl<A: Allocator> Model for Partials<A> {
 
 impl<A: Allocator> Partials<A> {
     /// Makes an empty collection. It takes no memory.
-    pub(crate) fn new(alloc: A) -> Self
+    pub fn new(alloc: A) -> Self
+    where
+        A: Copy,
         ensures { result ≡ [] }
     {
         Partials {
             files: Vec::new(alloc),
+            over: Vec::new(alloc),
         }
     }
 
     /// Returns the bytes that are held of the file with this name at its giver and this announced digest. They are none if
     /// nothing is held of it.
-    pub(crate) fn held(&self, source: &Name, told: &FileDigest) -> &[u8]
+    pub fn held(&self, source: &Name, told: &FileDigest) -> &[u8]
         ensures { result.now ≡ bytes_under (key_of source.now told.now) self.now }
     {
         bytes_under(self.files.as_slice(), source, told)
     }
 
     /// Holds these bytes of a file, in place of those that were held of it. Without memory nothing changes.
-    pub(crate) fn put(
-        &mut self,
-        source: Name,
-        told: FileDigest,
-        bytes: Vec<u8, A>,
-    ) -> Result<(), AllocError>
-        ensures ok { OnOk result (self.new ≡ put (record {
-          key = key_of source told;
-          bytes = bytes.items;
-        }) self.old) }
+    pub fn put(&mut self, file: PartialFile<A>) -> Result<(), AllocError>
+        ensures ok { OnOk result (self.new ≡ put (partial_of file) self.old) }
         ensures err { OnErr result (self.new ≡ self.old) }
     {
         self.files.reserve(1)?;
-        drop_under(&mut self.files, &source, &told);
-        self.files.push_reserved(PartialFile {
-            source,
-            told,
-            bytes,
-        });
+        self.over.reserve(1)?;
+        drop_under(&mut self.files, &file.source, &file.told);
+        self.files.push_reserved(file);
         Ok(())
+    }
+
+    /// Notes that the file with this digest is over. What is held of it stays until the session's end.
+    pub fn let_go(&mut self, told: &FileDigest)
+        ensures { self.new ≡ self.old }
+    {
+        if self.over.len() < self.over.capacity() {
+            self.over.push_reserved(*told);
+        }
+    }
+
+    /// Returns the digests of the files that are over.
+    pub fn over(&self) -> &[FileDigest] {
+        self.over.as_slice()
     }
 }
 

@@ -77,6 +77,13 @@ pub trait Spool {
             → (faults self.old < faults self.new) ⊎ (faults self.old ≡ u64.MAX) }
         ensures count { faults self.old ≤ faults self.new };
 
+    /// Notes that a file with this announced digest, of which something was held, is over: it was kept or refused, or
+    /// doesn't fit. What is held of it is of no more use, but stays until the session's end.
+    fn let_go(&mut self, told: &FileDigest)
+        ensures holdings { holdings self.new ≡ holdings self.old }
+        ensures kept { kept self.new ≡ kept self.old }
+        ensures faults { faults self.new ≡ faults self.old };
+
     /// Returns whether this end refuses what it can't read, and goes on.
     fn is_lenient(&self) -> bool
         ensures { result ≡ (holdings self.now).lenient };

@@ -102,9 +102,24 @@ fn keep_sent<A: Allocator, S: Spool>(
     ensures count { S.faults spool.old ≤ S.faults spool.new }
 {
     match behind_held(spool, source, told, bytes, alloc) {
-        Ok(Some(whole)) => keep(spool, target, mode, told, whole.as_slice()),
+        Ok(Some(whole)) => {
+            let verdict = keep(spool, target, mode, told, whole.as_slice())?;
+            let_go(spool, told);
+            Ok(verdict)
+        }
         Ok(None) => keep(spool, target, mode, told, bytes),
         Err(_) => Err(FileFault::Memory),
+    }
+}
+
+/// Tells the spool that a file is over of which it holds the front.
+fn let_go<S: Spool>(spool: &mut S, told: &Option<FileDigest>)
+    ensures holdings { S.holdings spool.new ≡ S.holdings spool.old }
+    ensures kept { S.kept spool.new ≡ S.kept spool.old }
+    ensures faults { S.faults spool.new ≡ S.faults spool.old }
+{
+    if let Some(told) = told {
+        spool.let_go(told);
     }
 }
 

@@ -67,7 +67,7 @@ front_word b bs digits h k = record {
   solid = All-append (λ b. is_space b ≡ false) (b ∷ bs) digits (All-from_recursion (λ b. is_space b ≡ false) (b ∷ bs) h) k;
 }
 
-digest_words_are_words : (told : FileDigest) → IsSized told → AllByRecursion IsWord (digest_words told)
+pub digest_words_are_words : (told : FileDigest) → IsSized told → AllByRecursion IsWord (digest_words told)
 digest_words_are_words told h = (
   short_word 34 (34 ∷ []) (refl, (refl, tt)),
   (

@@ -3,11 +3,13 @@
 #![tactic(auto)]
 
 mod file_digest;
+mod named_digest;
 mod position;
 mod telling;
 mod told;
 
 pub use file_digest::FileDigest;
+pub use named_digest::NamedDigest;
 pub use position::{position_told, write_consent};
 pub use telling::{TELLING_MAX, give_telling, hash_text, order_telling};
 pub use told::{told_by_answer, told_by_order};

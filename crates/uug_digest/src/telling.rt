@@ -52,7 +52,7 @@ pub fn hash_text(bytes: &[u8]) -> [u8; 64]
 }
 
 /// Returns a text, followed by the announced size and digest.
-fn with_digest(text: &[u8], told: &FileDigest) -> ArrayVec<u8, TELLING_MAX>
+pub(crate) fn with_digest(text: &[u8], told: &FileDigest) -> ArrayVec<u8, TELLING_MAX>
     requires { length text.now + 128 ≤ TELLING_MAX }
     ensures text { result.items ≡ text.now ++ 32 ∷ digest_text told.now }
     ensures within { length result.items ≤ TELLING_MAX }

@@ -48,7 +48,7 @@ fn read_behind_mode(text: &[u8]) -> Option<FileDigest>
     read_digest(rest)
 }
 
-fn read_digest(text: &[u8]) -> Option<FileDigest>
+pub(crate) fn read_digest(text: &[u8]) -> Option<FileDigest>
     ensures { result ≡ digest_in (words text.now) }
 {
     let (_, rest) = split_word(text)?;

@@ -5,11 +5,14 @@ ghost use Rattle.uug_disk.specs.Parts.{written_bytes};
 use crate::part_path::PartPath;
 use crate::written::{Written, write_once, write_text};
 use std::alloc::Allocator;
-use std::fs::{File, OpenFile, OpenOptions};
+use std::fs::{File, OpenFile, OpenOptions, Permissions};
 use std::io::{ErrorKind, Seek, SeekFrom};
-use std::os::unix::fs::{MetadataExt, fchown};
+use std::os::unix::fs::{MetadataExt, PermissionsExt, fchown};
 use std::rt::Files;
 use std::{fs, io};
+
+/// The mode of a file that only its owner may read.
+const PRIVATE: u32 = 0o600;
 
 /// Writes a file beside `path`, syncs it to disk, and renames it to `path`, which is in the folder `dir`. Then syncs
 /// the folder. If that alone fails the file is in its place.
@@ -22,20 +25,49 @@ pub(crate) fn replace_file<'b, R: Files, A: Allocator>(
 ) -> io::Result<Written<'b>>
     ensures { IfOk result (λ written. written_bytes written ≡ bytes.now) }
 {
-    let mut file = part.create(rt)?;
-    match place_file(rt, &mut file, part.as_str(), path, bytes) {
+    let file = part.create(rt)?;
+    replace_with(rt, file, part.as_str(), dir, path, bytes)
+}
+
+/// Does the same with a file that only its owner may read.
+pub(crate) fn replace_private<'b, R: Files<File = File>, A: Allocator>(
+    rt: &R,
+    part: &mut PartPath<A>,
+    dir: &str,
+    path: &str,
+    bytes: &'b [u8],
+) -> io::Result<Written<'b>>
+    ensures { IfOk result (λ written. written_bytes written ≡ bytes.now) }
+{
+    let file = part.create(rt)?;
+    file.set_permissions(Permissions::from_mode(PRIVATE))?;
+    replace_with(rt, file, part.as_str(), dir, path, bytes)
+}
+
+/// Writes this new file at `part`, and puts it at `path`.
+fn replace_with<'b, R: Files>(
+    rt: &R,
+    mut file: R::File,
+    part: &str,
+    dir: &str,
+    path: &str,
+    bytes: &'b [u8],
+) -> io::Result<Written<'b>>
+    ensures { IfOk result (λ written. written_bytes written ≡ bytes.now) }
+{
+    match place_file(rt, &mut file, part, path, bytes) {
         Ok(written) => {
             see_folder(rt, dir)?;
             Ok(written)
         }
         Err(error) => {
-            let _ = fs::remove_file(rt, part.as_str());
+            let _ = fs::remove_file(rt, part);
             Err(error)
         }
     }
 }
 
-/// Does the same while others append to the file at `path`. What that file has after `read_len` bytes stays after the
+/// Does the same as `replace_file` while others append to the file at `path`. What that file has after `read_len` bytes stays after the
 /// new ones. The new file gets its mode and its owner, as far as the system permits. The old file is locked during
 /// that: a process that holds its lock appends to a file that stays in its place. A process that has opened the old
 /// file may still append to it without the lock. These bytes are looked for once the new file is in its place, and

@@ -7,6 +7,7 @@ pub mod LocalLemmas
 pub mod NumberTextLemmas
 mod OpenJobsFacts
 pub mod OpenJobsLemmas
+pub mod PartialLemmas
 pub mod QueuedLemmas
 pub mod QueueingFacts
 pub mod QueueingLemmas

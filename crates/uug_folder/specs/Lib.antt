@@ -12,4 +12,5 @@ pub mod Notices
 pub mod NumberText
 pub mod OpenJobs
 pub mod Queueing
+pub mod PartialTexts
 pub mod TextFiles

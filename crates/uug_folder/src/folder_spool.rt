@@ -125,6 +125,8 @@ impl<F: Folder, A: Allocator + Copy> Spool for FolderSpool<F, A> {
         )
     }
 
+    fn let_go(&mut self, _told: &FileDigest) {}
+
     fn is_lenient(&self) -> bool {
         false
     }

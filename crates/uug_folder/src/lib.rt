@@ -16,6 +16,7 @@ mod local_names;
 mod meanwhile;
 mod notices;
 mod number_text;
+mod partial_file;
 mod queued;
 mod report;
 mod text_file;
@@ -34,6 +35,7 @@ pub use notices::{WhyFailed, why_failed, write_notices};
 pub use number_text::{
     BadNumber, NUMBER_LINE_MAX, number_at_start, number_beside, number_line, read_number_text,
 };
+pub use partial_file::{partial_text, read_partial};
 pub use queued::{
     OrderFault, appended_job, default_user, is_among, is_given_by, is_given_in, nth_name,
     ordered_job, queued_line, sends_any, with_source,

@@ -11,7 +11,7 @@ use std::alloc::Allocator;
 use std::marker::Model;
 use uug_conversation::has_name;
 use uug_digest::FileDigest;
-use uug_session::{FileView, KeepFault, Spool, Verdict};
+use uug_session::{FileView, KeepFault, Partials, Spool, Verdict};
 use uug_talk::Name;
 
 /// The spool over a folder, for another end that names files as real systems do. `~/x` and `/x` are `x` in the folder.
@@ -23,6 +23,8 @@ pub struct LocalNames<F: Folder, A: Allocator> {
     files: FolderSpool<F, A>,
     names: Vec<Name, A>,
     delayed: Vec<Name, A>,
+    /// None if the end doesn't resume files that were cut off.
+    partials: Option<Partials<A>>,
     lenient: bool,
     digests: bool,
 }
@@ -39,6 +41,7 @@ impl<F: Folder, A: Allocator> Model for LocalNames<F, A> {
       files = s.files;
       names = s.names.items;
       delayed = s.delayed.items;
+      partials = s.partials;
       lenient = s.lenient;
       digests = s.digests;
     } };
@@ -48,16 +51,24 @@ impl<F: Folder, A: Allocator> Model for LocalNames<F, A> {
 }
 
 impl<F: Folder, A: Allocator + Copy> LocalNames<F, A> {
-    /// Returns the spool over a folder that has kept nothing, of an end that is not lenient, and announces no
-    /// digests. No file is delayed. It takes no memory.
+    /// Returns the spool over a folder that has kept nothing, of an end that is not lenient, announces no digests, and
+    /// resumes no file. No file is delayed. It takes no memory.
     pub fn new(alloc: A, files: FolderSpool<F, A>) -> Self
         requires { files.stored ≡ [] }
-        ensures { result ≡ record { files = files; names = []; delayed = []; lenient = false; digests = false } }
+        ensures { result ≡ record {
+          files = files;
+          names = [];
+          delayed = [];
+          partials = None;
+          lenient = false;
+          digests = false;
+        } }
     {
         LocalNames {
             files,
             names: Vec::new(alloc),
             delayed: Vec::new(alloc),
+            partials: None,
             lenient: false,
             digests: false,
         }
@@ -68,6 +79,20 @@ impl<F: Folder, A: Allocator + Copy> LocalNames<F, A> {
         ensures { self.new ≡ record self.old { delayed = delayed.items } }
     {
         self.delayed = delayed;
+    }
+
+    /// Sets what its end holds of files that were cut off. None if it doesn't resume such files.
+    pub fn set_partials(&mut self, partials: Option<Partials<A>>)
+        ensures { self.new ≡ record self.old { partials = partials } }
+    {
+        self.partials = partials;
+    }
+
+    /// Returns what its end holds of files that were cut off.
+    pub fn partials(&self) -> &Option<Partials<A>>
+        ensures { result.now ≡ self.now.partials }
+    {
+        &self.partials
     }
 
     /// Sets whether its end refuses what it can't read, and goes on.
@@ -124,7 +149,10 @@ impl<F: Folder, A: Allocator + Copy> Spool for LocalNames<F, A> {
     }
 
     fn held(&self, source: &Name, told: &FileDigest) -> &[u8] {
-        self.files.held(source, told)
+        match &self.partials {
+            Some(partials) => partials.held(source, told),
+            None => &[],
+        }
     }
 
     fn keep(&mut self, name: &Name, mode: u16, bytes: &[u8]) -> Result<(), KeepFault> {
@@ -143,6 +171,12 @@ impl<F: Folder, A: Allocator + Copy> Spool for LocalNames<F, A> {
         Ok(())
     }
 
+    fn let_go(&mut self, told: &FileDigest) {
+        if let Some(partials) = &mut self.partials {
+            partials.let_go(told);
+        }
+    }
+
     fn is_lenient(&self) -> bool {
         self.lenient
     }
@@ -155,7 +189,7 @@ impl<F: Folder, A: Allocator + Copy> Spool for LocalNames<F, A> {
         self.files.faults()
     }
 
-    ghost modes = { λ s. local_modes s.lenient s.digests s.delayed
+    ghost modes = { λ s. local_modes s.lenient s.digests s.delayed s.partials
         (folder_holdings (F.barred s.files.folder) (map kept_of s.files.files))
         (modes_in_range s.files.files) };
 }

@@ -2,6 +2,7 @@
 use Rattle.std.specs.Prelude.{ℕ, Bool, true, false, List, is_none, Option, Some, None, if◌then◌else◌}
 use Rattle.uug_conversation.specs.Holdings.{File, Holdings, Kept}
 use Rattle.uug_conversation.specs.MemoryHoldings.{first_named, has_name}
+use Rattle.uug_conversation.specs.Partial.{Partial}
 use Rattle.uug_conversation.specs.declared.verdict.Verdict.TheVariants.{Never, Yes}
 use Rattle.uug_folder.specs.LocalNames.{local_source}
 use Rattle.uug_mailbox.specs.Places.{Public, landing, place_in}
@@ -27,14 +28,14 @@ delayed_in public (Some name) = if public.is_unknown then true else has_name pub
 abbrev pub is_refused : Public → (name : List ℕ) → Bool
 is_refused public name = is_none (place_in public name)
 
-abbrev pub mail_holdings : (lenient digests : Bool) → Public → List Kept → Holdings
-mail_holdings lenient digests public files = record {
+abbrev pub mail_holdings : (lenient digests : Bool) → Public → (partials : Option (List Partial)) → List Kept → Holdings
+mail_holdings lenient digests public partials files = record {
   file = given files;
   delayed = λ name. delayed_in public (local_source name);
   verdict = λ name. if is_refused public name then Never else Yes;
   immovable = is_refused public;
   landing = landing public;
-  partials = None;
+  partials = partials;
   lenient = lenient;
   digests = digests;
 }

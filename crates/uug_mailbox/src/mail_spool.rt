@@ -19,7 +19,7 @@ use std::snapshot::Snapshot;
 use uug_conversation::has_name;
 use uug_digest::FileDigest;
 use uug_folder::local_source;
-use uug_session::{FileView, KeepFault, Spool, Stored, Verdict};
+use uug_session::{FileView, KeepFault, Partials, Spool, Stored, Verdict};
 use uug_spool::Disk;
 use uug_talk::{MODE_MAX, Name};
 
@@ -29,6 +29,8 @@ use uug_talk::{MODE_MAX, Name};
 pub struct MailSpool<D, A: Allocator> {
     given: Vec<Stored<A>, A>,
     public: PublicFolder<A>,
+    /// Holds the first bytes of files that were cut off, if the end resumes such files.
+    partials: Option<Partials<A>>,
     /// The files that were kept, for clauses alone: the bytes are in the spool, and no longer in memory.
     kept: Vec<Snapshot<Stored<A>>, A>,
     /// The folders of the spool.
@@ -40,17 +42,19 @@ pub struct MailSpool<D, A: Allocator> {
 }
 
 impl<D: Disk, A: Allocator + Copy> MailSpool<D, A> {
-    /// Makes the spool with these files to give, over these folders, that has kept none. It takes no memory.
+    /// Makes the spool with these files to give, over these folders, that has kept none, and holds this of files that
+    /// were cut off. It takes no memory.
     pub fn new(
         alloc: A,
         given: Vec<Stored<A>, A>,
         public: PublicFolder<A>,
         folder: SpoolFolder<D, A>,
+        partials: Option<Partials<A>>,
         lenient: bool,
         digests: bool,
     ) -> Self
         ensures holdings { ⟦<MailSpool<D, A> as Spool>⟧.holdings result
-            ≡ mail_holdings lenient digests (shown_public public) (map kept_of given.items) }
+            ≡ mail_holdings lenient digests (shown_public public) partials (map kept_of given.items) }
         ensures kept { ⟦<MailSpool<D, A> as Spool>⟧.kept result ≡ [] }
         ensures folder { result.folder ≡ folder }
         ensures faults { result.faults ≡ 0 }
@@ -58,6 +62,7 @@ impl<D: Disk, A: Allocator + Copy> MailSpool<D, A> {
         MailSpool {
             given,
             public,
+            partials,
             kept: Vec::new(alloc),
             folder,
             lenient,
@@ -66,11 +71,19 @@ impl<D: Disk, A: Allocator + Copy> MailSpool<D, A> {
             alloc,
         }
     }
+
+    /// Returns what its end holds of files that were cut off.
+    pub fn partials(&self) -> &Option<Partials<A>>
+        ensures { result.now ≡ self.now.partials }
+    {
+        &self.partials
+    }
 }
 
 #[tactic(auto, using(crate::proofs::OverLemmas::none_done))]
 impl<D: Disk, A: Allocator + Copy> Spool for MailSpool<D, A> {
-    ghost holdings = { λ s. mail_holdings s.lenient s.digests (shown_public s.public) (map kept_of s.given.items) };
+    ghost holdings = { λ s. mail_holdings s.lenient s.digests (shown_public s.public) s.partials
+        (map kept_of s.given.items) };
 
     ghost kept = { λ s. map kept_of (map (λ f. f.value) s.kept.items) };
 
@@ -96,8 +109,11 @@ impl<D: Disk, A: Allocator + Copy> Spool for MailSpool<D, A> {
         is_delayed_in(&self.public, &local_source(name))
     }
 
-    fn held(&self, _source: &Name, _told: &FileDigest) -> &[u8] {
-        &[]
+    fn held(&self, source: &Name, told: &FileDigest) -> &[u8] {
+        match &self.partials {
+            Some(partials) => partials.held(source, told),
+            None => &[],
+        }
     }
 
     /// Puts the file in its place by just the operations that its name, its bytes and the markers say.
@@ -138,6 +154,12 @@ impl<D: Disk, A: Allocator + Copy> Spool for MailSpool<D, A> {
         Ok(())
     }
 
+    fn let_go(&mut self, told: &FileDigest) {
+        if let Some(partials) = &mut self.partials {
+            partials.let_go(told);
+        }
+    }
+
     fn is_lenient(&self) -> bool {
         self.lenient
     }
@@ -150,7 +172,8 @@ impl<D: Disk, A: Allocator + Copy> Spool for MailSpool<D, A> {
         self.faults
     }
 
-    ghost modes = { λ s. mail_modes s.lenient s.digests (shown_public s.public) s.given.items };
+    ghost modes = { λ s. mail_modes s.lenient s.digests (shown_public s.public) s.partials
+        s.given.items };
 }
 
 /// Returns whether the file of this name in the public folder may be given later.

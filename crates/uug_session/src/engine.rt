@@ -16,6 +16,7 @@ ghost use Rattle.uug_conversation.specs.DialogueValue.{dialogue_of, dialogue_has
 ghost use Rattle.uug_conversation.specs.Left.{left_of};
 ghost use Rattle.uug_conversation.specs.MemoryHoldings.{held_by, holdings_of};
 ghost use Rattle.uug_conversation.specs.Partials.{partials_then};
+ghost use Rattle.uug_conversation.specs.PartialView.{shown_partial};
 
 use crate::end::End;
 use crate::greeting::{Greeted, Greeting, number_behind};
@@ -25,7 +26,9 @@ use crate::place::Place;
 use crate::stage::Stage;
 use std::alloc::{AllocError, Allocator};
 use std::marker::Model;
-use uug_conversation::{Dialogue, FileFault, MemorySpool, Queue, SAYINGS_MAX, Side, Spool};
+use uug_conversation::{
+    Dialogue, FileFault, MemorySpool, PartialFile, Queue, SAYINGS_MAX, Side, Spool,
+};
 use uug_link::{Announce, Link, LinkFault, Outbox, Outcome, TIMEOUTS_MAX, WINDOW_MAX};
 use uug_packet::Packet;
 use uug_talk::{Message, Name};
@@ -618,6 +621,14 @@ impl<A: Allocator + Copy> Engine<A> {
         ensures err { OnErr result (held_by spool.new ≡ held_by spool.old) }
     {
         self.dialogue.leave(spool)
+    }
+
+    /// Returns what is left of a file.
+    pub(crate) fn left<S: Spool>(&self, spool: &S) -> Result<Option<PartialFile<A>>, AllocError>
+        ensures { IfOk result (λ found.
+            shown_partial found ≡ left_of (S.holdings spool.now) self.now.dialogue.machine) }
+    {
+        self.dialogue.left(spool)
     }
 
     /// Begins the next session: drops what was left of the last one. Every pending job is to be offered.

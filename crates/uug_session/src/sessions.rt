@@ -9,6 +9,7 @@ ghost use Rattle.uug_session.specs.TextsHeld.{nothing_held};
 ghost use Rattle.uug_conversation.specs.Left.{left_of};
 ghost use Rattle.uug_conversation.specs.MemoryHoldings.{held_by, holdings_of};
 ghost use Rattle.uug_conversation.specs.Partials.{partials_then};
+ghost use Rattle.uug_conversation.specs.PartialView.{shown_partial};
 ghost use Rattle.uug_conversation.specs.declared.side.Side.TheVariants.{Caller, Called};
 
 use crate::engine::Engine;
@@ -18,7 +19,7 @@ use crate::texts::Texts;
 use std::alloc::{AllocError, Allocator};
 use std::fmt;
 use thiserror::Error;
-use uug_conversation::{MemorySpool, Queue, Side, Spool};
+use uug_conversation::{MemorySpool, PartialFile, Queue, Side, Spool};
 use uug_link::Outbox;
 use uug_reader::Reader;
 
@@ -61,6 +62,15 @@ impl<A: Allocator + Copy> Node<MemorySpool<A>, A> {
 }
 
 impl<S: Spool, A: Allocator + Copy> Node<S, A> {
+    /// Returns what is left of a file if the session has ended in its middle: what the spool held of it, and what came
+    /// behind that. An end that holds it in its next session goes on there.
+    pub fn left(&self) -> Result<Option<PartialFile<A>>, AllocError>
+        ensures { IfOk result (λ found. shown_partial found
+            ≡ left_of (S.holdings (spool_of self.now)) (node_of self.now).engine.dialogue.machine) }
+    {
+        self.engine.left(&self.spool)
+    }
+
     /// Makes the calling end, whose first session begins. It waits for the called end's name. All pending jobs are to
     /// be offered.
     pub fn caller(alloc: A, place: Place, queue: Queue<A>, spool: S) -> Result<Self, NotMade<S, A>>

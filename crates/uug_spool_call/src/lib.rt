@@ -5,12 +5,14 @@ mod arrivals;
 mod notices;
 mod public_files;
 mod removable;
+mod resumed;
 mod session;
 mod spool_call;
 mod spool_end;
 mod telling;
 mod work;
 
+pub use resumed::hold_left;
 pub use session::talk_over_spool;
 pub use spool_call::SpoolCall;
 pub use telling::{tell_fault, tell_no_line};

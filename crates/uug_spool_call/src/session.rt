@@ -1,5 +1,5 @@
 //! The session of an end over a spool.
-ghost use Rattle.std.specs.Prelude.{◌≡◌, ◌≢◌, ◌<◌, ◌≤◌, ◌⊎◌, Some, IfErr, IfOk, IsErr, IsSome, OnOk, string_bytes};
+ghost use Rattle.std.specs.Prelude.{◌≡◌, ◌≢◌, ◌<◌, ◌≤◌, ◌⊎◌, Some, IfErr, IfOk, IsErr, IsSome, OnOk, is_some, string_bytes};
 ghost use Rattle.uug_failure.specs.Faults.{IsFolderFault, IsRunFault};
 ghost use Rattle.uug_mailbox.specs.OpenLines.{jobs_of};
 ghost use Rattle.uug_mailbox.specs.WorkStores.{lines_of};
@@ -16,6 +16,7 @@ ghost use Rattle.uug_transfer.specs.Settling.{LosesNoJob, StaysInStore};
 use crate::arrivals::{Arrivals, finish_arrivals};
 use crate::notices::mail_failed;
 use crate::public_files::{add_public, look_at_public};
+use crate::resumed::{hold_left_of, read_held};
 use crate::spool_call::{SpoolCall, paths_of};
 use crate::spool_end::{SpoolEnd, SpoolFiles};
 use crate::telling::{begin_call, end_call, tell_passed_over};
@@ -118,6 +119,7 @@ where
     *why = end.failure();
     end_call(alloc, rt, call, paths, &clock, &end, begun);
     mail_failed(alloc, rt, &clock, &place.me, paths, &end);
+    hold_left_of(alloc, rt, paths, end.buffered.node());
     drop(clock);
     drop(end);
     answer
@@ -173,18 +175,24 @@ where
 }
 
 /// The end over the spool as it stands.
-fn begin<'a, 'p, A: Allocator + Copy, R: Files<File = File> + Eprint + Alloc + Clone + Drop>(
+fn begin<'a, 'p, A, R>(
     alloc: A,
     rt: &'a R,
     call: &SpoolCall<'_>,
     place: Place,
     paths: &'p SpoolPaths<A>,
 ) -> Result<SpoolEnd<'a, 'p, R, A>, RunFault>
+where
+    A: Allocator + Copy,
+    R: Files<File = File> + Clock + Eprint + Alloc + Clone + Drop,
     ensures calm { IfOk result (λ end. end.store.disk.faults.count ≡ 0) }
     ensures ran { IfOk result (λ end. HasRunSoundly call.now.side
         (⟦<SpoolFiles<'a, 'p, R, A> as Spool>⟧.holdings (spool_in end.buffered))
         (⟦<SpoolFiles<'a, 'p, R, A> as Spool>⟧.kept (spool_in end.buffered))
         (node_in end.buffered)) }
+    ensures resuming { IfOk result (λ end. is_some
+        (⟦<SpoolFiles<'a, 'p, R, A> as Spool>⟧.holdings (spool_in end.buffered)).partials
+        ≡ call.now.is_resuming) }
     ensures no_other { IfErr result IsFolderFault }
 {
     refuse_links(alloc, rt, paths)?;
@@ -220,6 +228,7 @@ fn begin<'a, 'p, A: Allocator + Copy, R: Files<File = File> + Eprint + Alloc + C
     )?;
     public.delayed = names_of(alloc, ungiven.as_slice())?;
     work.ungiven = ungiven;
+    work.partials = read_held(alloc, rt, call, paths)?;
     Ok(SpoolEnd::begin(alloc, rt, call, place, paths, came, work, public)?)
 }
 

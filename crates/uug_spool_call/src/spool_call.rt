@@ -29,6 +29,8 @@ pub struct SpoolCall<'a> {
     pub is_lenient: bool,
     /// True if it announces digests of its files, and compares those that it reads.
     pub tells_digests: bool,
+    /// True if it holds what has come of a file that is cut off, and goes on there in its next session.
+    pub is_resuming: bool,
     /// The packets that it leaves out of those it emits.
     pub thinning: Thinning,
     /// The most bytes of all files of the jobs that it offers in a session.

@@ -20,7 +20,7 @@ use std::fs::File;
 use std::rt::Files;
 use uug_failure::SystemFailure;
 use uug_mailbox::{Came, Execution, MailSpool, PublicFolder, SpoolFolder, WorkStore, queue_of};
-use uug_session::{Place, Spool, Stored};
+use uug_session::{Partials, Place, Spool, Stored};
 use uug_spool_disk::{SpoolDisk, SpoolPaths};
 use uug_talk::Name;
 use uug_task::begin_end;
@@ -68,11 +68,11 @@ impl<'a, 'p, R: Files<File = File>, A: Allocator + Copy> SpoolEnd<'a, 'p, R, A> 
         ensures ungiven { IfOk result (λ end. end.ungiven ≡ work.ungiven) }
         ensures aside { IfOk result (λ end. end.aside ≡ work.aside) }
         ensures texts { IfOk result (λ end. files_of end.store ≡ map shown_text work.texts.items) }
-        // What it gives is what waits, and what had come is known.
+        // What it gives is what waits, it resumes what was cut off, and what had come is known.
         ensures holdings { IfOk result (λ end.
             ⟦<SpoolFiles<'a, 'p, R, A> as Spool>⟧.holdings (spool_in end.buffered)
             ≡ mail_holdings call.now.is_lenient call.now.tells_digests
-            (shown_public public) (map kept_of work.files.items)) }
+            (shown_public public) work.partials (map kept_of work.files.items)) }
         ensures kept { IfOk result (λ end.
             ⟦<SpoolFiles<'a, 'p, R, A> as Spool>⟧.kept (spool_in end.buffered) ≡ []) }
         ensures came { IfOk result (λ end. came_of (spool_in end.buffered).folder ≡ came.items) }
@@ -104,9 +104,10 @@ impl<'a, 'p, R: Files<File = File>, A: Allocator + Copy> SpoolEnd<'a, 'p, R, A> 
             unread,
             ungiven,
             aside,
+            partials,
             ..
         } = work;
-        let spool = files_over(alloc, rt, call, paths, came, files, public);
+        let spool = files_over(alloc, rt, call, paths, came, files, public, partials);
         let injector = FaultInjector::without_faults(call.thinning);
         match begin_end(alloc, call.side, place, queue, spool, injector) {
             Ok(buffered) => Ok(SpoolEnd {
@@ -149,9 +150,11 @@ fn files_over<'a, 'p, R: Files<File = File>, A: Allocator + Copy>(
     came: Vec<Came<A>, A>,
     files: Vec<Stored<A>, A>,
     public: PublicFolder<A>,
+    partials: Option<Partials<A>>,
 ) -> SpoolFiles<'a, 'p, R, A>
     ensures holdings { ⟦<SpoolFiles<'a, 'p, R, A> as Spool>⟧.holdings result
-        ≡ mail_holdings call.now.is_lenient call.now.tells_digests (shown_public public) (map kept_of files.items) }
+        ≡ mail_holdings call.now.is_lenient call.now.tells_digests
+        (shown_public public) partials (map kept_of files.items) }
     ensures kept { ⟦<SpoolFiles<'a, 'p, R, A> as Spool>⟧.kept result ≡ [] }
     ensures came { came_of result.folder ≡ came.items }
     ensures marks { marks_of result.folder ≡ no_marks }
@@ -162,6 +165,7 @@ fn files_over<'a, 'p, R: Files<File = File>, A: Allocator + Copy>(
         files,
         public,
         folder,
+        partials,
         call.is_lenient,
         call.tells_digests,
     )

@@ -22,7 +22,7 @@ use uug_failure::{Cause, RunFault};
 use uug_mailbox::{
     CommandText, Execution, OpenLine, add_file, held_lines, read_execution, read_offer, text_name,
 };
-use uug_session::{JOBS_MAX, Job, Stored};
+use uug_session::{JOBS_MAX, Job, Partials, Stored};
 use uug_spool::{
     Command, Fields, Room, SentFile, Spot, data_spot, execution_text, grade_of, has_option,
     read_command, work_order,
@@ -101,6 +101,8 @@ pub(crate) struct Work<A: Allocator> {
     pub(crate) ungiven: Vec<Unread, A>,
     /// Names what had come and was set aside.
     pub(crate) aside: Vec<Unread, A>,
+    /// Holds the first bytes of files that were cut off, if the end resumes such files.
+    pub(crate) partials: Option<Partials<A>>,
 }
 
 impl<A: Allocator + Copy> Work<A> {
@@ -116,6 +118,7 @@ impl<A: Allocator + Copy> Work<A> {
             unread: Vec::new(alloc),
             ungiven: Vec::new(alloc),
             aside: Vec::new(alloc),
+            partials: None,
         }
     }
 }

@@ -1,5 +1,5 @@
 -- Where the folders and files of a spool are (that each system has a folder with one for each kind of its files is Taylor UUCP's; the
--- folders whose names begin with a dot are as it has them too, but that each system has its own in .Temp and .Received).
+-- folders whose names begin with a dot are as it has them too, but that each system has its own in .Temp and .Received; it has no .Partial).
 use Rattle.std.specs.Prelude.{ℕ, List, ◌++◌, codes, string_bytes}
 use Rattle.uug_spool.specs.declared.spool_names.Room.{Room}
 use Rattle.uug_spool.specs.declared.spool_names.Room.TheVariants as rooms
@@ -19,6 +19,10 @@ room_at spool system public rooms.Preserved = spool ++ codes "/.Preserve"
 
 abbrev pub room_path : {A : Type 0} → SpoolPaths A → Room → List ℕ
 room_path paths room = room_at (string_bytes paths.spool) paths.system (string_bytes paths.public) room
+
+-- the folder in which is held what has come of this system's files that were cut off
+abbrev pub partial_path : {A : Type 0} → SpoolPaths A → List ℕ
+partial_path paths = string_bytes paths.spool ++ codes "/.Partial/" ++ paths.system
 
 -- all systems have one folder of preserved files, and data of the same names
 abbrev pub name_at : (system : List ℕ) → Room → (name : List ℕ) → List ℕ

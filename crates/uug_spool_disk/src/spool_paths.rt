@@ -1,6 +1,6 @@
 //! The paths of the folders of a spool.
 ghost use Rattle.std.specs.Prelude.{◌≡◌, IfOk, string_bytes};
-ghost use Rattle.uug_spool_disk.specs.Paths.{file_path, room_path};
+ghost use Rattle.uug_spool_disk.specs.Paths.{file_path, partial_path, room_path};
 
 use std::alloc::{AllocError, Allocator};
 use uug_failure::EndDir;
@@ -50,6 +50,16 @@ impl<A: Allocator> SpoolPaths<A> {
         ensures { result.now ≡ string_bytes self.now.public }
     {
         self.public.as_str()
+    }
+
+    /// Returns the path of the folder in which is held what has come of the system's files that were cut off.
+    pub fn partial<B: Allocator>(&self, alloc: B) -> Result<String<B>, AllocError>
+        ensures { IfOk result (λ path. string_bytes path ≡ partial_path self.now) }
+    {
+        let spool = self.spool.as_str();
+        let system = self.system.as_str();
+        let path = format!(in alloc; "{spool}/.Partial/{system}")?;
+        Ok(path)
     }
 
     /// Returns the spool as the folder of a failure.

@@ -6,6 +6,8 @@ mod assertions;
 #[cfg(test)]
 mod commands;
 #[cfg(test)]
+mod cut_off;
+#[cfg(test)]
 mod disks;
 #[cfg(test)]
 mod executions;
@@ -19,6 +21,8 @@ mod memory;
 mod names;
 #[cfg(test)]
 mod notices;
+#[cfg(test)]
+mod partials;
 #[cfg(test)]
 mod places;
 #[cfg(test)]

@@ -4,8 +4,11 @@ use crate::assertions::{assert_same_at, assert_so_at, name};
 use crate::logs::moment;
 use std::alloc::{AllocError, Global};
 use std::process::Abort;
+use uug_digest::FileDigest;
+use uug_folder::{partial_text, read_partial};
 use uug_mailbox::{WorkStore, add_file, queue_of};
 use uug_refusal::Refusing;
+use uug_session::{PartialFile, Partials};
 use uug_spool::{
     Amount, CallState, Command, Course, LogEvent, LogHead, MemoryDisk, StatsHead, Status,
     add_command_line, execution_text, log_line, name_said, quoted, read_command, stats_line,
@@ -30,6 +33,7 @@ enum Call {
     Statistics,
     Status,
     Mail,
+    Partial,
 }
 
 fn write_line(heap: Heap<'_>) -> Result<(), AllocError> {
@@ -102,6 +106,21 @@ fn settle_mail(heap: Heap<'_>, node: &Name) -> bool {
         .is_ok()
 }
 
+/// Writes what is held of a file, reads it back, and holds it.
+fn hold_partial(heap: Heap<'_>, source: &Name) -> Result<(), AllocError> {
+    let file = PartialFile {
+        source: *source,
+        told: FileDigest::of(LINE),
+        bytes: LINE.to_vec(heap)?,
+    };
+    let text = partial_text(heap, &file)?;
+    let mut partials = Partials::new(heap);
+    match read_partial(heap, text.as_slice())? {
+        Some(file) => partials.put(file),
+        None => Ok(()),
+    }
+}
+
 /// Makes the call. Returns whether it was done.
 fn make(heap: Heap<'_>, node: &Name, call: Call) -> bool {
     match call {
@@ -113,6 +132,7 @@ fn make(heap: Heap<'_>, node: &Name, call: Call) -> bool {
         Call::Statistics => write_statistics(heap),
         Call::Status => write_status(heap, node),
         Call::Mail => settle_mail(heap, node),
+        Call::Partial => hold_partial(heap, node).is_ok(),
     }
 }
 
@@ -140,7 +160,7 @@ fn requests(rt: &impl Abort, heap: Heap<'_>, node: &Name, call: Call) -> u64 {
     ENOUGH
 }
 
-const CALLS: [Call; 8] = [
+const CALLS: [Call; 9] = [
     Call::Name,
     Call::Word,
     Call::Line,
@@ -149,6 +169,7 @@ const CALLS: [Call; 8] = [
     Call::Statistics,
     Call::Status,
     Call::Mail,
+    Call::Partial,
 ];
 
 fn refuse_calls(rt: &impl Abort, heap: Heap<'_>) {

@@ -4,7 +4,7 @@ use crate::assertions::{assert_same_at, name};
 use std::alloc::Global;
 use std::process::Abort;
 use uug_mailbox::{MailSpool, PublicFolder, SpoolFolder};
-use uug_session::{KeepFault, Spool};
+use uug_session::{KeepFault, Partials, Spool};
 use uug_spool::MemoryDisk;
 
 /// A source, a target, and the name of the file's place in the public folder.
@@ -34,15 +34,17 @@ fn public(rt: &impl Abort, alloc: Global) -> PublicFolder<Global> {
     }
 }
 
-type Files = MailSpool<MemoryDisk<Global>, Global>;
+pub type Files = MailSpool<MemoryDisk<Global>, Global>;
 
-fn files(rt: &impl Abort, alloc: Global) -> Files {
+/// Returns a spool that holds this of files that were cut off.
+pub fn files(rt: &impl Abort, alloc: Global, partials: Option<Partials<Global>>) -> Files {
     let folder = SpoolFolder::new(MemoryDisk::new(alloc, 1000), Vec::new(alloc));
     MailSpool::new(
         alloc,
         Vec::new(alloc),
         public(rt, alloc),
         folder,
+        partials,
         true,
         false,
     )
@@ -59,7 +61,7 @@ fn assert_place(rt: &impl Abort, alloc: Global, row: (&str, &str, Option<&str>))
         _ => false,
     };
     assert_same_at(rt, is_same, true, target);
-    let mut files = files(rt, alloc);
+    let mut files = files(rt, alloc, None);
     let kept = files.keep(&landing, 0o644, b"bytes");
     assert_same_at(rt, kept.is_ok(), place.is_some(), target);
     assert_same_at(rt, kept == Err(KeepFault::Refused), place.is_none(), target);

@@ -21,6 +21,7 @@ pub record IsCallOf (task : CallTask) (call : SpoolCall) : Type 0 where
   pub port : call.port ≡ task.line
   pub is_lenient : call.is_lenient ≡ task.is_lenient
   pub tells_digests : call.tells_digests ≡ task.tells_digests
+  pub is_resuming : call.is_resuming ≡ task.is_resuming
   pub thinning : call.thinning ≡ thinning_with task.is_every_ack
   pub most : call.most ≡ task.most
   pub is_loud : call.is_loud ≡ task.is_loud

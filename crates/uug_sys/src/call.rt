@@ -15,6 +15,7 @@ use crate::large_files::large_files;
 use crate::number_remark::remark_numbers;
 use crate::numbers::{meet, read_numbers};
 use crate::parts::{failure_of, read_parts};
+use crate::resumed::hold_left_in;
 use crate::session_mark::{mark_session, unmark_session};
 use crate::spool_call::{call_over_spool, talk_in_spool};
 use crate::waking_line::WakingLine;
@@ -573,6 +574,9 @@ where
     let _ = remark_failed(alloc, remark, task.dir, large, node.spool(), queue.failed());
     let _ = remark_put_off(alloc, remark, phase, task.tells_digests, queue.pending());
     log_unoffered(alloc, rt, task, large, node.spool(), queue.failed());
+    if let Some(partials) = node.spool().partials() {
+        hold_left_in(alloc, rt, task.dir, partials.over(), node.left());
+    }
     let has_failed = has_failed(task, queue.failed());
     drop(end);
     if answer.is_ok() {

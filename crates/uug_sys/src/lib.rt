@@ -17,6 +17,7 @@ mod last_text;
 mod number_remark;
 mod numbers;
 mod parts;
+mod resumed;
 mod session_mark;
 mod spool_call;
 mod spool_lock;

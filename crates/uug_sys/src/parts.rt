@@ -1,13 +1,15 @@
 //! The parts of an end over a folder of the system.
-ghost use Rattle.std.specs.Prelude.{◌≡◌, ◌<◌, ◌≤◌, IfErr, IfOk, IsSome, length};
+ghost use Rattle.std.specs.Prelude.{◌≡◌, ◌<◌, ◌≤◌, IfErr, IfOk, IsSome, is_some, length};
 ghost use Rattle.uug_conversation.specs.Jobs.{pending};
 ghost use Rattle.uug_failure.specs.Faults.{IsFolderFault, IsReadingFault};
 ghost use Rattle.uug_folder.specs.JobsText.{IsFrontOf};
 
 use crate::numbers::Numbers;
+use crate::resumed::read_held;
 use std::alloc::{AllocError, Allocator};
 use std::fs::File;
 use std::rt::Files;
+use std::time::Clock;
 use uug_disk::{
     DirLock, Given, OpenJobs, SystemFolder, SystemJobs, SystemNumber, SystemText, open_jobs,
     read_given, see_jobs,
@@ -15,6 +17,7 @@ use uug_disk::{
 use uug_failure::{EndText, RunFault, SystemFailure};
 use uug_folder::{FolderSpool, JobsFile, LocalNames, first_jobs};
 use uug_session::{Job, Place, Spool, Stored};
+use uug_stream::ToolFault;
 use uug_talk::Name;
 use uug_task::{CallTask, EndParts};
 use uug_transfer::TransferEnd;
@@ -52,11 +55,7 @@ pub(crate) fn failure_of<R: Files, A: Allocator + Copy>(
 }
 
 /// Reads the parts of an end over the folder of the task, as it is now.
-pub(crate) fn read_parts<
-    'a,
-    A: Allocator + Copy,
-    R: Files<File = File> + Eprint + Alloc + Clone + Drop,
->(
+pub(crate) fn read_parts<'a, A, R>(
     alloc: A,
     rt: &'a R,
     task: &CallTask<'a>,
@@ -64,11 +63,16 @@ pub(crate) fn read_parts<
     mut place: Place,
     numbers: Numbers,
 ) -> Result<SystemParts<'a, R, A>, RunFault>
+where
+    A: Allocator + Copy,
+    R: Files<File = File> + Clock + Eprint + Alloc + Clone + Drop,
     ensures jobs_calm { IfOk result (λ parts. parts.jobs.file.file.faults.count ≡ 0) }
     ensures number_calm { IfOk result (λ parts. parts.number.file.faults.count ≡ 0) }
     ensures place { IfOk result (λ parts.
         parts.place ≡ record place { number = numbers.begins }) }
     ensures jobs { IfOk result (λ parts. IsFrontOf parts.jobs.before.items parts.queue) }
+    ensures resuming { IfOk result (λ parts.
+        is_some parts.spool.partials ≡ task.now.is_resuming) }
     ensures no_other { IfErr result IsReadingFault }
 {
     place.number = numbers.begins;
@@ -80,7 +84,17 @@ pub(crate) fn read_parts<
             return Err(fault);
         }
     };
-    Ok(make_parts(alloc, rt, task, place, numbers.held, jobs, given)?)
+    let partials = match read_held(alloc, rt, task) {
+        Ok(partials) => partials,
+        Err(AllocError) => {
+            drop(jobs);
+            drop(given);
+            return Err(RunFault::Tool(ToolFault::Memory));
+        }
+    };
+    let mut parts = make_parts(alloc, rt, task, place, numbers.held, jobs, given)?;
+    parts.spool.set_partials(partials);
+    Ok(parts)
 }
 
 /// Returns the files that an end with these jobs gives, if the jobs can be removed: those of an end that is called may

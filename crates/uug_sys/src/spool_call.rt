@@ -619,6 +619,7 @@ fn said_of<'a>(task: &CallTask<'a>) -> SpoolCall<'a>
         port: task.line,
         is_lenient: task.is_lenient,
         tells_digests: task.tells_digests,
+        is_resuming: task.is_resuming,
         thinning: task.thinning(),
         most: task.most,
         is_loud: task.is_loud,

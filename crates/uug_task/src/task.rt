@@ -60,6 +60,8 @@ pub struct CallTask<'a> {
     pub is_lenient: bool,
     /// Set if it announces digests of its files, and compares those that are announced to it.
     pub tells_digests: bool,
+    /// Set if it holds what has come of a file that is cut off, and goes on there in its next session.
+    pub is_resuming: bool,
     /// Set if it acknowledges each data packet on its own.
     pub is_every_ack: bool,
     /// Set if it begins to keep a number of its conversations, in case it keeps none yet.

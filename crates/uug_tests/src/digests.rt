@@ -4,8 +4,8 @@ use crate::assertions::{assert_same, assert_so};
 use std::alloc::AllocGlobal;
 use std::process::Abort;
 use uug_digest::{
-    FileDigest, give_telling, order_telling, position_told, told_by_answer, told_by_order,
-    write_consent,
+    FileDigest, NamedDigest, give_telling, order_telling, position_told, told_by_answer,
+    told_by_order, write_consent,
 };
 use uug_talk::{Name, Order};
 
@@ -86,6 +86,38 @@ fn write_and_read(rt: &impl Abort) {
 #[test]
 fn what_is_told_is_read(rt: HostRuntime) {
     write_and_read(&rt);
+}
+
+/// Lines that don't name a file with its size and digest.
+const UNNAMED: &[&[u8]] = &[
+    b"",
+    b"x",
+    b"x 0x3 sha256:ba7816bf8f01cfea414140de5dae2223b00361a396177a9cb410ff61f20015ad",
+    b"x \"\" 3 sha256:ba7816bf8f01cfea414140de5dae2223b00361a396177a9cb410ff61f20015ad",
+    b"\x07 \"\" 0x3 sha256:ba7816bf8f01cfea414140de5dae2223b00361a396177a9cb410ff61f20015ad",
+];
+
+/// Asserts that a name and what is told of its file are one line, which is read back.
+fn name_and_read(rt: &impl Abort) {
+    let named = NamedDigest {
+        name: Name::new(b"x").expect(rt, "a name"),
+        told: FileDigest::of(b"abc"),
+    };
+    let line = named.line();
+    assert_same(
+        rt,
+        line.as_slice(),
+        b"x \"\" 0x00000003 sha256:ba7816bf8f01cfea414140de5dae2223b00361a396177a9cb410ff61f20015ad".as_slice(),
+    );
+    assert_same(rt, NamedDigest::of_line(&line), Some(named));
+}
+
+#[test]
+fn a_line_names_a_file(rt: HostRuntime) {
+    name_and_read(&rt);
+    for line in UNNAMED {
+        assert_same(&rt, NamedDigest::of_line(line), None);
+    }
 }
 
 /// Positions, and the answers that ask for a file from there on.

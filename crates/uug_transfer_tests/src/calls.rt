@@ -11,6 +11,7 @@ mod memory_folder;
 mod memory_jobs;
 mod memory_text;
 mod numbers;
+mod resumed;
 mod scenes;
 mod scripted_line;
 mod slow;

@@ -94,6 +94,10 @@ answer_tells_digests : is_given (entries_of answer_words) (codes "no-digest") �
 unfolding clap_on_literals
 answer_tells_digests = refl
 
+answer_resumes : is_given (entries_of answer_words) (codes "no-resume") ≡ false
+unfolding clap_on_literals
+answer_resumes = refl
+
 answer_has_wait : number_in (entries_of answer_words) (codes "wait") ≡ Some 60
 unfolding clap_on_literals
 answer_has_wait = refl

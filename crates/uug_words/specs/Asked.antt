@@ -153,6 +153,7 @@ pub record IsEndIn (entries : Entries) (task : CallTask) : Type 0 where
   pub is_short : task.is_short ≡ not (is_given entries (codes "fill-commands"))
   pub is_lenient : task.is_lenient ≡ not (is_given entries (codes "strict"))
   pub tells_digests : task.tells_digests ≡ not (is_given entries (codes "no-digest"))
+  pub is_resuming : task.is_resuming ≡ not (is_given entries (codes "no-resume"))
   pub is_every_ack : task.is_every_ack ≡ is_given entries (codes "every-ack")
   pub is_numbered : task.is_numbered ≡ is_given entries (codes "number")
   pub is_loud : task.is_loud ≡ is_given entries (codes "verbose")

@@ -102,7 +102,8 @@ talk_rules =
     ∷ number_rule (codes "timeout") (codes "10")
     ∷ every_rule (codes "speed")
     ∷ flag_rule (codes "no-quiet") ∷ flag_rule (codes "fill-commands")
-    ∷ flag_rule (codes "strict") ∷ flag_rule (codes "no-digest") ∷ flag_rule (codes "every-ack") ∷ []
+    ∷ flag_rule (codes "strict") ∷ flag_rule (codes "no-digest") ∷ flag_rule (codes "no-resume")
+    ∷ flag_rule (codes "every-ack") ∷ []
 
 -- what it keeps, and where
 abbrev pub file_rules : List Rule

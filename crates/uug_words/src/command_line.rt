@@ -160,6 +160,7 @@ fn end_task<'a>(side: Side, matches: &ArgMatches<'a>) -> CallTask<'a>
         is_short: !is_given(matches, "fill-commands"),
         is_lenient: !is_given(matches, "strict"),
         tells_digests: !is_given(matches, "no-digest"),
+        is_resuming: !is_given(matches, "no-resume"),
         is_every_ack: is_given(matches, "every-ack"),
         is_numbered: is_given(matches, "number"),
         is_loud: is_given(matches, "verbose"),

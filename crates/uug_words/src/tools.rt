@@ -216,6 +216,11 @@ fn with_talk<'a>(alloc: Global, command: Command<'a>) -> Result<Command<'a>, All
         ))?
         .arg(flag(
             alloc,
+            "no-resume",
+            "Begins anew with each file that was cut off",
+        ))?
+        .arg(flag(
+            alloc,
             "every-ack",
             "Acknowledges each data packet on its own, also those that come at once",
         ))

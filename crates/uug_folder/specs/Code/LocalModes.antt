@@ -3,6 +3,7 @@ use Rattle.std.specs.Prelude.{◌≡◌, ℕ, ◌≤◌, Bool, List, Option, Som
 use Rattle.std.proofs.Common.{refl, subst}
 use Rattle.uug_talk.specs.declared.mode.TheConstants.{MODE_MAX}
 use Rattle.uug_conversation.specs.Holdings.{AreModes, File, Holdings}
+use Rattle.uug_conversation.specs.Partial.{Partial}
 use Rattle.uug_folder.specs.LocalNames.{file_by, local_holdings, local_source}
 
 abbrev IsInRange : Option File → Type 0
@@ -17,5 +18,6 @@ given_in_range : (h : Holdings) → AreModes h → (source : Option (List ℕ)) 
 given_in_range h modes None = tt
 given_in_range h modes (Some name) = in_range (h.file name) (modes name)
 
-pub local_modes : (lenient digests : Bool) (delayed : List (List ℕ)) (h : Holdings) → AreModes h → AreModes (local_holdings lenient digests delayed h)
-local_modes lenient digests delayed h modes name file found = subst IsInRange found (given_in_range h modes (local_source name))
+pub local_modes : (lenient digests : Bool) (delayed : List (List ℕ)) (partials : Option (List Partial)) (h : Holdings) → AreModes h
+    → AreModes (local_holdings lenient digests delayed partials h)
+local_modes lenient digests delayed partials h modes name file found = subst IsInRange found (given_in_range h modes (local_source name))

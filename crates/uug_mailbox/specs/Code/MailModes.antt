@@ -1,14 +1,14 @@
 -- The modes of the files that are given are in range, as their type says.
 use Rattle.std.specs.Prelude.{◌≡◌, ℕ, ◌≤◌, Bool, List, Option, Some, None, map, ⊤}
 use Rattle.std.proofs.Common.{refl, subst}
-use Rattle.uug_talk.specs.Name.{name_of}
 use Rattle.uug_talk.specs.declared.mode.TheConstants.{MODE_MAX}
 use Rattle.uug_conversation.specs.Code.StoredModes.{modes_in_range}
 use Rattle.uug_conversation.specs.Holdings.{AreModes, File}
 use Rattle.uug_conversation.specs.MemoryHoldings.{first_named, kept_of}
+use Rattle.uug_conversation.specs.Partial.{Partial}
 use Rattle.uug_conversation.specs.declared.stored.Stored.{Stored}
 use Rattle.uug_folder.specs.LocalNames.{local_source}
-use Rattle.uug_mailbox.specs.MailHoldings.{file_at, given, given_by, mail_holdings}
+use Rattle.uug_mailbox.specs.MailHoldings.{file_at, given_by, mail_holdings}
 use Rattle.uug_mailbox.specs.Places.{Public}
 
 abbrev IsInRange : Option File → Type 0
@@ -31,7 +31,7 @@ by_in_range : {A : Type 0} (files : List (Stored A)) (name : List ℕ) (found : 
 by_in_range files name None h = at_in_range files (local_source name)
 by_in_range files name (Some file) h = h
 
-pub mail_modes : {A : Type 0} (lenient digests : Bool) (public : Public) (files : List (Stored A))
-    → AreModes (mail_holdings lenient digests public (map kept_of files))
-mail_modes lenient digests public files name file found =
+pub mail_modes : {A : Type 0} (lenient digests : Bool) (public : Public) (partials : Option (List Partial)) (files : List (Stored A))
+    → AreModes (mail_holdings lenient digests public partials (map kept_of files))
+mail_modes lenient digests public partials files name file found =
     subst IsInRange found (by_in_range files name (first_named (map kept_of files) name) (found_in_range files name))

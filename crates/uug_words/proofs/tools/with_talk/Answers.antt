@@ -12,4 +12,5 @@ returns c before is =
     let fill_commands = adds_behind no_quiet c.in_ok-arg-6.ensures c.flag-2.ensures in
     let strict = adds_behind fill_commands c.in_ok-arg-7.ensures c.flag-3.ensures in
     let no_digest = adds_behind strict c.in_ok-arg-8.ensures c.flag-4.ensures in
-    IfOk-weaker c.arg-9.result _ _ (λ made step. (adds_behind no_digest step c.flag-5.ensures).is) c.arg-9.ensures
+    let no_resume = adds_behind no_digest c.in_ok-arg-9.ensures c.flag-5.ensures in
+    IfOk-weaker c.arg-10.result _ _ (λ made step. (adds_behind no_resume step c.flag-6.ensures).is) c.arg-10.ensures

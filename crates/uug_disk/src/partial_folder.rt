@@ -1,0 +1,195 @@
+//! The folder in which an end holds the first bytes of files that were cut off, a file for each.
+ghost use Rattle.std.specs.Fs.{dir_entry_name};
+ghost use Rattle.std.specs.Char.{is_ascii_hexdigit};
+ghost use Rattle.std.specs.List.{list_all};
+ghost use Rattle.std.specs.Prelude.{◌≡◌, ◌≤◌, true};
+ghost use Rattle.uug_disk.specs.Partials.{is_partial};
+
+use crate::atomic_file::replace_private;
+use crate::part_path::{PartPath, is_part, remove_part};
+use crate::send_folder::read_file;
+use crate::written::see_written;
+use std::alloc::{AllocError, Allocator};
+use std::fs::{DirEntry, File, ReadDir};
+use std::io::ErrorKind;
+use std::rt::Files;
+use std::time::Clock;
+use std::{fs, io};
+use uug_digest::{FileDigest, TELLING_MAX};
+use uug_failure::Cause;
+use uug_folder::{partial_text, read_partial};
+use uug_session::{PartialFile, Partials};
+use uug_talk::FILE_MAX;
+
+/// The length of the name of such a file: a digest in hexadecimal digits.
+const DIGITS: usize = 64;
+
+/// The maximum number of bytes of such a file: a line, and its end, and the bytes of a file.
+const PARTIAL_MAX: usize = TELLING_MAX + 1 + FILE_MAX;
+
+/// The seconds after which such a file is removed that has not grown: 30 days.
+const AGE_MAX: u64 = 2_592_000;
+
+/// Returns whether a name is that of such a file.
+fn is_partial(name: &str) -> bool
+    ensures { result ≡ is_partial name.now }
+{
+    name.len() == DIGITS && are_digits(name.as_bytes())
+}
+
+fn are_digits(name: &[u8]) -> bool
+    ensures { result ≡ list_all is_ascii_hexdigit name.now }
+{
+    name.iter().all(|b| b.is_ascii_hexdigit())
+}
+
+/// Reads the files that an end holds in the folder at `path`, up to `most` bytes. Removes what it has no room for, what
+/// has not grown for 30 days, and incomplete files that killed runs left. What can't be read is not held. Without a
+/// folder there, or with a link to one, nothing is held.
+pub fn read_partials<A: Allocator + Copy, R: Files + Clock + Alloc + Clone + Drop>(
+    alloc: A,
+    rt: &R,
+    path: &str,
+    most: u64,
+) -> Result<Partials<A>, AllocError> {
+    let mut held = Partials::new(alloc);
+    let mut room = most;
+    let Ok(entries) = entries_in(rt, path) else {
+        return Ok(held);
+    };
+    for entry in entries {
+        let Ok(entry) = entry else {
+            continue;
+        };
+        if is_part(entry.file_name()) {
+            remove_part(rt, &entry);
+        }
+        if let Some(file) = read_entry(alloc, rt, &entry, &mut room)? {
+            held.put(file)?;
+        }
+    }
+    Ok(held)
+}
+
+/// Returns the entries of the folder at `path`.
+fn entries_in<R: Files + Alloc + Clone + Drop>(rt: &R, path: &str) -> io::Result<ReadDir<R, R::A>> {
+    see_no_link(rt, path)?;
+    fs::read_dir(rt, path)
+}
+
+/// Checks that a folder is at `path`, and not a link to one: a link could lead to the files of others.
+fn see_no_link<R: Files>(rt: &R, path: &str) -> io::Result<()> {
+    if fs::symlink_metadata(rt, path)?.is_dir() {
+        Ok(())
+    } else {
+        Err(io::Error::from(ErrorKind::NotADirectory))
+    }
+}
+
+/// Returns what an entry of that folder holds, if it is such a file. Its bytes are taken from `room`.
+fn read_entry<A: Allocator + Copy, R: Files + Clock + Drop, B: Allocator>(
+    alloc: A,
+    rt: &R,
+    entry: &DirEntry<R, B>,
+    room: &mut u64,
+) -> Result<Option<PartialFile<A>>, AllocError>
+    ensures { room.new ≤ room.old }
+{
+    if !is_partial(entry.file_name()) || !is_of_use(rt, entry, room).unwrap_or(false) {
+        return Ok(None);
+    }
+    match read_file(alloc, rt, entry.path().as_str(), PARTIAL_MAX) {
+        Ok(Some(text)) => read_partial(alloc, text.as_slice()),
+        Ok(None) => Ok(None),
+        Err(error) if error.kind() == ErrorKind::OutOfMemory => Err(AllocError),
+        Err(_) => Ok(None),
+    }
+}
+
+/// Returns whether such a file is to be read: a regular one, for which there is room. Removes it if there is none, or it
+/// is too old.
+fn is_of_use<R: Files + Clock + Drop, B: Allocator>(
+    rt: &R,
+    entry: &DirEntry<R, B>,
+    room: &mut u64,
+) -> io::Result<bool>
+    requires { is_partial (dir_entry_name entry.now) ≡ true }
+    ensures { room.new ≤ room.old }
+{
+    let metadata = entry.metadata()?;
+    if !metadata.is_file() {
+        return Ok(false);
+    }
+    let is_old = metadata
+        .modified()?
+        .elapsed(rt)
+        .is_ok_and(|age| age.as_secs() > AGE_MAX);
+    if is_old || metadata.len() > *room {
+        fs::remove_file(rt, entry.path().as_str())?;
+        return Ok(false);
+    }
+    *room -= metadata.len();
+    Ok(true)
+}
+
+/// Holds what is left of a file in the folder at `path` for the next session, in place of what was held of it. The file
+/// is on disk then. A missing folder is created. After an error the next session begins with what was held before.
+pub fn hold_partial<A: Allocator + Copy, R: Files<File = File>>(
+    alloc: A,
+    rt: &R,
+    path: &str,
+    file: &PartialFile<A>,
+) -> Result<(), Cause> {
+    if file.bytes.is_empty() {
+        return Ok(());
+    }
+    match write_partial(alloc, rt, path, file) {
+        Ok(()) => Ok(()),
+        Err(error) => Err(Cause::of(&error)),
+    }
+}
+
+/// Writes the file in which this one is held.
+fn write_partial<A: Allocator + Copy, R: Files<File = File>>(
+    alloc: A,
+    rt: &R,
+    path: &str,
+    file: &PartialFile<A>,
+) -> io::Result<()> {
+    let text = partial_text(alloc, file)?;
+    let to = path_of(alloc, path, &file.told)?;
+    fs::create_dir_all(rt, path)?;
+    see_no_link(rt, path)?;
+    let mut part = PartPath::new(alloc, rt, path)?;
+    let written = replace_private(rt, &mut part, path, to.as_str(), text.as_slice())?;
+    see_written(written, text.as_slice());
+    Ok(())
+}
+
+/// Removes the files in the folder at `path` with these digests, which are over. What can't be removed is held on.
+pub fn drop_partials<A: Allocator + Copy, R: Files>(
+    alloc: A,
+    rt: &R,
+    path: &str,
+    over: &[FileDigest],
+) {
+    if see_no_link(rt, path).is_err() {
+        return;
+    }
+    for told in over {
+        if let Ok(path) = path_of(alloc, path, told) {
+            let _ = fs::remove_file(rt, path.as_str());
+        }
+    }
+}
+
+/// Returns the path of the file in which one with this digest is held.
+fn path_of<A: Allocator + Copy>(
+    alloc: A,
+    path: &str,
+    told: &FileDigest,
+) -> Result<String<A>, AllocError> {
+    let name = hex::encode(alloc, told.hash)?;
+    let name = name.as_str();
+    format!(in alloc; "{path}/{name}")
+}

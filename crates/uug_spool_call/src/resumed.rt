@@ -1,0 +1,88 @@
+//! Files that were cut off: an end over a spool holds what has come of them, in a folder of its system.
+ghost use Rattle.std.specs.Prelude.{◌≡◌, IfOk, is_some};
+
+use crate::spool_call::SpoolCall;
+use crate::spool_end::SpoolFiles;
+use std::alloc::{AllocError, Allocator};
+use std::fs::File;
+use std::io::ErrorKind;
+use std::rt::Files;
+use std::time::Clock;
+use uug_digest::FileDigest;
+use uug_disk::{drop_partials, hold_partial, read_partials};
+use uug_failure::{Cause, Resource, SystemFailure};
+use uug_reason::reason_line;
+use uug_session::{Node, PartialFile, Partials};
+use uug_spool_disk::SpoolPaths;
+
+/// Reads what an end holds of files that were cut off, if it resumes such files.
+pub(crate) fn read_held<A, R>(
+    alloc: A,
+    rt: &R,
+    call: &SpoolCall<'_>,
+    paths: &SpoolPaths<A>,
+) -> Result<Option<Partials<A>>, AllocError>
+where
+    A: Allocator + Copy,
+    R: Files + Clock + Alloc + Clone + Drop,
+    ensures { IfOk result (λ held. is_some held ≡ call.now.is_resuming) }
+{
+    if !call.is_resuming {
+        return Ok(None);
+    }
+    let path = paths.partial(alloc)?;
+    let held = read_partials(alloc, rt, path.as_str(), u64::from(call.most))?;
+    Ok(Some(held))
+}
+
+/// Does with what an end over a spool holds as `hold_left` says, if the end resumes files that were cut off.
+pub(crate) fn hold_left_of<A, R>(
+    alloc: A,
+    rt: &R,
+    paths: &SpoolPaths<A>,
+    end: &Node<SpoolFiles<'_, '_, R, A>, A>,
+)
+where
+    A: Allocator + Copy,
+    R: Files<File = File> + Eprint,
+{
+    let Some(partials) = end.spool().partials() else {
+        return;
+    };
+    if let Ok(path) = paths.partial(alloc) {
+        hold_left(alloc, rt, path.as_str(), partials.over(), end.left());
+    }
+}
+
+/// Removes from the folder at `path` what is held of the files with these digests, which are over, and holds what is
+/// left of another one. If that can't be done, says so on standard error.
+pub fn hold_left<A, R>(
+    alloc: A,
+    rt: &R,
+    path: &str,
+    over: &[FileDigest],
+    left: Result<Option<PartialFile<A>>, AllocError>,
+)
+where
+    A: Allocator + Copy,
+    R: Files<File = File> + Eprint,
+{
+    drop_partials(alloc, rt, path, over);
+    let held = match left {
+        Ok(Some(file)) => hold_partial(alloc, rt, path, &file),
+        Ok(None) => Ok(()),
+        Err(AllocError) => Err(Cause::Refused(ErrorKind::OutOfMemory, None)),
+    };
+    if let Err(cause) = held {
+        say_not_held(alloc, rt, path, cause);
+    }
+}
+
+/// Says on standard error why nothing can be held in the folder at this path.
+fn say_not_held<A: Allocator, R: Eprint>(alloc: A, rt: &R, path: &str, cause: Cause) {
+    let failure = SystemFailure::on(Resource::Dir, cause);
+    if let Ok(line) = reason_line(alloc, "", "", path, "", failure) {
+        let line = line.as_str();
+        let _ = eprint!(rt; "{line}");
+    }
+}

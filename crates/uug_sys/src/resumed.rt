@@ -1,0 +1,53 @@
+//! Files that were cut off: an end over a folder holds what has come of them, in the folder `partial` below its own.
+ghost use Rattle.std.specs.Prelude.{◌≡◌, IfOk, is_some};
+
+use std::alloc::{AllocError, Allocator};
+use std::fs::File;
+use std::rt::Files;
+use std::time::Clock;
+use uug_digest::FileDigest;
+use uug_disk::read_partials;
+use uug_session::{PartialFile, Partials};
+use uug_spool_call::hold_left;
+use uug_task::CallTask;
+
+/// Reads what an end holds of files that were cut off, if it resumes such files.
+pub(crate) fn read_held<A, R>(
+    alloc: A,
+    rt: &R,
+    task: &CallTask<'_>,
+) -> Result<Option<Partials<A>>, AllocError>
+where
+    A: Allocator + Copy,
+    R: Files + Clock + Alloc + Clone + Drop,
+    ensures { IfOk result (λ held. is_some held ≡ task.now.is_resuming) }
+{
+    if !task.is_resuming {
+        return Ok(None);
+    }
+    let path = partial_path(alloc, task.dir)?;
+    let held = read_partials(alloc, rt, path.as_str(), u64::from(task.most))?;
+    Ok(Some(held))
+}
+
+/// Removes what is held of the files that are over, and holds what is left of another one.
+pub(crate) fn hold_left_in<A, R>(
+    alloc: A,
+    rt: &R,
+    dir: &str,
+    over: &[FileDigest],
+    left: Result<Option<PartialFile<A>>, AllocError>,
+)
+where
+    A: Allocator + Copy,
+    R: Files<File = File> + Eprint,
+{
+    if let Ok(path) = partial_path(alloc, dir) {
+        hold_left(alloc, rt, path.as_str(), over, left);
+    }
+}
+
+/// Returns the path of the folder in which an end holds them.
+fn partial_path<A: Allocator>(alloc: A, dir: &str) -> Result<String<A>, AllocError> {
+    format!(in alloc; "{dir}/partial")
+}
