@@ -11,7 +11,7 @@ script runs once, on little, to see that it works: FOLDER must be another then. 
 leaves out figures that are not there. Ends with status 1 where a script printed no row; one that prints rows but ends badly has
 missed an aim of its own, or a file did not come, which is printed.
 
-`bytes.sh`, `changes.py` and `cut_line.py` are left out: their figures are computed.
+`bytes.sh` and `changes.py` are left out: their figures are computed.
 """
 import argparse
 import csv
@@ -85,8 +85,9 @@ MEASURES = (
             r"([a-z]\S+) +(\d) +([\d.]+(?: fails)?) +([\d.]+(?: fails)?)$"),
     Measure("mails", "interop/mails.sh PROGRAM", "interop/mails.sh PROGRAM", "size,Taylor calls Taylor,uucpair calls Taylor,Taylor calls uucpair",
             r" *(\d+) +(\d+) +(\d+) +(\d+)$"),
-    Measure("peers", "bench/peers.py 1", "bench/peers.py 1", "program,bytes,half duplex,cut sessions,cut bytes",
-            r"1, (\w+), (?:(\d+) bytes, )?(?:(\d+) s half duplex, )?cut: (\d+) sessions, (\d+) bytes"),
+    Measure("peers", "bench/peers.py 1", "bench/peers.py 1", "program,bytes,half duplex", r"1, (\w+), (\d+) bytes, (\d+) s half duplex"),
+    Measure("resume", "bench/resume.py PROGRAM", "bench/resume.py PROGRAM", "size,cut after,program,sessions,bytes",
+            r"(\d+), (\d+), (\w+), (\w+), (\S+)"),
 )  # fmt: skip
 
 

@@ -1,5 +1,5 @@
 #!/usr/bin/env python3
-"""What ZMODEM, Kermit and Taylor UUCP do with files that the other scripts send by uucpair.
+"""What ZMODEM and Kermit do with files that the other scripts send by uucpair.
 
     peers.py [ROUNDS]
 
@@ -8,11 +8,8 @@ their usual settings. A relay joins the two ends, on these lines, of which none 
 
     bytes        a fast one: how many bytes the sender writes for a file of 20,000
     half duplex  that of half_duplex.py, in real time: the seconds until the last byte has arrived, of that file or of what ends it
-    cut          a line that ends after 30,000 bytes, both ways together. A file of 60,000 bytes is sent again and again, each session
-                 resuming the last, until it has arrived: the sessions, and the bytes of all of them
 
-On the line that is cut there is Taylor UUCP too, with 7 packets of 1,024 bytes (as root, with the packages `uucp` and `socat`, which
-Kermit needs as well). Prints a row for each of ROUNDS (3) rounds. Ends with status 1 where a file did not arrive whole.
+(Kermit needs `socat`.) Prints a row for each of ROUNDS (3) rounds. Ends with status 1 where a file did not arrive whole.
 """
 import os
 import random
@@ -26,12 +23,11 @@ import time
 sys.dont_write_bytecode = True
 
 import half_duplex
-from ends import Taylor, fresh, over_sockets, read, stop
+from ends import fresh, read, stop
 
 # The line of half_duplex.py, in real time.
 half_duplex.BYTES_A_SECOND, half_duplex.TURN, half_duplex.PIECE = 150, 1, 3
-FILE_SIZE, CUT_SIZE, CUT_AFTER = 20_000, 60_000, 30_000
-MOST, SESSIONS_MAX = 600, 12
+FILE_SIZE, MOST = 20_000, 600
 KERMIT = ["set file type binary", "set file incomplete keep", "set transfer display none", "set quiet on"]
 
 
@@ -115,47 +111,15 @@ def over(kind, work, line):
     return came if ends.took() == file_of(FILE_SIZE) else None
 
 
-def cut(kind, work):
-    """The sessions and the bytes after which the file has arrived over a line that is cut."""
-    total = 0
-    for count in range(SESSIONS_MAX):
-        ends = kind(work, count > 0)
-        with open(f"{work}/sends/file", "wb") as file:
-            file.write(file_of(CUT_SIZE))
-        total += sum(session(ends, lambda one, other: carry(one, other, CUT_AFTER)))
-        if ends.took() == file_of(CUT_SIZE):
-            return count + 1, total
-    return None
-
-
-def taylor_cut(work):
-    """The same for Taylor UUCP."""
-    caller, called = (Taylor(work, me, peer, 1_024, 7, 10) for me, peer in (("a", "b"), ("b", "a")))
-    caller.queue({"file": file_of(CUT_SIZE)})
-    total = 0
-    for count in range(SESSIONS_MAX):
-        with over_sockets(work, caller, called) as (calling, answering, one, other):
-            total += sum(carry(one, other, CUT_AFTER))
-        ended(calling, answering)
-        if called.took("file") == file_of(CUT_SIZE):
-            return count + 1, total
-    return None
-
-
 def row(number):
     """Prints what came of a round, and says whether all files have arrived."""
     whole = True
-    for name, kind in (("ZMODEM", Zmodem), ("Kermit", Kermit), ("Taylor", None)):
-        told = []
+    for name, kind in (("ZMODEM", Zmodem), ("Kermit", Kermit)):
         with tempfile.TemporaryDirectory() as work:
-            os.chmod(work, 0o755)
-            if kind:
-                written = over(kind, fresh(f"{work}/w"), lambda one, other: carry(one, other, 1 << 30))
-                began = time.monotonic()
-                came = over(kind, fresh(f"{work}/w"), lambda one, other: half_duplex.channel(one, other, began + MOST))
-                told += [written and f"{written[0]} bytes", came and f"{came - began:.0f} s half duplex"]
-            sessions = cut(kind, fresh(f"{work}/w")) if kind else taylor_cut(fresh(f"{work}/w"))
-            told += [sessions and f"cut: {sessions[0]} sessions, {sessions[1]} bytes"]
+            written = over(kind, fresh(f"{work}/w"), lambda one, other: carry(one, other, 1 << 30))
+            began = time.monotonic()
+            came = over(kind, fresh(f"{work}/w"), lambda one, other: half_duplex.channel(one, other, began + MOST))
+        told = [written and f"{written[0]} bytes", came and f"{came - began:.0f} s half duplex"]
         whole = whole and all(told)
         print(number, name, *(word or "failed" for word in told), sep=", ", flush=True)
     return whole

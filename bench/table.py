@@ -162,11 +162,12 @@ def byte_rows() -> list[Row]:
         rows.append(Row(f"bytes of five mails, 3 x {short(size)}", ours, (("two uucico", taylor), ("uucico calls", called))))
     others = [(name, Figure("peers", {"program": name}, "{bytes}")) for name in ("ZMODEM", "Kermit")]
     rows.append(Row("bytes of a file of 20,000, 7 x 1,024", long_way("7x1024", 1), tuple(others)))
-    cut = [
-        (name.replace("Taylor", "uucico"), Figure("peers", {"program": name}, "{cut bytes} in {cut sessions}"))
-        for name in ("Taylor", "ZMODEM", "Kermit")
-    ]
-    rows.append(Row("bytes, sessions: 60,000 on a line that ends after 30,000", "never arrives", tuple(cut), False))
+    for size, most, told in (("60000", "30000", "60,000 cut at 30,000"), ("1000000", "100000", "1,000,000 cut at 100,000")):
+        ours, *others = (
+            (name, Figure("resume", {"size": size, "cut after": most, "program": name}, "{bytes} in {sessions}"))
+            for name in ("uucpair", "uucico", "ZMODEM", "Kermit")
+        )
+        rows.append(Row(f"bytes, sessions: {told}", ours[1], tuple(others), False))
     for files in ("1", "16"):
         ours, taylor = (Figure("memory", {"files": files}, f"{{{name}}}") for name in ("uucpair", "uucico"))
         rows.append(Row(f"KiB of memory, {files} MiB", ours, (("uucico", taylor),)))
