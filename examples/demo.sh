@@ -29,9 +29,14 @@ arrived a letter b
 arrived b answer a
 echo "    (both files arrived whole)"
 echo
-echo "A line that breaks after a file was stored, and before the caller has heard of it (its job stays, and is sent once more):"
+echo "A line that breaks in the middle of a file. What has come is held, and each session sends only the rest:"
 echo
-"$program" play --ladder "$root/examples/break.script" | sed '1,/^session 1/!b;d' | sed '/^session 2/,$d' | tail -n 16 | sed 's/^/    /'
+"$program" play --ladder "$root/examples/resumed.script" >ladder
+{
+    awk '/^event/ { is_on = 1 } is_on && /^session/ { exit } is_on' ladder | tail -n 8
+    echo
+    grep -E '^(session|caller sent)' ladder | head -n 6
+} | sed 's/^/    /'
 echo
 echo "Proved: if the line repeats and reorders nothing, and no damaged packet passes its checksum, a job that left its queue"
 echo "without failing has its file, complete, at the other end. docs/PROOFS.md has what else is proved, and what is not."
