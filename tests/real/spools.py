@@ -626,7 +626,7 @@ def a_file_that_cant_be_looked_at_for_a_moment(one):
     refused = ("-P", f"{beta}/.Temp/alpha/well", "-e", "inject=statx,newfstatat,lstat:error=EIO")
     called = nodes.answer("beta", peer="alpha", front=traced(one, *refused))
     nodes.call("alpha", own=False)
-    one.row("a fault", called.end().all(), (3, "", said(f"{beta}: error 5", "device fault", f"{beta}: error 5")))
+    one.row("a fault", called.end().all(), (3, "", said("device fault", f"{beta}: error 5")))
     one.row("what is there", nodes.there("beta"), {".Temp/alpha/well": "well\n", ".Received/alpha/well": "well"})
     caller, called = nodes.talk()
     one.row("the next session", (caller.all(), called.all(), nodes.pub("beta")),
@@ -647,9 +647,8 @@ def links_in_place_of_folders(one):
         nodes.call("alpha", own=False)
         wait_until(lambda: "not a directory" in running.said() or running.process.poll() is not None, 5)
         called = running.stop()
-        one.row(f"a link as {folder}", (called.out, called.err.splitlines()[:2]),
-                ("", [f"uucpair: {folder}/alpha is a link: take it away",
-                f"uucpair: {nodes.at('beta', 'spool')}: not a directory"]))
+        one.row(f"a link as {folder}", (called.out, called.err),
+                ("", said(f"{folder}/alpha is a link: take it away", "device fault", f"{nodes.at('beta', 'spool')}: not a directory")))
         one.row(f"what is behind a link as {folder}", files_below(mine), {"notes": b"mine\n"})
         os.remove(nodes.at("beta", f"spool/{folder}/alpha"))
 

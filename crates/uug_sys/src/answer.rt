@@ -196,13 +196,17 @@ fn ended(
     }
 }
 
-/// Reports at once that this line of the jobs is bad, which the next sessions may not know.
+/// Reports at once that this line of the jobs is bad, which the next sessions may not know. That of an only session is
+/// reported at the end.
 fn report_bad_line<A: Allocator + Copy, R: Files + Eprint + AllocGlobal>(
     alloc: A,
     rt: &R,
     task: &CallTask<'_>,
     line: usize,
 ) {
+    if task.sessions == 1 {
+        return;
+    }
     let fault = ToolFault::Jobs(line);
     let _ = eprint!(rt; "uucpair: {fault}\n");
     if let Ok(remark) = jobs_remark_at(alloc, rt, task.dir, line) {
@@ -211,7 +215,8 @@ fn report_bad_line<A: Allocator + Copy, R: Files + Eprint + AllocGlobal>(
     }
 }
 
-/// Reports at once why a session has ended, which the next ones don't know.
+/// Reports at once why a session has ended, which the next ones don't know. That of an only session is reported at the
+/// end.
 fn report_failure<A: Allocator + Copy, R: Eprint>(
     alloc: A,
     rt: &R,
@@ -221,6 +226,9 @@ fn report_failure<A: Allocator + Copy, R: Eprint>(
     let Some(failure) = why else {
         return;
     };
+    if task.sessions == 1 {
+        return;
+    }
     let Ok(line) = reason_line(alloc, "", task.line, task.dir, "", failure) else {
         return;
     };
