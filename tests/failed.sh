@@ -98,13 +98,15 @@ closed_output() {
     holds "full output: failed" "$(tail -n 1 "$work/a/failed")" "send gone g me"
 }
 
-# `failed` is a folder, so it can't be appended to.
+# `failed` is a folder, so it can't be appended to: the line is not opened.
 can_not_tell() {
     new_folders
     mkdir "$work/a/failed"
     echo "$jobs_text" >"$work/a/jobs"
-    talk
+    ended=0
+    "$program" call "unix:$work/line" "$work/a" --me a --peer b >/dev/null 2>"$work/err" || ended=$?
     holds "no failed: status" "$ended" 3
+    holds "no failed: why" "$(tail -n 1 "$work/err")" "uucpair: $work/a/failed: is a directory"
     holds "no failed: jobs" "$(cat "$work/a/jobs")" "$jobs_text"
     rmdir "$work/a/failed"
     talk
