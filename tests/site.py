@@ -339,9 +339,11 @@ def scene_modem(scene: Scene, caller: str) -> None:
     scene.alpha.put("dial", DIALER)
     at_device(scene.alpha, device, "modem", "dialer hayes")
     scene.both_ways(f"a modem, {caller} calls", caller)
-    told = (scene.folder / "told").read_text().split()
+    reset, dial, end = (scene.folder / "told").read_bytes().splitlines()
+    # the last packets of a caller may come when the end that was called has gone
     scene.row(
-        f"a modem, {caller} calls: it was told to reset, to dial and to hang up", told == ["ATZ", "ATDT555,1234", "+++ATH0"]
+        f"a modem, {caller} calls: it was told to reset, to dial and to hang up",
+        (reset, dial) == (b"ATZ", b"ATDT555,1234") and end.endswith(b"+++ATH0"),
     )
 
 

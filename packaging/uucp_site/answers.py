@@ -26,6 +26,8 @@ END_SECONDS = 10
 PIECE = 8192
 # A line that ends at once is opened again after so long.
 REOPEN_SECONDS = 2
+# Who is to be called back has so long to let go of its lock, by which it would refuse the call.
+CALL_BACK_SECONDS = 2
 FOREVER = 365 * 24 * 60 * 60
 
 
@@ -96,6 +98,7 @@ def answer(site: Site, line: Line, options: Options) -> bool:
         run_uuxqt(site, None)
     if called.calls_back:
         line.hang_up()
+        time.sleep(CALL_BACK_SECONDS)
         subprocess.Popen(
             [sys.argv[0], *site.config_words(), "-r1", "-s", called.calls_back],
             stdin=subprocess.DEVNULL,
