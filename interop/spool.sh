@@ -209,7 +209,7 @@ unread() {
     is "the others went" [ "$(queued alpha)$(queued beta)" = 02 ]
     is "the log says why" grep -q "^uucico alpha - .*${data##*/} is put off: permission denied" "$work/beta/log/Log"
     is "the log has the time of the place" grep -q "^uucico alpha - ($begun $(TZ=Asia/Tokyo date +%H):" "$work/beta/log/Log"
-    is "the log says that one is too long" grep -q "^uucico alpha - .*C.Nlong is put off: over the limit of 1048576 bytes" "$work/beta/log/Log"
+    is "the log says that one is too long" grep -q "^uucico alpha - .*C.Nlong is put off: too large" "$work/beta/log/Log"
     rm "$long"
     chown uucp:uucp "$data"
     finish "$1" 2

@@ -246,7 +246,7 @@ row "a play with an end that is quiet on repeats does not settle" 1 "" \
 row "an end that is quiet twice" 2 "uucpair: bad script at line 2$line_feed" "" \
     play < <(printf 'quiet caller\nquiet caller\n')
 row "an end whose commands are short twice" 2 \
-    "uucpair: bad script at line 2${line_feed}uucpair: the end is set up, numbered, quiet, short, lenient, telling digests or resuming already, or has 1024 jobs$line_feed" "" \
+    "uucpair: bad script at line 2${line_feed}uucpair: the end is set up, numbered, quiet, short, lenient, telling digests, resuming or limited already, or has 1024 jobs$line_feed" "" \
     play -v < <(printf 'short caller\nshort caller\n')
 row "an end that is lenient twice" 2 "uucpair: bad script at line 2$line_feed" "" \
     play < <(printf 'lenient called\nlenient called\n')

@@ -215,13 +215,13 @@ def a_size_that_differs(program, work):
 
 def a_file_that_is_too_large(program, work):
     talk = lambda peer: (sends(peer, telling(TEXT, 1_048_577), TEXT), sends(peer, telling(TEXT), TEXT))
-    said, printed, kept, log = called(program, work, [], talk)
-    return (said == ("SN2", "CY") and kept == {"y": "hello\n"} and "peer's send y ~/y: too large 0 bytes" in printed
-            and "ERROR: send y ~/y: too large" in log)
+    said, printed, kept, log = called(program, work, ["--file-limit", "1048576"], talk)
+    return (said == ("SN2", "CY") and kept == {"y": "hello\n"} and "peer's send y ~/y: refused, maybe for its size 0 bytes" in printed
+            and "ERROR: send y ~/y: refused, maybe for its size" in log)
 
 
 def a_strict_end_takes_what_is_told_too_large(program, work):
-    said, _, kept, _ = called(program, work, ["--strict"], lambda peer: sends(peer, telling(TEXT, 1_048_577), TEXT))
+    said, _, kept, _ = called(program, work, ["--strict", "--file-limit", "1048576"], lambda peer: sends(peer, telling(TEXT, 1_048_577), TEXT))
     return said == "CN4" and kept == {}
 
 

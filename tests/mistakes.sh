@@ -188,7 +188,8 @@ failing() {
     answerer=$!
     wait_for_socket "$work/line" || true
     call_of unix:line a
-    (cd "$work" && "${as_user[@]}" timeout 60 "$program" "${call[@]}") >"$work/printed" 2>"$work/said" </dev/null || ended=$?
+    (cd "$work" && "${as_user[@]}" timeout 60 "$program" "${call[@]}" --file-limit 1048576) >"$work/printed" 2>"$work/said" </dev/null ||
+        ended=$?
     wait "$answerer" || true
     report="caller done pending 0 struck 0 failed 1"$'\n'"caller failed $3"
     if [ "$ended" -eq 0 ] && [ "$(cat "$work/said")" = "uucpair: $3: $2" ] && [ "$(cat "$work/printed")" = "$report" ]; then
@@ -200,7 +201,7 @@ failing() {
 }
 
 failing "no such file" "no file a/send/none" "send none ~/y me"
-failing "a file that is too large" "a/send/large is over the limit of 1048576 bytes" "send large ~/y me"
+failing "a file that is too large" "a/send/large is larger than --file-limit" "send large ~/y me"
 failing "a path for a file" "a source is a name: NAME or ~/NAME" "send send/x ~/y me"
 failing "a target below a folder" "refused by the other end: in a folder a target is a name, NAME or ~/NAME" "send x ~/dir/y me"
 failing "a target here that is hidden" "a target is a name: NAME or ~/NAME, without a dot in front" "request y .y me"
@@ -451,9 +452,9 @@ mistake "no file to list" 3 "${fault}can't read none"$'\n'"none: no such file or
 mistake "a folder to play" 3 "${fault}can't read a"$'\n'"a: is a directory" play -v a
 mistake "nothing to queue in" 3 "${fault}none: no such file or directory" queue none
 mistake "no file to queue" 3 "${fault}can't read none"$'\n'"none: no such file or directory" queue a send none
-head -c 1048577 /dev/zero >"$work/large"
+truncate -s 268435457 "$work/large"
 chmod 644 "$work/large"
-mistake "a file to queue that is too large" 3 "over a limit"$'\n'"large: over the limit of 1048576 bytes" queue a send large
+mistake "a file to queue that is too large" 3 "over a limit"$'\n'"large: too large" queue a send large
 
 # Two jobs with one target.
 folders
@@ -488,7 +489,7 @@ mistake "a timeout of 0" 2 "${usage}timeout 0 is not 1 to 600" call unix:s a --m
 call_of unix:s a --speed 299
 mistake "a line that is too slow" 2 "${usage}speed 299 is not 300 to 10000000" "${call[@]}"
 call_of unix:s a --most 1048575
-mistake "no room for the largest file" 2 "${usage}most 1048575 is not 1048576 or more" "${call[@]}"
+mistake "no room for files" 2 "${usage}most 1048575 is not 1048576 or more" "${call[@]}"
 mistake "no time to be called" 2 "${usage}wait 0 is not 1 to 1000000000" answer unix:s a --me alpha --peer beta --wait 0
 call_of tcp:127.0.0.1 a
 mistake "no port" 2 "${usage}tcp:127.0.0.1 has no port of 0 to 65535" "${call[@]}"

@@ -38,7 +38,7 @@ forms() {
     : >"$work/.hidden"
     : >"$work/a b"
     head -c 1048576 /dev/zero >"$work/most"
-    head -c 1048577 /dev/zero >"$work/more"
+    truncate -s 268435457 "$work/more"
     row "nothing waits" 0 "" "" "$d"
     row "send" 0 "queued send x x me" "" "$d" send "$work/files/x" --user me
     holds "its copy" "$d/send/x" one
@@ -62,8 +62,8 @@ forms() {
         row "no user" 0 "queued request q q uucp" "" "$d" request q
         exit "$failed"
     ) || failed=$((failed + 1))
-    row "the longest file" 0 "queued send most most me" "" "$d" send "$work/most" --user me
-    row "a file that is too long" 3 "" "uucpair: over a limit"$'\n'"uucpair: $work/more: over the limit of 1048576 bytes" "$d" send "$work/more"
+    row "a large file" 0 "queued send most most me" "" "$d" send "$work/most" --user me
+    row "a file that is too long" 3 "" "uucpair: over a limit"$'\n'"uucpair: $work/more: too large" "$d" send "$work/more"
     row "no file" 3 "" "can't read $work/none"$'\n'"uucpair: $work/none: no such file or directory" "$d" send "$work/none"
     row "a folder" 3 "" "can't read $work/files"$'\n'"uucpair: $work/files: not a regular file" "$d" send "$work/files"
     mkfifo "$work/pipe"

@@ -182,6 +182,52 @@ def one_line(lock, caller):
 
 
 @scene()
+def large_files(one):
+    """Files of more than a MiB go both ways; one over the limit of its taker is refused before it comes, and one over that of its giver
+    is not sent."""
+    ends = Ends(one)
+    text = filler("large", 5_000_000)
+    for end in ("alpha", "beta"):
+        ends.give(end, large=text)
+        ends.jobs(end, "send large large me")
+    caller, called = ends.talk()
+    one.row("both ways", (caller.all(), called.all()), ((0, report("caller", struck=1), ""), (0, report("called", struck=1), "")))
+    one.row("they are whole", [text_of(ends.at(end, "got/large")) == text for end in ("alpha", "beta")], [True, True])
+    job = "send large other me"
+    for who, limits, why in (("taker", {"answer": ["--file-limit", "4999999"]}, "refused by the other end"),
+                             ("giver", {"call": ["--file-limit", "4999999"]}, "alpha/send/large is larger than --file-limit")):
+        ends.jobs("alpha", job)
+        caller, called = ends.talk(**limits)
+        one.row(f"over the limit of its {who}", (caller.all(), called.status),
+                ((0, report("caller", failed=[job]), said(f"{job}: {why}")), 0))
+    one.row("none of them came", names_in(ends.at("beta", "got")), ["large"])
+    ends.jobs("alpha", job)
+    limit = ["--file-limit", "5000000"]
+    caller, called = ends.talk(call=limit, answer=limit)
+    one.row("just as large as it may be", (caller.all(), called.status, text_of(ends.at("beta", "got/other")) == text),
+            ((0, report("caller", struck=1), ""), 0, True))
+
+
+@scene()
+def files_about_as_large_as_they_may_be(one):
+    """Around each limit: what one end may give, and what the other may take."""
+    for limit in (1, 100, 1_048_576, 5_000_000):
+        ends = Ends(one)
+        sizes = {"less": limit - 1, "just": limit, "more": limit + 1}
+        ends.give("alpha", **{name: filler(name, size) for name, size in sizes.items()})
+        for who in ("call", "answer"):
+            ends.jobs("alpha", *(f"send {name} {name} me" for name in sizes))
+            caller, called = ends.talk(**{who: ["--file-limit", str(limit)]})
+            why = "alpha/send/more is larger than --file-limit" if who == "call" else "refused by the other end"
+            job = "send more more me"
+            one.row(f"{limit}, {who}", (caller.all(), called.status), ((0, report("caller", struck=2, failed=[job]), said(f"{job}: {why}")), 0))
+            one.row(f"what has come, {limit}, {who}", {name: len(text_of(ends.at("beta", f"got/{name}"))) for name in names_in(ends.at("beta", "got"))},
+                    {"less": limit - 1, "just": limit})
+            for name in names_in(ends.at("beta", "got")):
+                os.remove(ends.at("beta", f"got/{name}"))
+
+
+@scene()
 def the_sizes_of_files(one):
     """Files of no byte, of one, of the most that may go, and of one more; each way."""
     ends = Ends(one)
@@ -190,12 +236,13 @@ def the_sizes_of_files(one):
         ends.give(end, **{f"{name}-{end}": filler(name + end, size) for name, size in sizes.items()})
         ends.jobs(end, *(f"send {name}-{end} {name} me" for name in sizes))
     write(ends.at("alpha", "jobs"), "request more-beta asked me\n", "ab")
-    caller, called = ends.talk()
+    limit = ["--file-limit", "1048576"]
+    caller, called = ends.talk(call=limit, answer=limit)
     one.row("call", caller.all(), (0, report("caller", struck=3, failed=["send more-alpha more me",
             "request more-beta asked me"]),
-                                   said("send more-alpha more me: alpha/send/more-alpha is over the limit of 1048576 bytes", f"request more-beta asked me: {NOT_GIVEN}")))
+                                   said("send more-alpha more me: alpha/send/more-alpha is larger than --file-limit", f"request more-beta asked me: {NOT_GIVEN}")))
     one.row("answer", called.all(), (0, report("called", struck=3, failed=["send more-beta more me"]),
-            said("send more-beta more me: beta/send/more-beta is over the limit of 1048576 bytes")))
+            said("send more-beta more me: beta/send/more-beta is larger than --file-limit")))
     for end, other in (("alpha", "beta"), ("beta", "alpha")):
         found = {name: text_of(ends.at(end, f"got/{name}")) for name in names_in(ends.at(end, "got"))}
         expected = {name: filler(name + other, size) for name, size in sizes.items() if name != "more"}

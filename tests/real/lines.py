@@ -16,10 +16,11 @@ INITA = bytes([DLE, 9, 0x6B, 0xAA, 0x3F, 9 ^ 0x6B ^ 0xAA ^ 0x3F])
 
 class Cable:
     """A line to the socket of a scene: so many bytes a second, so many at most, and of each `every`th packet one thing is done.
-    Where `before` is a word and a number, the line is gone before the word has passed for so manieth time."""
+    Where `before` is a word and a number, the line is gone before the word has passed for so manieth time. Before it is gone `then`
+    is called."""
 
-    def __init__(self, one, rate=10_000_000, most=None, every=None, seed=1, before=None):
-        self.rate, self.most, self.every = rate, most, every
+    def __init__(self, one, rate=10_000_000, most=None, every=None, seed=1, before=None, then=lambda: None):
+        self.rate, self.most, self.every, self.then = rate, most, every, then
         self.word, self.left = before or (None, 0)
         self.passed = self.packets = 0
         self.heard = b""
@@ -46,6 +47,7 @@ class Cable:
             self.relay(near, far)
         except OSError:
             pass
+        self.then()
         near.close()
         far.close()
 

@@ -24,7 +24,8 @@ def what_queue_says(one):
     write(one.path("files/x"), "one\n")
     write(one.path("x"), "two\n")
     write(one.path("most"), filler("most", 1_048_576))
-    write(one.path("more"), filler("more", 1_048_577))
+    write(one.path("more"), "")
+    os.truncate(one.path("more"), 268_435_457)
     write(one.path("a b"), "")
     write(one.path(".h"), "")
     os.mkfifo(one.path("pipe"))
@@ -37,8 +38,8 @@ def what_queue_says(one):
         ("request", ("request", "~/q", "--user", "me"), (0, "queued request ~/q q me\n", "")),
         ("request with a target", ("request", "q", "r", "--user", "me"), (0, "queued request q r me\n", "")),
         ("the list", (), (0, "send x x me\nsend x.1 y me\nrequest ~/q q me\nrequest q r me\n", "")),
-        ("the longest file", ("send", "most", "--user", "me"), (0, "queued send most most me\n", "")),
-        ("a longer one", ("send", "more"), (3, "", said("over a limit", "more: over the limit of 1048576 bytes"))),
+        ("a large file", ("send", "most", "--user", "me"), (0, "queued send most most me\n", "")),
+        ("a longer one", ("send", "more"), (3, "", said("over a limit", "more: too large"))),
         ("no file", ("send", "none"), cant("none", "no such file or directory")),
         ("a folder", ("send", "files"), cant("files", "not a regular file")),
         ("a pipe", ("send", "pipe"), cant("pipe", "not a regular file")),

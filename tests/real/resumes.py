@@ -274,6 +274,34 @@ def old_files_that_are_held(one):
         one.row(f"behind {days} days", names_in(ends.at("beta", "partial")), [digest(text), "mine"] if is_there else ["mine"])
 
 
+def kill_at(one, ends, giver, who, most):
+    """Runs a session in which the giver or the taker is killed behind so many bytes. Returns how many passed."""
+    running = {"beta": ends.answer(one.line, *QUICK)}
+    victim = giver if who == "giver" else taker_of(giver)
+    cable = Cable(one, most=most, then=lambda: running[victim].process.kill())
+    running["alpha"] = one.start(ends.words("call", cable.line, *QUICK))
+    for end in ("alpha", "beta"):
+        running[end].end()
+    cable.mover.join()
+    return cable.passed
+
+
+@scene()
+def ends_that_are_killed(one):
+    """What comes is written down as it comes: behind a kill the next session goes on there, but for a little."""
+    text = filler("killed", 1_000_000)
+    for giver in ("alpha", "beta"):
+        for who in ("giver", "taker"):
+            ends = ends_with(one, giver, killed=text)
+            passed = sessions = 0
+            while text_of(ends.at(giver, "jobs")) and sessions < 12:
+                passed, sessions = passed + kill_at(one, ends, giver, who, 300_000), sessions + 1
+            one.holds(f"{giver} gives, the {who} is killed: its bytes pass 1.2 times at most", passed <= 1_200_000, (passed, sessions))
+            one.row(f"{giver} gives, the {who} is killed: it comes", (text_of(ends.at(taker_of(giver), "got/killed")) == text,
+                    held(ends, taker_of(giver)), text_of(ends.at(giver, "jobs"))), (True, {}, ""))
+            os.remove(ends.at(taker_of(giver), "got/killed"))
+
+
 @scene()
 def a_file_that_is_cut_off_over_a_spool(one):
     """What has come is held in the spool of its taker, for that system; it comes whole, and each byte once."""

@@ -852,7 +852,7 @@ def commands_that_are_given_up(one):
     for number, asks in (("0007", "first@alpha"), ("0008", "second@alpha")):
         nodes.mail("alpha", number, "x" * 1_048_577, options="-CRZ", notify=asks)
     nodes.mail("alpha", "0009", "well\n")
-    caller, called = nodes.talk()
+    caller, called = nodes.talk(call=["--file-limit", "1048576"])
     one.row("call", (caller.status, caller.out.splitlines()[0]), (0, "caller done pending 0 struck 2 failed 4"))
     there = nodes.there("alpha")
     mails = [text for name, text in sorted(there.items()) if "/D./" in name]

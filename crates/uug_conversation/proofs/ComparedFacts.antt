@@ -4,6 +4,7 @@ use Rattle.hex.proofs.OnLiterals.{hex_on_literals}
 use Rattle.uug_digest.specs.Digests.{digest_of, told_by_answer, told_by_order}
 use Rattle.uug_digest.specs.declared.file_digest.FileDigest.{FileDigest}
 use Rattle.uug_talk.specs.declared.answer.Answer.TheVariants as answer
+use Rattle.uug_talk.specs.declared.gather.TheConstants.{FILE_MAX}
 use Rattle.uug_conversation.specs.declared.awaits.Awaits.TheVariants as awaits
 use Rattle.uug_conversation.specs.Holdings.{Holdings, kept_file}
 use Rattle.uug_conversation.specs.Machine.{replies, keeps, opening, on_text, on_file, on_sent_file}
@@ -28,14 +29,14 @@ telling_answer = codes "RY 0600 \"\" 0x00000003 sha256:ba7816bf8f01cfea414140de5
 
 record IsHeard : Type 0 where
   send : on_text telling_x awaits.Order telling_send (ahead []) ≡
-      replies (ahead []) (awaits.SentFile q y 384 (told_by_order telling_send)) (the_consent 0 ∷ [])
+      replies (ahead []) (awaits.SentFile q y 384 (told_by_order telling_send) FILE_MAX) (the_consent 0 ∷ [])
   none_told : on_text telling_x awaits.Order (codes "S q y u - D.0 0600") (ahead []) ≡
-      replies (ahead []) (awaits.SentFile q y 384 None) (the_consent 0 ∷ [])
+      replies (ahead []) (awaits.SentFile q y 384 None FILE_MAX) (the_consent 0 ∷ [])
   not_heard : on_text has_x awaits.Order telling_send (ahead []) ≡
-      replies (ahead []) (awaits.SentFile q y 384 None) (the_consent 0 ∷ [])
+      replies (ahead []) (awaits.SentFile q y 384 None FILE_MAX) (the_consent 0 ∷ [])
   answer : on_text telling_x awaits.RequestAnswer telling_answer asking ≡
-      replies asking (awaits.AskedFile 384 (told_by_answer telling_answer)) []
-  size_alone : on_text telling_x awaits.RequestAnswer (codes "RY 0600 0x6") asking ≡ replies asking (awaits.AskedFile 384 None) []
+      replies asking (awaits.AskedFile 384 (told_by_answer telling_answer) FILE_MAX) []
+  size_alone : on_text telling_x awaits.RequestAnswer (codes "RY 0600 0x6") asking ≡ replies asking (awaits.AskedFile 384 None FILE_MAX) []
 
 heard_so : IsHeard
 unfolding hex_on_literals
@@ -49,15 +50,15 @@ abbrev of_five : Option FileDigest
 of_five = Some (record { size = 5; hash = [] })
 
 record AreCompared : Type 0 where
-  same : on_file telling_x (awaits.SentFile q y 384 of_six) six_bytes two ≡
+  same : on_file telling_x (awaits.SentFile q y 384 of_six FILE_MAX) six_bytes two ≡
       keeps (kept_file y 384 six_bytes) (replies two awaits.Order (the_answer answer.DoneYes ∷ []))
-  same_fixed : on_file (comparing (fixed y)) (awaits.SentFile q y 384 of_six) six_bytes two ≡
+  same_fixed : on_file (comparing (fixed y)) (awaits.SentFile q y 384 of_six FILE_MAX) six_bytes two ≡
       replies two awaits.Order (the_answer answer.DoneNever ∷ [])
-  other : on_file telling_x (awaits.SentFile q y 384 of_five) six_bytes two ≡
+  other : on_file telling_x (awaits.SentFile q y 384 of_five FILE_MAX) six_bytes two ≡
       replies two awaits.Order (the_answer answer.DoneLater ∷ [])
-  other_fixed : on_file (comparing (fixed y)) (awaits.SentFile q y 384 of_five) six_bytes two ≡
+  other_fixed : on_file (comparing (fixed y)) (awaits.SentFile q y 384 of_five FILE_MAX) six_bytes two ≡
       replies two awaits.Order (the_answer answer.DoneLater ∷ [])
-  none_told : on_file telling_x (awaits.SentFile q y 384 None) six_bytes two ≡
+  none_told : on_file telling_x (awaits.SentFile q y 384 None FILE_MAX) six_bytes two ≡
       keeps (kept_file y 384 six_bytes) (replies two awaits.Order (the_answer answer.DoneYes ∷ []))
 
 six_fit : fits of_six six_bytes ≡ true

@@ -64,13 +64,13 @@ module _ (told : FileDigest) where
 
   whole_fits : (h : Holdings) (w : Awaits) (bytes : List ℕ) (l : Lists) → told_awaited w ≡ Some told →
       AllFit told (on_whole (kind_awaited w) h w bytes l).keeps
-  whole_fits h (awaits.SentFile source target mode told_so) bytes l e =
-      subst (λ z. AllFit told (on_file h (awaits.SentFile source target mode z) bytes l).keeps) (sym e)
+  whole_fits h (awaits.SentFile source target mode told_so limit) bytes l e =
+      subst (λ z. AllFit told (on_file h (awaits.SentFile source target mode z limit) bytes l).keeps) (sym e)
       (sent_fits (file_verdict h target (Some told) (front_of h source (Some told) ++ bytes))
       (record { name = target; mode = mode; bytes = front_of h source (Some told) ++ bytes }) l
       (yes_fits h target (front_of h source (Some told) ++ bytes)))
-  whole_fits h (awaits.AskedFile mode told_so) bytes l e =
-      subst (λ z. AllFit told (on_file h (awaits.AskedFile mode z) bytes l).keeps) (sym e)
+  whole_fits h (awaits.AskedFile mode told_so limit) bytes l e =
+      subst (λ z. AllFit told (on_file h (awaits.AskedFile mode z limit) bytes l).keeps) (sym e)
       (file_of_fits h l.ahead mode bytes l)
   whole_fits h _ bytes l e = absurd cc
 
@@ -108,8 +108,8 @@ reply_fits h none_waits s message told e = early_fits (comes_early s.awaits none
 
 -- this end awaits a file of which it has heard that, or none
 abbrev HasHeard : Option FileDigest → Awaits → Type 0
-HasHeard told (awaits.SentFile source target mode told_so) = told_so ≡ told
-HasHeard told (awaits.AskedFile mode told_so) = told_so ≡ told
+HasHeard told (awaits.SentFile source target mode told_so limit) = told_so ≡ told
+HasHeard told (awaits.AskedFile mode told_so limit) = told_so ≡ told
 HasHeard told _ = Unit {0}
 
 after_command : (told : Option FileDigest) (next : Order) → HasHeard told (awaits_answer_to next)
@@ -117,11 +117,11 @@ after_command told (order.Send source target user temp mode) = tt
 after_command told (order.Request source target user) = tt
 after_command told order.HangUp = tt
 
-after_send : (verdict : Verdict) (front source target : List ℕ) (mode : ℕ) (told : Option FileDigest) (l : Lists) →
-    HasHeard told (on_send verdict front source target mode told l).state.awaits
-after_send Yes front source target mode told l = refl
-after_send Never front source target mode told l = tt
-after_send Later front source target mode told l = tt
+after_send : (limit : ℕ) (verdict : Verdict) (front source target : List ℕ) (mode : ℕ) (told : Option FileDigest) (l : Lists) →
+    HasHeard told (on_send limit verdict front source target mode told l).state.awaits
+after_send limit Yes front source target mode told l = refl
+after_send limit Never front source target mode told l = tt
+after_send limit Later front source target mode told l = tt
 
 after_request : (told : Option FileDigest) (digests : Bool) (found : Option File) (delayed : Bool) (l : Lists) →
     HasHeard told (on_request digests found delayed l).state.awaits
@@ -141,7 +141,7 @@ after_unread told _ _ l = tt
 
 after_order : (h : Holdings) (letter : Option ℕ) (told : Option FileDigest) (read : Result Order BadText) (l : Lists) →
     HasHeard told (on_order h letter told read l).state.awaits
-after_order h letter told (Ok (order.Send source target user temp mode)) l = after_send (send_verdict h (h.landing source target) told)
+after_order h letter told (Ok (order.Send source target user temp mode)) l = after_send h.limit (send_verdict h (h.landing source target) told)
     (front_of h (fetched_by source temp) told) (fetched_by source temp) (h.landing source target) mode told l
 after_order h letter told (Ok (order.Request source target user)) l = after_request told h.digests (to_give h source) (h.delayed source) l
 after_order h letter told (Ok order.HangUp) l =
@@ -156,8 +156,8 @@ after_request_answer h told (Ok answer.GiveLater) l = after_command told _
 after_request_answer h told _ l = tt
 
 from_heard : (told : Option FileDigest) (w : Awaits) (digest : FileDigest) → HasHeard told w → told_awaited w ≡ Some digest → told ≡ Some digest
-from_heard told (awaits.SentFile source target mode told_so) digest h e = sym h ∙ e
-from_heard told (awaits.AskedFile mode told_so) digest h e = sym h ∙ e
+from_heard told (awaits.SentFile source target mode told_so limit) digest h e = sym h ∙ e
+from_heard told (awaits.AskedFile mode told_so limit) digest h e = sym h ∙ e
 from_heard told _ digest h e = absurd cc
 
 -- what was told of a file that is awaited was read in the command that was taken, or in the answer
@@ -181,7 +181,7 @@ pub order_awaited : (h : Holdings) (text : List ℕ) (l : Lists) (source target 
 order_awaited h text l source target user temp mode read verdict =
     let told = heard h.digests (told_by_order text) in
     ap (λ z. told_awaited (on_order h (refused_letter_of text) told z l).state.awaits) read
-    ∙ ap (λ z. told_awaited (on_send z (front_of h (fetched_by source temp) told) (fetched_by source temp) (h.landing source target) mode told l).state.awaits) verdict
+    ∙ ap (λ z. told_awaited (on_send h.limit z (front_of h (fetched_by source temp) told) (fetched_by source temp) (h.landing source target) mode told l).state.awaits) verdict
 
 pub answer_awaited : (h : Holdings) (text : List ℕ) (l : Lists) (mode : ℕ) → or_wished (answer_of text) h.lenient text ≡ Ok (answer.GiveYes mode) →
     told_awaited (on_text h awaits.RequestAnswer text l).state.awaits ≡ heard h.digests (told_by_answer text)

@@ -65,11 +65,11 @@ goes_on_after x y h move l before =
 
 -- ---- a slave
 
-send_behind : (x y : List Job) (verdict : Verdict) (front source target : List ℕ) (mode : ℕ) (told : Option FileDigest) (l : Lists) →
-    on_send verdict front source target mode told (behind x y l) ≡ reply_behind x y (on_send verdict front source target mode told l)
-send_behind x y Yes front source target mode told l = refl
-send_behind x y Never front source target mode told l = refl
-send_behind x y Later front source target mode told l = refl
+send_behind : (x y : List Job) (limit : ℕ) (verdict : Verdict) (front source target : List ℕ) (mode : ℕ) (told : Option FileDigest) (l : Lists) →
+    on_send limit verdict front source target mode told (behind x y l) ≡ reply_behind x y (on_send limit verdict front source target mode told l)
+send_behind x y limit Yes front source target mode told l = refl
+send_behind x y limit Never front source target mode told l = refl
+send_behind x y limit Later front source target mode told l = refl
 
 request_behind : (x y : List Job) (digests : Bool) (offered : Option File) (delayed : Bool) (l : Lists) →
     on_request digests offered delayed (behind x y l) ≡ reply_behind x y (on_request digests offered delayed l)
@@ -89,7 +89,7 @@ unread_behind x y _ _ l = refl
 
 order_behind : (x y : List Job) (h : Holdings) (letter : Option ℕ) (told : Option FileDigest) (read : Result Order BadText)
     (l : Lists) → on_order h letter told read (behind x y l) ≡ reply_behind x y (on_order h letter told read l)
-order_behind x y h letter told (Ok (order.Send source target user temp mode)) l = send_behind x y (send_verdict h (h.landing source target) told)
+order_behind x y h letter told (Ok (order.Send source target user temp mode)) l = send_behind x y h.limit (send_verdict h (h.landing source target) told)
     (front_of h (fetched_by source temp) told) (fetched_by source temp) (h.landing source target) mode told l
 order_behind x y h letter told (Ok (order.Request source target user)) l = request_behind x y h.digests (to_give h source) (h.delayed source) l
 order_behind x y h letter told (Ok order.HangUp) l =
@@ -196,11 +196,11 @@ file_of_behind x y h _ mode told bytes l = refl
 
 file_behind : (x y : List Job) (h : Holdings) (awaited : Awaits) (bytes : List ℕ) (l : Lists) →
     on_file h awaited bytes (behind x y l) ≡ reply_behind x y (on_file h awaited bytes l)
-file_behind x y h (awaits.SentFile source target mode told) bytes l =
+file_behind x y h (awaits.SentFile source target mode told limit) bytes l =
     sent_file_behind x y (file_verdict h target told (front_of h source told ++ bytes))
     (record { name = target; mode = mode; bytes = front_of h source told ++ bytes }) l
-file_behind x y h (awaits.AskedFile mode told) bytes l = file_of_behind x y h l.ahead mode told bytes l
-file_behind x y h awaits.DroppedAskedFile bytes l = goes_on_after x y h fail l (the_answer answer.DoneNever ∷ [])
+file_behind x y h (awaits.AskedFile mode told limit) bytes l = file_of_behind x y h l.ahead mode told bytes l
+file_behind x y h (awaits.DroppedAskedFile limit) bytes l = goes_on_after x y h fail l (the_answer answer.DoneNever ∷ [])
 file_behind x y h _ bytes l = refl
 
 -- ---- one message

@@ -1,5 +1,5 @@
 -- The exchange of one job in front of what an end accords with: at the master's side, and at the slave's.
-use Rattle.std.proofs.Common.{◌≡◌, ℕ, ◌<◌, Bool, true, false, ◌&&◌, List, [], ◌∷◌, ◌++◌, length, drop, Option, Some, None, Ok, refl, sym, ap, ap₂, subst, ◌∙◌}
+use Rattle.std.proofs.Common.{◌≡◌, ℕ, ◌<◌, ◌≤◌, Bool, true, false, ◌&&◌, List, [], ◌∷◌, ◌++◌, length, drop, Option, Some, None, Ok, refl, sym, ap, ap₂, subst, ◌∙◌}
 use Rattle.uug_digest.specs.declared.file_digest.FileDigest.{FileDigest}
 use Rattle.uug_talk.specs.Chunks.{Measure}
 use Rattle.uug_talk.specs.declared.answer.Answer.TheVariants as answer
@@ -17,7 +17,7 @@ use Rattle.uug_conversation.specs.Conversation.{exchanges}
 use Rattle.uug_conversation.specs.Exchange.{send_exchange, request_exchange, exchange}
 use Rattle.uug_conversation.specs.Holdings.{File, Kept, Holdings, to_give, kept_as, kept_file}
 use Rattle.uug_conversation.specs.Jobs.{Lists, Move, pass, strike, fail, moved, moved_once}
-use Rattle.uug_conversation.specs.Party.{HoldsFronts, Party}
+use Rattle.uug_conversation.specs.Party.{HoldsFronts, Party, TakesSizes}
 use Rattle.uug_conversation.specs.Resuming.{IsFront, front_held, front_of, position_heard}
 use Rattle.uug_digest.specs.Positions.{consent_text}
 use Rattle.uug_talk.specs.Lenient.{is_held, or_wished, refused_letter_of}
@@ -30,7 +30,6 @@ use Rattle.std.proofs.lemmas.List.{append_assoc}
 use Rattle.std.proofs.lemmas.List.Folds.{concat-append}
 use Rattle.std.specs.List.{Contains, concat}
 use Rattle.uug_talk.proofs.GathersBackLemmas.{file_back}
-use Rattle.uug_talk.specs.declared.gather.TheConstants.{FILE_MAX}
 use Rattle.uug_conversation.specs.Left.{IsLeft, left_by}
 use Rattle.uug_conversation.proofs.StoredLemmas.{Contains-head, Contains-tail}
 use Rattle.uug_conversation.proofs.ToldLemmas.{fits_given, given_is_taken}
@@ -51,7 +50,7 @@ module _ (measure_of : Side → Measure) (positive : (side : Side) → 0 < (meas
   lists passed jobs struck failed = record { passed = passed; ahead = jobs; struck = struck; failed = failed }
 
   pub say : {said : Said} {moves : List Move} {keeps : List Kept} {ts : List Turn} {s : State} {left : List (List ℕ)} →
-      IsReadBack said → Fits giver h measure_of me s left ts →
+      IsReadBack h.limit said → Fits giver h measure_of me s left ts →
       Fits giver h measure_of me s (said_messages (measure_of me) said ++ left)
       (record { speaker = me; said = said; moves = moves; keeps = keeps } ∷ ts)
   say {said} {moves} {keeps} {ts} {s} {left} back fits =
@@ -59,7 +58,7 @@ module _ (measure_of : Side → Measure) (positive : (side : Side) → 0 < (meas
 
   -- a text or a file, by the reply to it
   pub hear_text : {said : Said} {moves : List Move} {keeps : List Kept} {ts : List Turn} {l : Lists} {w : Awaits} {r : Reply} →
-      IsReadBack said → said_kind said ≡ kind_awaited w →
+      IsReadBack h.limit said → said_kind h.limit said ≡ kind_awaited w →
       LeavesFronts giver h l w (said_messages (measure_of (other me)) said) → Open w → on_whole (kind_awaited w) h w (said_bytes said) l ≡ r →
       r.state.lists ≡ moved moves l → r.keeps ≡ keeps → FitsReply r ts →
       Fits giver h measure_of me (between l w) [] (record { speaker = other me; said = said; moves = moves; keeps = keeps } ∷ ts)
@@ -75,7 +74,7 @@ module _ (measure_of : Side → Measure) (positive : (side : Side) → 0 < (meas
   -- ---- Send, at the master's
 
   rest_asked : (source target user : List ℕ) (temp : Option (List ℕ)) (file : File) → to_give h (fetched_by source temp) ≡ Some file →
-      (front : List ℕ) → GoesBehind h.digests front file → IsReadBack (the_consent (length front)) →
+      (front : List ℕ) → GoesBehind h.digests front file → IsReadBack h.limit (the_consent (length front)) →
       (passed jobs struck failed : List Job) → let l = lists passed (job.Send source target user temp ∷ jobs) struck failed in
       on_text h awaits.SendAnswer (consent_text (length front)) l
       ≡ replies l awaits.SentFileDone (the_file (drop (length front) file.bytes) ∷ [])
@@ -88,7 +87,7 @@ module _ (measure_of : Side → Measure) (positive : (side : Side) → 0 < (meas
   send_offered : (source target user : List ℕ) (temp : Option (List ℕ)) (file : File) →
       to_give h (fetched_by source temp) ≡ Some file → (name front : List ℕ) → GoesBehind h.digests front file →
       (verdict : Verdict) (immovable : Bool) → (passed jobs struck failed : List Job) (ts : List Turn) →
-      EachTurn (λ t. IsReadBack t.said) (send_exchange me (other me) h.digests source target user temp (Some file) name front verdict immovable (choice h jobs).failing ts) →
+      EachTurn (λ t. IsReadBack h.limit t.said) (send_exchange me (other me) h.digests source target user temp (Some file) name front verdict immovable (choice h jobs).failing ts) →
       Masters jobs ts →
       FitsReply (replies (lists passed (job.Send source target user temp ∷ jobs) struck failed) awaits.SendAnswer
       (the_order (order.Send source target user temp file.mode) (told_of h.digests (Some file)) ∷ []))
@@ -130,7 +129,7 @@ module _ (measure_of : Side → Measure) (positive : (side : Side) → 0 < (meas
       to_give h (fetched_by source temp) ≡ found → (name front : List ℕ) →
       ((file : File) → found ≡ Some file → GoesBehind h.digests front file) → (verdict : Verdict) (immovable : Bool) →
       (passed jobs struck failed : List Job) (ts : List Turn) →
-      EachTurn (λ t. IsReadBack t.said) (send_exchange me (other me) h.digests source target user temp found name front verdict immovable (choice h jobs).failing ts) →
+      EachTurn (λ t. IsReadBack h.limit t.said) (send_exchange me (other me) h.digests source target user temp found name front verdict immovable (choice h jobs).failing ts) →
       Masters jobs ts →
       FitsReply (chooses h (send_choice source target user temp found (choice h jobs))
       (lists passed (job.Send source target user temp ∷ jobs) struck failed) [])
@@ -148,7 +147,7 @@ module _ (measure_of : Side → Measure) (positive : (side : Side) → 0 < (meas
   request_as_master : (digests : Bool) (source target user : List ℕ) (found : Option File) (delayed immovable : Bool) →
       h.immovable (h.landing source target) ≡ immovable →
       (passed jobs struck failed : List Job) (ts : List Turn) →
-      EachTurn (λ t. IsReadBack t.said) (request_exchange me (other me) digests source target user found delayed (h.landing source target) immovable (choice h jobs).failing ts) →
+      EachTurn (λ t. IsReadBack h.limit t.said) (request_exchange me (other me) digests source target user found delayed (h.landing source target) immovable (choice h jobs).failing ts) →
       Masters jobs ts →
       FitsReply (replies (lists passed (job.Request source target user ∷ jobs) struck failed) awaits.RequestAnswer
       (the_order (order.Request source target user) None ∷ []))
@@ -168,7 +167,7 @@ module _ (measure_of : Side → Measure) (positive : (side : Side) → 0 < (meas
   request_as_master digests source target user (Some file) delayed false e passed jobs struck failed ts back rest =
       let l = lists passed (job.Request source target user ∷ jobs) struck failed in
       say back.0
-      (hear_text {r = replies l (awaits.AskedFile file.mode (heard h.digests (told_of digests (Some file)))) []} back.1.0 refl
+      (hear_text {r = replies l (awaits.AskedFile file.mode (heard h.digests (told_of digests (Some file))) h.limit) []} back.1.0 refl
       (λ front rest e. tt) (record { not_over = refl; not_bad = refl; not_parted = refl })
       (ap₂ (λ t a. on_request_answer h (heard h.digests t) (or_wished a h.lenient (giving_said file.mode (told_of digests (Some file)))) l) back.1.0.2 back.1.0.1) refl refl
       (hear_text {r = keeps (kept_as (h.landing source target) file) (goes_on h (moved_once strike l) (the_answer answer.DoneYes ∷ []))} back.1.1.0 refl
@@ -178,7 +177,7 @@ module _ (measure_of : Side → Measure) (positive : (side : Side) → 0 < (meas
   request_as_master digests source target user (Some file) delayed true e passed jobs struck failed ts back rest =
       let l = lists passed (job.Request source target user ∷ jobs) struck failed in
       say back.0
-      (hear_text {r = replies l (awaits.AskedFile file.mode (heard h.digests (told_of digests (Some file)))) []} back.1.0 refl
+      (hear_text {r = replies l (awaits.AskedFile file.mode (heard h.digests (told_of digests (Some file))) h.limit) []} back.1.0 refl
       (λ front rest e. tt) (record { not_over = refl; not_bad = refl; not_parted = refl })
       (ap₂ (λ t a. on_request_answer h (heard h.digests t) (or_wished a h.lenient (giving_said file.mode (told_of digests (Some file)))) l) back.1.0.2 back.1.0.1) refl refl
       (hear_text {r = goes_on h (moved_once fail l) (the_answer answer.DoneNever ∷ [])} back.1.1.0 refl
@@ -189,7 +188,7 @@ module _ (measure_of : Side → Measure) (positive : (side : Side) → 0 < (meas
   -- ---- all jobs of a master, at its side
 
   job_as_master : (others : Holdings) → HoldsFronts h others → (j : Job) (jobs : List Job) (ts : List Turn) →
-      EachTurn (λ t. IsReadBack t.said) (exchange me (other me) h others j (choice h jobs).failing ts) →
+      EachTurn (λ t. IsReadBack h.limit t.said) (exchange me (other me) h others j (choice h jobs).failing ts) →
       Masters jobs ts → Masters (j ∷ jobs) (exchange me (other me) h others j (choice h jobs).failing ts)
   job_as_master others fronts (job.Send source target user temp) jobs ts back rest passed struck failed =
       send_as_master source target user temp (to_give h (fetched_by source temp)) refl
@@ -201,8 +200,8 @@ module _ (measure_of : Side → Measure) (positive : (side : Side) → 0 < (meas
 
   behind_send : (master slave : Side) (digests : Bool) (source target user : List ℕ) (temp : Option (List ℕ)) (found : Option File)
       (name front : List ℕ) (verdict : Verdict) (immovable : Bool) (next : List Move) (ts : List Turn) →
-      EachTurn (λ t. IsReadBack t.said) (send_exchange master slave digests source target user temp found name front verdict immovable next ts) →
-      EachTurn (λ t. IsReadBack t.said) ts
+      EachTurn (λ t. IsReadBack h.limit t.said) (send_exchange master slave digests source target user temp found name front verdict immovable next ts) →
+      EachTurn (λ t. IsReadBack h.limit t.said) ts
   behind_send master slave digests source target user temp None name front verdict immovable next ts back = back
   behind_send master slave digests source target user temp (Some file) name front Never immovable next ts back = back.1.1
   behind_send master slave digests source target user temp (Some file) name front Later immovable next ts back = back.1.1
@@ -211,15 +210,15 @@ module _ (measure_of : Side → Measure) (positive : (side : Side) → 0 < (meas
 
   behind_request : (master slave : Side) (digests : Bool) (source target user : List ℕ) (found : Option File)
       (delayed : Bool) (name : List ℕ) (immovable : Bool) (next : List Move) (ts : List Turn) →
-      EachTurn (λ t. IsReadBack t.said) (request_exchange master slave digests source target user found delayed name immovable next ts) →
-      EachTurn (λ t. IsReadBack t.said) ts
+      EachTurn (λ t. IsReadBack h.limit t.said) (request_exchange master slave digests source target user found delayed name immovable next ts) →
+      EachTurn (λ t. IsReadBack h.limit t.said) ts
   behind_request master slave digests source target user None false name immovable next ts back = back.1.1
   behind_request master slave digests source target user None true name immovable next ts back = back.1.1
   behind_request master slave digests source target user (Some file) delayed name false next ts back = back.1.1.1.1
   behind_request master slave digests source target user (Some file) delayed name true next ts back = back.1.1.1.1
 
   behind_exchange : (master slave : Side) (own others : Holdings) (j : Job) (next : List Move) (ts : List Turn) →
-      EachTurn (λ t. IsReadBack t.said) (exchange master slave own others j next ts) → EachTurn (λ t. IsReadBack t.said) ts
+      EachTurn (λ t. IsReadBack h.limit t.said) (exchange master slave own others j next ts) → EachTurn (λ t. IsReadBack h.limit t.said) ts
   behind_exchange master slave own others (job.Send source target user temp) next ts back =
       behind_send master slave own.digests source target user temp (to_give own (fetched_by source temp))
       (others.landing source target)
@@ -229,14 +228,14 @@ module _ (measure_of : Side → Measure) (positive : (side : Side) → 0 < (meas
       (own.landing source target) (own.immovable (own.landing source target)) next ts back
 
   pub behind_exchanges : (master slave : Side) (own others : Holdings) (jobs : List Job) (ts : List Turn) →
-      EachTurn (λ t. IsReadBack t.said) (exchanges master slave own others jobs ts) → EachTurn (λ t. IsReadBack t.said) ts
+      EachTurn (λ t. IsReadBack h.limit t.said) (exchanges master slave own others jobs ts) → EachTurn (λ t. IsReadBack h.limit t.said) ts
   behind_exchanges master slave own others [] ts back = back
   behind_exchanges master slave own others (j ∷ jobs) ts back =
       behind_exchanges master slave own others jobs ts
       (behind_exchange master slave own others j (choice own jobs).failing (exchanges master slave own others jobs ts) back)
 
   pub as_master : (others : Holdings) → HoldsFronts h others → (jobs : List Job) (ts : List Turn) →
-      EachTurn (λ t. IsReadBack t.said) (exchanges me (other me) h others jobs ts) →
+      EachTurn (λ t. IsReadBack h.limit t.said) (exchanges me (other me) h others jobs ts) →
       Masters [] ts → Masters jobs (exchanges me (other me) h others jobs ts)
   as_master others fronts [] ts back rest = rest
   as_master others fronts (j ∷ jobs) ts back rest =
@@ -245,7 +244,7 @@ module _ (measure_of : Side → Measure) (positive : (side : Side) → 0 < (meas
       (behind_exchange me (other me) h others j (choice h jobs).failing (exchanges me (other me) h others jobs ts) back) rest)
 
   -- a command is taken as it was said
-  order_heard : (o : Order) (told : Option FileDigest) (l : Lists) → IsReadBack (the_order o told) →
+  order_heard : (o : Order) (told : Option FileDigest) (l : Lists) → IsReadBack h.limit (the_order o told) →
       on_whole OfCommand h awaits.Order (order_said o told) l
       ≡ on_order h (refused_letter_of (order_said o told)) (heard h.digests told) (Ok o) l
   order_heard o told l back =
@@ -255,18 +254,18 @@ module _ (measure_of : Side → Measure) (positive : (side : Side) → 0 < (meas
 
   -- the rest behind what is held is asked for
   consent_said : (digests : Bool) (source target user : List ℕ) (temp : Option (List ℕ)) (file : File) (front : List ℕ) →
-      front_of h (fetched_by source temp) (heard h.digests (told_of digests (Some file))) ≡ front → GoesBehind digests front file →
+      front_of h (fetched_by source temp) (heard h.digests (told_of digests (Some file))) ≡ front → length file.bytes ≤ h.limit →
       h.verdict (h.landing source target) ≡ Yes → (l : Lists) →
-      IsReadBack (the_order (order.Send source target user temp file.mode) (told_of digests (Some file))) →
+      IsReadBack h.limit (the_order (order.Send source target user temp file.mode) (told_of digests (Some file))) →
       on_whole OfCommand h awaits.Order (order_said (order.Send source target user temp file.mode) (told_of digests (Some file))) l
-      ≡ replies l (awaits.SentFile (fetched_by source temp) (h.landing source target) file.mode (heard h.digests (told_of digests (Some file))))
+      ≡ replies l (awaits.SentFile (fetched_by source temp) (h.landing source target) file.mode (heard h.digests (told_of digests (Some file))) h.limit)
       (the_consent (length front) ∷ [])
-  consent_said digests source target user temp file front held well v l back =
+  consent_said digests source target user temp file front held small v l back =
       let told = heard h.digests (told_of digests (Some file)) in
       order_heard (order.Send source target user temp file.mode) (told_of digests (Some file)) l back
-      ∙ ap₂ (λ b z. on_send (unless_too_large b z) (front_of h (fetched_by source temp) told) (fetched_by source temp) (h.landing source target) file.mode told l)
-      (given_is_taken h.lenient h.digests digests file well.small) v
-      ∙ ap (λ z. on_send Yes z (fetched_by source temp) (h.landing source target) file.mode told l) held
+      ∙ ap₂ (λ b z. on_send h.limit (unless_too_large b z) (front_of h (fetched_by source temp) told) (fetched_by source temp) (h.landing source target) file.mode told l)
+      (given_is_taken h.limit h.lenient h.digests digests file small) v
+      ∙ ap (λ z. on_send h.limit Yes z (fetched_by source temp) (h.landing source target) file.mode told l) held
 
   -- the rest comes, and what is held stands in front of it
   rest_taken : (digests : Bool) (source target : List ℕ) (file : File) (front : List ℕ) →
@@ -287,7 +286,7 @@ module _ (measure_of : Side → Measure) (positive : (side : Side) → 0 < (meas
       heard h.digests (told_of giver.holdings.digests (Some file)) ≡ told → front_of h (fetched_by source temp) told ≡ front →
       GoesBehind giver.holdings.digests front file → (name : List ℕ) (mode : ℕ) → to_give giver.holdings (fetched_by source temp) ≡ Some file →
       Contains giver.jobs (job.Send source target user temp) → (came : List ℕ) → IsFront came (drop (length front) file.bytes) →
-      IsLeft giver h (left_by h (awaits.SentFile (fetched_by source temp) name mode told) came)
+      IsLeft giver h (left_by h (awaits.SentFile (fetched_by source temp) name mode told h.limit) came)
   sent_left source target user temp file front None is held well name mode given inside came is_front = tt
   sent_left source target user temp file front (Some told) is held well name mode given inside came is_front = record {
     source = source;
@@ -310,10 +309,10 @@ module _ (measure_of : Side → Measure) (positive : (side : Side) → 0 < (meas
       heard h.digests (told_of giver.holdings.digests (Some file)) ≡ told → front_of h (fetched_by source temp) told ≡ front →
       GoesBehind giver.holdings.digests front file → (name : List ℕ) (mode : ℕ) (l : Lists) → to_give giver.holdings (fetched_by source temp) ≡ Some file →
       Contains giver.jobs (job.Send source target user temp) →
-      LeavesFronts giver h l (awaits.SentFile (fetched_by source temp) name mode told) (said_messages (measure_of (other me)) (the_file (drop (length front) file.bytes)))
+      LeavesFronts giver h l (awaits.SentFile (fetched_by source temp) name mode told h.limit) (said_messages (measure_of (other me)) (the_file (drop (length front) file.bytes)))
   rest_left source target user temp file front told is held well name mode l given inside came rest e =
       let bytes = drop (length front) file.bytes in
-      let whole = file_back (measure_of (other me)).size FILE_MAX bytes (positive (other me)) in
+      let whole = file_back (measure_of (other me)).size h.limit bytes (positive (other me)) in
       sent_left source target user temp file front told is held well name mode given inside (concat came)
       (concat rest, sym (ap (λ g. g.bytes) whole.whole) ∙ ap concat e ∙ concat-append came rest)
 
@@ -321,46 +320,47 @@ module _ (measure_of : Side → Measure) (positive : (side : Side) → 0 < (meas
       to_give giver.holdings (fetched_by source temp) ≡ found → Contains giver.jobs (job.Send source target user temp) → (front : List ℕ) →
       ((file : File) → found ≡ Some file → front_of h (fetched_by source temp) (heard h.digests (told_of giver.holdings.digests (Some file))) ≡ front) →
       ((file : File) → found ≡ Some file → GoesBehind giver.holdings.digests front file) →
+      ((file : File) → found ≡ Some file → length file.bytes ≤ h.limit) →
       (verdict : Verdict) → h.verdict (h.landing source target) ≡ verdict → (immovable : Bool) →
       h.immovable (h.landing source target) ≡ immovable →
       (next : List Move) (l : Lists) (ts : List Turn) →
-      EachTurn (λ t. IsReadBack t.said) (send_exchange (other me) me giver.holdings.digests source target user temp found (h.landing source target) front verdict immovable next ts) →
+      EachTurn (λ t. IsReadBack h.limit t.said) (send_exchange (other me) me giver.holdings.digests source target user temp found (h.landing source target) front verdict immovable next ts) →
       Fits giver h measure_of me (between l awaits.Order) [] ts →
       Fits giver h measure_of me (between l awaits.Order) []
       (send_exchange (other me) me giver.holdings.digests source target user temp found (h.landing source target) front verdict immovable next ts)
-  send_as_slave source target user temp None given inside front held well verdict v immovable i next l ts back rest = rest
-  send_as_slave source target user temp (Some file) given inside front held well Never v immovable i next l ts back rest =
+  send_as_slave source target user temp None given inside front held well small verdict v immovable i next l ts back rest = rest
+  send_as_slave source target user temp (Some file) given inside front held well small Never v immovable i next l ts back rest =
       hear_text {r = replies l awaits.Order (the_answer answer.SendNever ∷ [])} back.0 refl
       (λ front rest e. tt) (record { not_over = refl; not_bad = refl; not_parted = refl })
       (order_heard (order.Send source target user temp file.mode) (told_of giver.holdings.digests (Some file)) l back.0
-      ∙ ap (λ z. on_send (unless_too_large (h.lenient && is_too_large (heard h.digests (told_of giver.holdings.digests (Some file)))) z)
+      ∙ ap (λ z. on_send h.limit (unless_too_large (h.lenient && is_too_large h.limit (heard h.digests (told_of giver.holdings.digests (Some file)))) z)
       (front_of h (fetched_by source temp) (heard h.digests (told_of giver.holdings.digests (Some file)))) (fetched_by source temp) (h.landing source target)
       file.mode (heard h.digests (told_of giver.holdings.digests (Some file))) l) v) refl refl
       (say back.1.0 rest)
-  send_as_slave source target user temp (Some file) given inside front held well Later v immovable i next l ts back rest =
+  send_as_slave source target user temp (Some file) given inside front held well small Later v immovable i next l ts back rest =
       hear_text {r = replies l awaits.Order (the_answer answer.SendLater ∷ [])} back.0 refl
       (λ front rest e. tt) (record { not_over = refl; not_bad = refl; not_parted = refl })
       (order_heard (order.Send source target user temp file.mode) (told_of giver.holdings.digests (Some file)) l back.0
-      ∙ ap (λ z. on_send (unless_too_large (h.lenient && is_too_large (heard h.digests (told_of giver.holdings.digests (Some file)))) z)
+      ∙ ap (λ z. on_send h.limit (unless_too_large (h.lenient && is_too_large h.limit (heard h.digests (told_of giver.holdings.digests (Some file)))) z)
       (front_of h (fetched_by source temp) (heard h.digests (told_of giver.holdings.digests (Some file)))) (fetched_by source temp) (h.landing source target)
       file.mode (heard h.digests (told_of giver.holdings.digests (Some file))) l) v) refl refl
       (say back.1.0 rest)
-  send_as_slave source target user temp (Some file) given inside front held well Yes v false i next l ts back rest =
+  send_as_slave source target user temp (Some file) given inside front held well small Yes v false i next l ts back rest =
       let told = heard h.digests (told_of giver.holdings.digests (Some file)) in
-      hear_text {r = replies l (awaits.SentFile (fetched_by source temp) (h.landing source target) file.mode told) (the_consent (length front) ∷ [])} back.0 refl
+      hear_text {r = replies l (awaits.SentFile (fetched_by source temp) (h.landing source target) file.mode told h.limit) (the_consent (length front) ∷ [])} back.0 refl
       (λ front rest e. tt) (record { not_over = refl; not_bad = refl; not_parted = refl })
-      (consent_said giver.holdings.digests source target user temp file front (held file refl) (well file refl) v l back.0) refl refl
+      (consent_said giver.holdings.digests source target user temp file front (held file refl) (small file refl) v l back.0) refl refl
       (say back.1.0
       (hear_text {r = keeps (kept_as (h.landing source target) file) (replies l awaits.Order (the_answer answer.DoneYes ∷ []))} back.1.1.0 refl
       (rest_left source target user temp file front told refl (held file refl) (well file refl) (h.landing source target) file.mode l given inside)
       (record { not_over = refl; not_bad = refl; not_parted = refl })
       (rest_taken giver.holdings.digests (fetched_by source temp) (h.landing source target) file front (held file refl) (well file refl) false i l) refl refl
       (say back.1.1.1.0 rest)))
-  send_as_slave source target user temp (Some file) given inside front held well Yes v true i next l ts back rest =
+  send_as_slave source target user temp (Some file) given inside front held well small Yes v true i next l ts back rest =
       let told = heard h.digests (told_of giver.holdings.digests (Some file)) in
-      hear_text {r = replies l (awaits.SentFile (fetched_by source temp) (h.landing source target) file.mode told) (the_consent (length front) ∷ [])} back.0 refl
+      hear_text {r = replies l (awaits.SentFile (fetched_by source temp) (h.landing source target) file.mode told h.limit) (the_consent (length front) ∷ [])} back.0 refl
       (λ front rest e. tt) (record { not_over = refl; not_bad = refl; not_parted = refl })
-      (consent_said giver.holdings.digests source target user temp file front (held file refl) (well file refl) v l back.0) refl refl
+      (consent_said giver.holdings.digests source target user temp file front (held file refl) (small file refl) v l back.0) refl refl
       (say back.1.0
       (hear_text {r = replies l awaits.Order (the_answer answer.DoneNever ∷ [])} back.1.1.0 refl
       (rest_left source target user temp file front told refl (held file refl) (well file refl) (h.landing source target) file.mode l given inside)
@@ -373,7 +373,7 @@ module _ (measure_of : Side → Measure) (positive : (side : Side) → 0 < (meas
   request_as_slave : (source target user : List ℕ) (found : Option File) → to_give h source ≡ found → (delayed : Bool) →
       h.delayed source ≡ delayed → (name : List ℕ) (immovable : Bool) →
       (next : List Move) (l : Lists) (ts : List Turn) →
-      EachTurn (λ t. IsReadBack t.said) (request_exchange (other me) me h.digests source target user found delayed name immovable next ts) →
+      EachTurn (λ t. IsReadBack h.limit t.said) (request_exchange (other me) me h.digests source target user found delayed name immovable next ts) →
       Fits giver h measure_of me (between l awaits.Order) [] ts →
       Fits giver h measure_of me (between l awaits.Order) [] (request_exchange (other me) me h.digests source target user found delayed name immovable next ts)
   request_as_slave source target user None e false d name immovable next l ts back rest =
@@ -403,26 +403,26 @@ module _ (measure_of : Side → Measure) (positive : (side : Side) → 0 < (meas
 
   -- ---- all jobs of the other end, at the slave's side: its own jobs don't move
 
-  job_as_slave : HoldsFronts giver.holdings h → (j : Job) → Contains giver.jobs j → (next : List Move) (l : Lists) (ts : List Turn) →
-      EachTurn (λ t. IsReadBack t.said) (exchange (other me) me giver.holdings h j next ts) →
+  job_as_slave : HoldsFronts giver.holdings h → TakesSizes giver.holdings h → (j : Job) → Contains giver.jobs j → (next : List Move) (l : Lists) (ts : List Turn) →
+      EachTurn (λ t. IsReadBack h.limit t.said) (exchange (other me) me giver.holdings h j next ts) →
       Fits giver h measure_of me (between l awaits.Order) [] ts →
       Fits giver h measure_of me (between l awaits.Order) [] (exchange (other me) me giver.holdings h j next ts)
-  job_as_slave fronts (job.Send source target user temp) inside next l ts back rest =
+  job_as_slave fronts sizes (job.Send source target user temp) inside next l ts back rest =
       let found = to_give giver.holdings (fetched_by source temp) in
       send_as_slave source target user temp found refl inside (front_held h giver.holdings.digests (fetched_by source temp) found)
       (λ file e. ap (λ z. front_held h giver.holdings.digests (fetched_by source temp) z) (sym e))
-      (goes_behind giver.holdings h fronts (fetched_by source temp) found refl) (h.verdict (h.landing source target)) refl
+      (goes_behind giver.holdings h fronts (fetched_by source temp) found refl) (λ file e. sizes (fetched_by source temp) file e) (h.verdict (h.landing source target)) refl
       (h.immovable (h.landing source target)) refl next l ts back rest
-  job_as_slave fronts (job.Request source target user) inside next l ts back rest =
+  job_as_slave fronts sizes (job.Request source target user) inside next l ts back rest =
       request_as_slave source target user (to_give h source) refl (h.delayed source) refl (giver.holdings.landing source target)
       (giver.holdings.immovable (giver.holdings.landing source target)) next l ts back rest
 
-  pub as_slave : HoldsFronts giver.holdings h → (jobs : List Job) → ((j : Job) → Contains jobs j → Contains giver.jobs j) → (l : Lists) (ts : List Turn) →
-      EachTurn (λ t. IsReadBack t.said) (exchanges (other me) me giver.holdings h jobs ts) →
+  pub as_slave : HoldsFronts giver.holdings h → TakesSizes giver.holdings h → (jobs : List Job) → ((j : Job) → Contains jobs j → Contains giver.jobs j) → (l : Lists) (ts : List Turn) →
+      EachTurn (λ t. IsReadBack h.limit t.said) (exchanges (other me) me giver.holdings h jobs ts) →
       Fits giver h measure_of me (between l awaits.Order) [] ts →
       Fits giver h measure_of me (between l awaits.Order) [] (exchanges (other me) me giver.holdings h jobs ts)
-  as_slave fronts [] inside l ts back rest = rest
-  as_slave fronts (j ∷ jobs) inside l ts back rest =
-      job_as_slave fronts j (inside j (Contains-head j jobs)) (choice giver.holdings jobs).failing l (exchanges (other me) me giver.holdings h jobs ts) back
-      (as_slave fronts jobs (λ k i. inside k (Contains-tail j jobs k i)) l ts
+  as_slave fronts sizes [] inside l ts back rest = rest
+  as_slave fronts sizes (j ∷ jobs) inside l ts back rest =
+      job_as_slave fronts sizes j (inside j (Contains-head j jobs)) (choice giver.holdings jobs).failing l (exchanges (other me) me giver.holdings h jobs ts) back
+      (as_slave fronts sizes jobs (λ k i. inside k (Contains-tail j jobs k i)) l ts
       (behind_exchange (other me) me giver.holdings h j (choice giver.holdings jobs).failing (exchanges (other me) me giver.holdings h jobs ts) back) rest)

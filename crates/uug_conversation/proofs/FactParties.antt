@@ -7,6 +7,7 @@ use Rattle.uug_conversation.specs.declared.verdict.Verdict.{Verdict}
 use Rattle.uug_conversation.specs.declared.verdict.Verdict.TheVariants.{Yes, Never, Later}
 use Rattle.uug_conversation.specs.Holdings.{File, Holdings}
 use Rattle.uug_conversation.specs.Party.{Party}
+use Rattle.uug_talk.specs.declared.gather.TheConstants.{FILE_MAX}
 
 -- one file, and one name that is taken in no other way than Yes, or can't be put in its place
 pub data Exception : Type 0 where
@@ -38,6 +39,7 @@ holdings name file exception = record {
   partials = None;
   lenient = false;
   digests = false;
+  limit = FILE_MAX;
 }
 
 abbrev pub end_with : List Job → (name : List ℕ) → Option File → Exception → Party

@@ -3,6 +3,7 @@
 use Rattle.std.proofs.Common.{◌≡◌, ℕ, List, [], ◌∷◌, ◌++◌, codes, Some, None, refl}
 use Rattle.uug_talk.specs.declared.answer.Answer.TheVariants as answer
 use Rattle.uug_talk.specs.declared.order.Order.TheVariants as order
+use Rattle.uug_talk.specs.declared.gather.TheConstants.{FILE_MAX}
 use Rattle.uug_conversation.specs.declared.awaits.Awaits.TheVariants as awaits
 use Rattle.uug_conversation.specs.Holdings.{Holdings}
 use Rattle.uug_conversation.specs.Jobs.{at_start}
@@ -35,17 +36,17 @@ yq = codes "yq"
 
 pub record AreLanded : Type 0 where
   pub sent : on_text (lands no_exception) awaits.Order (codes "S q y u - D.0 0600") (ahead []) ≡
-      replies (ahead []) (awaits.SentFile q yq 384 None) (the_consent 0 ∷ [])
+      replies (ahead []) (awaits.SentFile q yq 384 None FILE_MAX) (the_consent 0 ∷ [])
   pub denied_there : on_text (lands (denied yq)) awaits.Order (codes "S q y u - D.0 0600") (ahead []) ≡
       replies (ahead []) awaits.Order (the_answer answer.SendNever ∷ [])
   pub later_there : on_text (lands (put_off yq)) awaits.Order (codes "S q y u - D.0 0600") (ahead []) ≡
       replies (ahead []) awaits.Order (the_answer answer.SendLater ∷ [])
   pub folder_denied : on_text (lands (denied y)) awaits.Order (codes "S q y u - D.0 0600") (ahead []) ≡
-      replies (ahead []) (awaits.SentFile q yq 384 None) (the_consent 0 ∷ [])
-  pub asked : on_file (lands no_exception) (awaits.AskedFile 384 None) six_bytes (ahead (request ∷ [])) ≡
+      replies (ahead []) (awaits.SentFile q yq 384 None FILE_MAX) (the_consent 0 ∷ [])
+  pub asked : on_file (lands no_exception) (awaits.AskedFile 384 None FILE_MAX) six_bytes (ahead (request ∷ [])) ≡
       keeps (record { name = yq; mode = 384; bytes = six_bytes })
       (replies (at_start [] (request ∷ []) []) awaits.HangUpAnswer (the_answer answer.DoneYes ∷ the_order order.HangUp None ∷ []))
-  pub asked_fixed : on_file (lands (fixed yq)) (awaits.AskedFile 384 None) six_bytes (ahead (request ∷ [])) ≡
+  pub asked_fixed : on_file (lands (fixed yq)) (awaits.AskedFile 384 None FILE_MAX) six_bytes (ahead (request ∷ [])) ≡
       replies (at_start [] [] (request ∷ [])) awaits.HangUpAnswer (the_answer answer.DoneNever ∷ the_order order.HangUp None ∷ [])
 
 pub landed : AreLanded

@@ -16,8 +16,8 @@ use Rattle.uug_conversation.proofs.FactParties.{x, y, six_bytes, send, send_noth
 use Rattle.uug_conversation.proofs.MachineFacts.{ahead, asking, first_passed, first_struck, has_x, order_of_first, order_of_second, two}
 
 -- has one file, x, and is lenient
-abbrev lenient_x : Holdings
-lenient_x = record { file = has_x.file; delayed = λ name. false; verdict = has_x.verdict; immovable = has_x.immovable; landing = has_x.landing; partials = has_x.partials; lenient = true; digests = has_x.digests }
+abbrev pub lenient_x : Holdings
+lenient_x = record { file = has_x.file; delayed = λ name. false; verdict = has_x.verdict; immovable = has_x.immovable; landing = has_x.landing; partials = has_x.partials; lenient = true; digests = has_x.digests; limit = has_x.limit }
 
 -- ---- commands that can't be read
 
@@ -33,7 +33,7 @@ record AreUnread : Type 0 where
   nothing : on_text lenient_x awaits.Order [] two ≡ replies two awaits.Bad []
   an_answer : on_text lenient_x awaits.SendAnswer (codes "X a") two ≡ replies two awaits.Bad []
   good : on_text lenient_x awaits.Order (codes "S x y u - D.0 0600") (ahead []) ≡
-      replies (ahead []) (awaits.SentFile x y 384 None) (the_consent 0 ∷ [])
+      replies (ahead []) (awaits.SentFile x y 384 None FILE_MAX) (the_consent 0 ∷ [])
   strict : on_text has_x awaits.Order (codes "X a/* y u -") two ≡ replies two awaits.Bad []
   strict_send : on_text has_x awaits.Order (codes "S x y u") two ≡ replies two awaits.Bad []
 
@@ -56,18 +56,18 @@ unread = record {
 
 -- ---- a file that is told to be too large
 
-abbrev told_size : ℕ → FileDigest
+abbrev pub told_size : ℕ → FileDigest
 told_size n = record { size = n; hash = [] }
 
-abbrev order_of_y : Order
+abbrev pub order_of_y : Order
 order_of_y = order.Send (codes "x") y (codes "u") None 384
 
 record AreLarge : Type 0 where
   larger : on_order lenient_x None (Some (told_size 1048577)) (Ok order_of_y) two ≡ replies two awaits.Order (the_answer answer.SendNever ∷ [])
   largest : on_order lenient_x None (Some (told_size 1048576)) (Ok order_of_y) two ≡
-      replies two (awaits.SentFile x y 384 (Some (told_size 1048576))) (the_consent 0 ∷ [])
+      replies two (awaits.SentFile x y 384 (Some (told_size 1048576)) FILE_MAX) (the_consent 0 ∷ [])
   strict : on_order has_x None (Some (told_size 1048577)) (Ok order_of_y) two ≡
-      replies two (awaits.SentFile x y 384 (Some (told_size 1048577))) (the_consent 0 ∷ [])
+      replies two (awaits.SentFile x y 384 (Some (told_size 1048577)) FILE_MAX) (the_consent 0 ∷ [])
 
 large : AreLarge
 large = record { larger = refl; largest = refl; strict = refl }
@@ -91,7 +91,7 @@ held = record { struck = refl; strict = refl; later = refl; other_job = refl }
 -- ---- RY, and an M behind its mode
 
 record AreWished : Type 0 where
-  comes : on_text lenient_x awaits.RequestAnswer (codes "RY 0644M 0x6") asking ≡ replies asking (awaits.AskedFile 420 None) []
+  comes : on_text lenient_x awaits.RequestAnswer (codes "RY 0644M 0x6") asking ≡ replies asking (awaits.AskedFile 420 None FILE_MAX) []
   strict : on_text has_x awaits.RequestAnswer (codes "RY 0644M 0x6") asking ≡ replies asking awaits.Bad []
 
 wished : AreWished
@@ -114,13 +114,13 @@ delayed = record { later = refl; never = refl; there = refl }
 -- ---- a file past its limit
 
 record AreDropped : Type 0 where
-  sent : on_past_limit true (OfFile FILE_MAX) (awaits.SentFile x y 384 None) two ≡ replies two awaits.DroppedSentFile []
-  sent_on : on_past_limit true (OfFile FILE_MAX) awaits.DroppedSentFile two ≡ replies two awaits.DroppedSentFile []
-  asked : on_past_limit true (OfFile FILE_MAX) (awaits.AskedFile 384 None) two ≡ replies two awaits.DroppedAskedFile []
+  sent : on_past_limit true (OfFile FILE_MAX) (awaits.SentFile x y 384 None FILE_MAX) two ≡ replies two (awaits.DroppedSentFile FILE_MAX) []
+  sent_on : on_past_limit true (OfFile FILE_MAX) (awaits.DroppedSentFile FILE_MAX) two ≡ replies two (awaits.DroppedSentFile FILE_MAX) []
+  asked : on_past_limit true (OfFile FILE_MAX) (awaits.AskedFile 384 None FILE_MAX) two ≡ replies two (awaits.DroppedAskedFile FILE_MAX) []
   text : on_past_limit true OfCommand awaits.Order two ≡ replies two awaits.Bad []
-  strict : on_past_limit false (OfFile FILE_MAX) (awaits.SentFile x y 384 None) two ≡ replies two awaits.Bad []
-  sent_end : on_file lenient_x awaits.DroppedSentFile six_bytes two ≡ replies two awaits.Order (the_answer answer.DoneNever ∷ [])
-  asked_end : on_file lenient_x awaits.DroppedAskedFile six_bytes asking ≡
+  strict : on_past_limit false (OfFile FILE_MAX) (awaits.SentFile x y 384 None FILE_MAX) two ≡ replies two awaits.Bad []
+  sent_end : on_file lenient_x (awaits.DroppedSentFile FILE_MAX) six_bytes two ≡ replies two awaits.Order (the_answer answer.DoneNever ∷ [])
+  asked_end : on_file lenient_x (awaits.DroppedAskedFile FILE_MAX) six_bytes asking ≡
       replies (record { passed = []; ahead = send ∷ []; struck = []; failed = request ∷ send_nothing ∷ [] })
       awaits.SendAnswer (the_answer answer.DoneNever ∷ the_order order_of_first None ∷ [])
 

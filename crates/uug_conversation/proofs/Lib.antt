@@ -17,6 +17,7 @@ mod FrontLemmas
 mod GoingOnLemmas
 mod LandingFacts
 mod LenientFacts
+mod LimitFacts
 mod LimitLemmas
 mod MachineFacts
 mod MachineLemmas

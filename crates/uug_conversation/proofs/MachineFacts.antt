@@ -5,6 +5,7 @@ use Rattle.uug_talk.specs.declared.answer.Answer.TheVariants as answer
 use Rattle.uug_talk.specs.declared.order.Order.{Order}
 use Rattle.uug_talk.specs.declared.order.Order.TheVariants as order
 use Rattle.uug_talk.specs.declared.words.TheConstants.{COMMAND_MAX}
+use Rattle.uug_talk.specs.declared.gather.TheConstants.{FILE_MAX}
 use Rattle.uug_conversation.specs.declared.awaits.Awaits.{Awaits}
 use Rattle.uug_conversation.specs.declared.awaits.Awaits.TheVariants as awaits
 use Rattle.uug_conversation.specs.declared.job.Job.{Job}
@@ -56,7 +57,7 @@ pub record AreSendAnswers : Type 0 where
       replies (at_start [] [] (send ∷ [])) awaits.HangUpAnswer (the_order order.HangUp None ∷ [])
   pub no_job : on_text has_x awaits.SendAnswer (codes "SY") (ahead []) ≡ replies (ahead []) awaits.Bad []
   pub other_job : on_text has_x awaits.SendAnswer (codes "SY") (ahead (request ∷ [])) ≡ replies (ahead (request ∷ [])) awaits.Bad []
-  pub other_file : on_file has_x (awaits.AskedFile 420 None) six_bytes (ahead (send ∷ [])) ≡ replies (ahead (send ∷ [])) awaits.Bad []
+  pub other_file : on_file has_x (awaits.AskedFile 420 None FILE_MAX) six_bytes (ahead (send ∷ [])) ≡ replies (ahead (send ∷ [])) awaits.Bad []
   pub out_of_turn : on_text has_x awaits.SendAnswer (codes "CY") two ≡ replies two awaits.Bad []
   pub an_order : on_text has_x awaits.SendAnswer (codes "H") two ≡ replies two awaits.Bad []
 
@@ -94,8 +95,8 @@ abbrev pub asking : Lists
 asking = ahead (request ∷ send_nothing ∷ send ∷ [])
 
 pub record AreRequestAnswers : Type 0 where
-  pub yes : on_text has_x awaits.RequestAnswer (codes "RY 0600") asking ≡ replies asking (awaits.AskedFile 384 None) []
-  pub no_mode : on_text has_x awaits.RequestAnswer (codes "RY") asking ≡ replies asking (awaits.AskedFile 438 None) []
+  pub yes : on_text has_x awaits.RequestAnswer (codes "RY 0600") asking ≡ replies asking (awaits.AskedFile 384 None FILE_MAX) []
+  pub no_mode : on_text has_x awaits.RequestAnswer (codes "RY") asking ≡ replies asking (awaits.AskedFile 438 None FILE_MAX) []
   pub never : on_text has_x awaits.RequestAnswer (codes "RN2") asking ≡
       replies (record { passed = []; ahead = send ∷ []; struck = []; failed = request ∷ send_nothing ∷ [] })
       awaits.SendAnswer (the_order order_of_first None ∷ [])
@@ -126,13 +127,13 @@ has_x_but exception = holdings x small_file exception
 
 pub record AreOrders : Type 0 where
   pub send_yes : on_text has_x awaits.Order (codes "S q y u - D.0 0600") (ahead []) ≡
-      replies (ahead []) (awaits.SentFile q y 384 None) (the_consent 0 ∷ [])
+      replies (ahead []) (awaits.SentFile q y 384 None FILE_MAX) (the_consent 0 ∷ [])
   pub send_never : on_text (has_x_but (denied y)) awaits.Order (codes "S q y u - D.0 0600") (ahead []) ≡
       replies (ahead []) awaits.Order (the_answer answer.SendNever ∷ [])
   pub send_later : on_text (has_x_but (put_off y)) awaits.Order (codes "S q y u - D.0 0600") (ahead []) ≡
       replies (ahead []) awaits.Order (the_answer answer.SendLater ∷ [])
   pub source_denied : on_text (has_x_but (denied q)) awaits.Order (codes "S q y u - D.0 0600") (ahead []) ≡
-      replies (ahead []) (awaits.SentFile q y 384 None) (the_consent 0 ∷ [])
+      replies (ahead []) (awaits.SentFile q y 384 None FILE_MAX) (the_consent 0 ∷ [])
   pub request_yes : on_text has_x awaits.Order (codes "R x y u -") (ahead []) ≡
       replies (ahead []) awaits.GivenFileDone (the_giving 420 None ∷ the_file six_bytes ∷ [])
   pub request_never : on_text has_x awaits.Order (codes "R y x u -") (ahead []) ≡
@@ -187,18 +188,18 @@ last_answers = record {
 -- ---- files
 
 pub record AreFiles : Type 0 where
-  pub sent : on_file has_x (awaits.SentFile q y 384 None) six_bytes two ≡
+  pub sent : on_file has_x (awaits.SentFile q y 384 None FILE_MAX) six_bytes two ≡
       keeps (record { name = y; mode = 384; bytes = six_bytes }) (replies two awaits.Order (the_answer answer.DoneYes ∷ []))
-  pub sent_fixed : on_file (has_x_but (fixed y)) (awaits.SentFile q y 384 None) six_bytes two ≡
+  pub sent_fixed : on_file (has_x_but (fixed y)) (awaits.SentFile q y 384 None FILE_MAX) six_bytes two ≡
       replies two awaits.Order (the_answer answer.DoneNever ∷ [])
-  pub asked : on_file has_x (awaits.AskedFile 384 None) six_bytes asking ≡
+  pub asked : on_file has_x (awaits.AskedFile 384 None FILE_MAX) six_bytes asking ≡
       keeps (record { name = y; mode = 384; bytes = six_bytes })
       (replies (record { passed = []; ahead = send ∷ []; struck = request ∷ []; failed = send_nothing ∷ [] })
       awaits.SendAnswer (the_answer answer.DoneYes ∷ the_order order_of_first None ∷ []))
-  pub asked_fixed : on_file (has_x_but (fixed y)) (awaits.AskedFile 384 None) six_bytes asking ≡
+  pub asked_fixed : on_file (has_x_but (fixed y)) (awaits.AskedFile 384 None FILE_MAX) six_bytes asking ≡
       replies (record { passed = []; ahead = send ∷ []; struck = []; failed = request ∷ send_nothing ∷ [] })
       awaits.SendAnswer (the_answer answer.DoneNever ∷ the_order order_of_first None ∷ [])
-  pub no_job : on_file has_x (awaits.AskedFile 384 None) six_bytes (ahead []) ≡ replies (ahead []) awaits.Bad []
+  pub no_job : on_file has_x (awaits.AskedFile 384 None FILE_MAX) six_bytes (ahead []) ≡ replies (ahead []) awaits.Bad []
 
 pub files : AreFiles
 files = record { sent = refl; sent_fixed = refl; asked = refl; asked_fixed = refl; no_job = refl }
@@ -221,9 +222,9 @@ pub record AreMessages : Type 0 where
   pub longest : step has_x (gathering awaits.Order (72 ∷ replicate (COMMAND_MAX - 1) 32)) (0 ∷ []) ≡
       replies (ahead []) awaits.LastHangUp (the_answer answer.HangYes ∷ [])
   pub one_more : step has_x (gathering awaits.Order (72 ∷ replicate (COMMAND_MAX - 1) 32)) (32 ∷ 0 ∷ []) ≡ replies (ahead []) awaits.Bad []
-  pub first_piece : step has_x (gathering (awaits.SentFile q y 384 None) []) six_bytes ≡
-      still (gathering (awaits.SentFile q y 384 None) six_bytes)
-  pub last_piece : step has_x (gathering (awaits.SentFile q y 384 None) six_bytes) [] ≡
+  pub first_piece : step has_x (gathering (awaits.SentFile q y 384 None FILE_MAX) []) six_bytes ≡
+      still (gathering (awaits.SentFile q y 384 None FILE_MAX) six_bytes)
+  pub last_piece : step has_x (gathering (awaits.SentFile q y 384 None FILE_MAX) six_bytes) [] ≡
       keeps (record { name = y; mode = 384; bytes = six_bytes })
       (replies (ahead []) awaits.Order (the_answer answer.DoneYes ∷ []))
 

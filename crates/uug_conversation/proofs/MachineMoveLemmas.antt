@@ -43,10 +43,10 @@ moves_and_chooses move h l before = record { moves = move ∷ (choice h (moved_o
 
 -- ---- commands
 
-after_send : (v : Verdict) (front source target : List ℕ) (mode : ℕ) (told : Option FileDigest) (l : Lists) → OnlyMoves l (on_send v front source target mode told l).state.lists
-after_send Yes front source target mode told l = stays l
-after_send Never front source target mode told l = stays l
-after_send Later front source target mode told l = stays l
+after_send : (limit : ℕ) (v : Verdict) (front source target : List ℕ) (mode : ℕ) (told : Option FileDigest) (l : Lists) → OnlyMoves l (on_send limit v front source target mode told l).state.lists
+after_send limit Yes front source target mode told l = stays l
+after_send limit Never front source target mode told l = stays l
+after_send limit Later front source target mode told l = stays l
 
 after_request : (digests : Bool) (file : Option File) (delayed : Bool) (l : Lists) → OnlyMoves l (on_request digests file delayed l).state.lists
 after_request digests None false l = stays l
@@ -62,7 +62,7 @@ after_unread lenient letter l = grind (arith, stays)
 
 after_order : (h : Holdings) (letter : Option ℕ) (told : Option FileDigest) (r : Result Order BadText) (l : Lists)
     → OnlyMoves l (on_order h letter told r l).state.lists
-after_order h letter told (Ok (order.Send source target user temp mode)) l = after_send (send_verdict h (h.landing source target) told)
+after_order h letter told (Ok (order.Send source target user temp mode)) l = after_send h.limit (send_verdict h (h.landing source target) told)
     (front_of h (fetched_by source temp) told) (fetched_by source temp) (h.landing source target) mode told l
 after_order h letter told (Ok (order.Request source target user)) l = after_request h.digests (to_give h source) (h.delayed source) l
 after_order h letter told (Ok order.HangUp) l = after_hang_up h (choice h l.ahead).next (choice h l.ahead).failing l
@@ -149,10 +149,10 @@ after_text h awaits.SentFileDone text l = after_sent_job h l.ahead (answer_of te
 after_text h awaits.RequestAnswer text l = after_request_answer h (heard h.digests (told_by_answer text)) (or_wished (answer_of text) h.lenient text) l
 after_text h awaits.HangUpAnswer text l = after_hang_up_answer (answer_of text) l
 after_text h awaits.NothingMore text l = after_nothing_more (answer_of text) l
-after_text h (awaits.SentFile source target mode told) text l = stays l
-after_text h (awaits.AskedFile mode told) text l = stays l
-after_text h awaits.DroppedSentFile text l = stays l
-after_text h awaits.DroppedAskedFile text l = stays l
+after_text h (awaits.SentFile source target mode told limit) text l = stays l
+after_text h (awaits.AskedFile mode told limit) text l = stays l
+after_text h (awaits.DroppedSentFile limit) text l = stays l
+after_text h (awaits.DroppedAskedFile limit) text l = stays l
 after_text h awaits.Bad text l = stays l
 
 -- ---- files
@@ -175,12 +175,12 @@ after_file_of h (job.Request source target user ∷ jobs) mode told bytes l =
     after_asked h (file_verdict h (h.landing source target) told bytes) (record { name = h.landing source target; mode = mode; bytes = bytes }) l
 
 after_file : (h : Holdings) (a : Awaits) (bytes : List ℕ) (l : Lists) → OnlyMoves l (on_file h a bytes l).state.lists
-after_file h (awaits.SentFile source target mode told) bytes l =
+after_file h (awaits.SentFile source target mode told limit) bytes l =
     after_kept (file_verdict h target told (front_of h source told ++ bytes))
     (record { name = target; mode = mode; bytes = front_of h source told ++ bytes }) l
-after_file h (awaits.AskedFile mode told) bytes l = after_file_of h l.ahead mode told bytes l
-after_file h awaits.DroppedSentFile bytes l = stays l
-after_file h awaits.DroppedAskedFile bytes l = moves_and_chooses fail h l (the_answer answer.DoneNever ∷ [])
+after_file h (awaits.AskedFile mode told limit) bytes l = after_file_of h l.ahead mode told bytes l
+after_file h (awaits.DroppedSentFile limit) bytes l = stays l
+after_file h (awaits.DroppedAskedFile limit) bytes l = moves_and_chooses fail h l (the_answer answer.DoneNever ∷ [])
 after_file h awaits.Order bytes l = stays l
 after_file h awaits.GivenFileDone bytes l = stays l
 after_file h awaits.LastHangUp bytes l = stays l

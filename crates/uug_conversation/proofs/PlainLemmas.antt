@@ -86,7 +86,7 @@ module _ (h : Holdings) (untold : h.digests ≡ false) where
 
   order_so : AreOff h → (letter : Option ℕ) (read : Result Order BadText) (l : Lists) → on_order h letter None read l ≡ plain_order h read l
   order_so off letter (Ok (order.Send source target user temp mode)) l =
-      ap (λ verdict. on_send verdict [] (fetched_by source temp) (h.landing source target) mode None l) (spool_decides h (h.landing source target) None off.strict)
+      ap (λ verdict. on_send h.limit verdict [] (fetched_by source temp) (h.landing source target) mode None l) (spool_decides h (h.landing source target) None off.strict)
   order_so off letter (Ok (order.Request source target user)) l =
       request_so h.digests (to_give h source) (h.delayed source) l untold (off.prompt source)
   order_so off letter (Ok order.HangUp) l = hang_up_so (choice h l.ahead).next (moved (choice h l.ahead).failing l)
@@ -148,13 +148,13 @@ module _ (h : Holdings) (untold : h.digests ≡ false) where
   file_of_so _ mode bytes l = refl
 
   file_so : (awaited : Awaits) (bytes : List ℕ) (l : Lists) → awaits_plainly awaited ≡ true → on_file h awaited bytes l ≡ plain_file h awaited bytes l
-  file_so (awaits.SentFile source target mode None) bytes l plain =
+  file_so (awaits.SentFile source target mode None limit) bytes l plain =
       sent_file_so (h.immovable target) (record { name = target; mode = mode; bytes = bytes }) l
-  file_so (awaits.SentFile source target mode (Some told)) bytes l plain = absurd cc
-  file_so (awaits.AskedFile mode None) bytes l plain = file_of_so l.ahead mode bytes l
-  file_so (awaits.AskedFile mode (Some told)) bytes l plain = absurd cc
-  file_so awaits.DroppedSentFile bytes l plain = absurd cc
-  file_so awaits.DroppedAskedFile bytes l plain = absurd cc
+  file_so (awaits.SentFile source target mode (Some told) limit) bytes l plain = absurd cc
+  file_so (awaits.AskedFile mode None limit) bytes l plain = file_of_so l.ahead mode bytes l
+  file_so (awaits.AskedFile mode (Some told) limit) bytes l plain = absurd cc
+  file_so (awaits.DroppedSentFile limit) bytes l plain = absurd cc
+  file_so (awaits.DroppedAskedFile limit) bytes l plain = absurd cc
   file_so _ bytes l plain = refl
 
   -- ---- a message
@@ -200,10 +200,10 @@ answer_plainly order.HangUp = refl
 going_on : (h : Holdings) (l : Lists) (before : List Said) → StaysPlain (plain_goes_on h l before)
 going_on h l before = answer_plainly (order_or_hang_up (choice h l.ahead).next)
 
-send : (verdict : Verdict) (front source target : List ℕ) (mode : ℕ) (l : Lists) → StaysPlain (on_send verdict front source target mode None l)
-send Yes front source target mode l = refl
-send Never front source target mode l = refl
-send Later front source target mode l = refl
+send : (limit : ℕ) (verdict : Verdict) (front source target : List ℕ) (mode : ℕ) (l : Lists) → StaysPlain (on_send limit verdict front source target mode None l)
+send limit Yes front source target mode l = refl
+send limit Never front source target mode l = refl
+send limit Later front source target mode l = refl
 
 request : (found : Option File) (l : Lists) → StaysPlain (plain_request found l)
 request None l = refl
@@ -214,7 +214,7 @@ hang_up None l = refl
 hang_up (Some next) l = answer_plainly next
 
 an_order : (h : Holdings) (read : Result Order BadText) (l : Lists) → StaysPlain (plain_order h read l)
-an_order h (Ok (order.Send source target user temp mode)) l = send (h.verdict (h.landing source target)) [] (fetched_by source temp) (h.landing source target) mode l
+an_order h (Ok (order.Send source target user temp mode)) l = send h.limit (h.verdict (h.landing source target)) [] (fetched_by source temp) (h.landing source target) mode l
 an_order h (Ok (order.Request source target user)) l = request (to_give h source) l
 an_order h (Ok order.HangUp) l = hang_up (choice h l.ahead).next (moved (choice h l.ahead).failing l)
 an_order h (Err fault) l = refl
@@ -295,8 +295,8 @@ file_of h (job.Request source target user ∷ jobs) mode bytes l =
 file_of h _ mode bytes l = refl
 
 a_file : (h : Holdings) (awaited : Awaits) (bytes : List ℕ) (l : Lists) → StaysPlain (plain_file h awaited bytes l)
-a_file h (awaits.SentFile source target mode told) bytes l = sent_file (h.immovable target) (record { name = target; mode = mode; bytes = bytes }) l
-a_file h (awaits.AskedFile mode told) bytes l = file_of h l.ahead mode bytes l
+a_file h (awaits.SentFile source target mode told limit) bytes l = sent_file (h.immovable target) (record { name = target; mode = mode; bytes = bytes }) l
+a_file h (awaits.AskedFile mode told limit) bytes l = file_of h l.ahead mode bytes l
 a_file h _ bytes l = refl
 
 a_whole : (kind : Kind) (h : Holdings) (awaited : Awaits) (bytes : List ℕ) (l : Lists) → StaysPlain (plain_whole kind h awaited bytes l)

@@ -4,7 +4,6 @@ use Rattle.std.proofs.lemmas.Bool.Decides.{nat_tests}
 use Rattle.std.proofs.lemmas.List.{length-append}
 use Rattle.uug_digest.specs.Positions.{consent_text, position_told}
 use Rattle.uug_digest.specs.declared.file_digest.FileDigest.{FileDigest}
-use Rattle.uug_talk.specs.declared.gather.TheConstants.{FILE_MAX}
 use Rattle.uug_conversation.specs.Holdings.{File, Holdings, to_give}
 use Rattle.uug_conversation.specs.Left.{IsLeft}
 use Rattle.uug_conversation.specs.Partial.{Key, Partial}
@@ -13,7 +12,6 @@ use Rattle.uug_conversation.specs.Party.{HoldsFronts, HoldsNone, Party}
 use Rattle.uug_conversation.proofs.PartialLemmas.{key_decides, put_displaces_none, put_is_held}
 use Rattle.uug_conversation.specs.Resuming.{IsFront, front_held, front_of, front_where, position_heard, rest_from, rest_where}
 use Rattle.uug_conversation.specs.Told.{heard, told_of}
-use Rattle.uug_conversation.proofs.LimitLemmas.{given_file}
 
 pub off_hears_none : (digests : Bool) (text : List ℕ) → digests ≡ false → position_heard digests text ≡ 0
 off_hears_none true text off = absurd cc
@@ -46,7 +44,6 @@ rest_short front whole is =
 -- ---- a file that may be given, and what its taker holds of it
 
 pub record GoesBehind (digests : Bool) (front : List ℕ) (file : File) : Type 0 where
-  pub small : length file.bytes ≤ FILE_MAX
   pub is_front : IsFront front file.bytes
   pub untold : digests ≡ false → front ≡ []
 
@@ -67,7 +64,6 @@ none_held taker source found =
 pub goes_behind : (giver taker : Holdings) → HoldsFronts giver taker → (source : List ℕ) (found : Option File) → to_give giver source ≡ found →
     (file : File) → found ≡ Some file → GoesBehind giver.digests (front_held taker giver.digests source found) file
 goes_behind giver taker fronts source found given file e = record {
-  small = ((given_file (giver.file source) file).0 (given ∙ e)).1;
   is_front = subst (λ z. IsFront (front_held taker giver.digests source z) file.bytes) (sym e) (fronts source file (given ∙ e));
   untold = λ off. ap (λ digests. front_held taker digests source found) off ∙ none_held taker source found;
 }
@@ -97,7 +93,7 @@ none_among (Some ps) source told = refl
 front_of_none : (h : Holdings) → HoldsNone h → (source : List ℕ) (told : Option FileDigest) → front_of h source told ≡ []
 front_of_none h none source None = refl
 front_of_none h none source (Some told) =
-    ap (λ z. front_where (nat_le (length z) told.size && nat_le told.size FILE_MAX) z)
+    ap (λ z. front_where (nat_le (length z) told.size && nat_le told.size h.limit) z)
     (ap (λ ps. held_among ps source told) none ∙ none_among h.partials source told)
 
 pub none_again : (partials : Option (List Partial)) → none_of partials ≡ none_of (none_of partials)
@@ -126,12 +122,12 @@ front_put : (h : Holdings) (ps : List Partial) (p : Partial) (source : List ℕ)
 front_put h ps p source told whole true e own are is =
     let key : Key = record { source = source; told = told } in
     let k : p.key ≡ key = (key_decides p.key key).0 e in
-    subst (λ z. IsFront (front_where (nat_le (length z) told.size && nat_le told.size FILE_MAX) z) whole)
+    subst (λ z. IsFront (front_where (nat_le (length z) told.size && nat_le told.size h.limit) z) whole)
     (sym (ap (λ z. bytes_under z (put p ps)) (sym k) ∙ put_is_held p ps))
-    (filtered_front (nat_le (length p.bytes) told.size && nat_le told.size FILE_MAX) p.bytes whole (own k))
+    (filtered_front (nat_le (length p.bytes) told.size && nat_le told.size h.limit) p.bytes whole (own k))
 front_put h ps p source told whole false e own are is =
     let key : Key = record { source = source; told = told } in
-    subst (λ z. IsFront (front_where (nat_le (length z) told.size && nat_le told.size FILE_MAX) z) whole)
+    subst (λ z. IsFront (front_where (nat_le (length z) told.size && nat_le told.size h.limit) z) whole)
     (ap (λ z. held_among z source told) are ∙ sym (put_displaces_none key p ps e)) is
 
 front_then : (h : Holdings) (partials : Option (List Partial)) (left : Option Partial) (source : List ℕ) (told : Option FileDigest) (whole : List ℕ) →
@@ -140,7 +136,7 @@ front_then : (h : Holdings) (partials : Option (List Partial)) (left : Option Pa
 front_then h partials left source None whole are own is = is
 front_then h None left source (Some told) whole are own is = (whole, refl)
 front_then h (Some ps) None source (Some told) whole are own is =
-    subst (λ z. IsFront (front_where (nat_le (length (held_among z source told)) told.size && nat_le told.size FILE_MAX) (held_among z source told)) whole) are is
+    subst (λ z. IsFront (front_where (nat_le (length (held_among z source told)) told.size && nat_le told.size h.limit) (held_among z source told)) whole) are is
 front_then h (Some ps) (Some p) source (Some told) whole are own is =
     front_put h ps p source told whole (is_key p.key (record { source = source; told = told })) refl
     (λ k. own p refl (ap (λ (key : Key). key.source) k)) are is

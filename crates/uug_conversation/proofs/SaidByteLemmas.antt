@@ -257,7 +257,7 @@ abbrev TurnsAreBytes : List Turn → Type 0
 TurnsAreBytes turns = EachTurn (λ t. SaysBytes t.said) turns
 
 given_bytes : (h : Holdings) (name : List ℕ) (file : File) → HoldsBytes h → to_give h name ≡ Some file → AllBytes file.bytes
-given_bytes h name file holds is = all_bytes file.bytes (holds name file ((given_file (h.file name) file).0 is).0)
+given_bytes h name file holds is = all_bytes file.bytes (holds name file ((given_file h.limit (h.file name) file).0 is).0)
 
 send_bytes : (master slave : Side) (digests : Bool) (source target user : List ℕ) (temp : Option (List ℕ)) (own : Holdings)
     (found : Option File) → to_give own (fetched_by source temp) ≡ found → HoldsBytes own →

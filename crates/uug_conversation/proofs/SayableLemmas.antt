@@ -101,10 +101,10 @@ module _ (h : Holdings) (modes : AreModes h) where
       commanded before (order_or_hang_up (choice h l.ahead).next) (told_with h (order_or_hang_up (choice h l.ahead).next)) b
       (hang_up_has (choice h l.ahead).next (choice_has l.ahead))
 
-  taking_send : (verdict : Verdict) (front source target : List ℕ) (mode : ℕ) (told : Option FileDigest) (l : Lists) → CanAllBeSaid (on_send verdict front source target mode told l).says
-  taking_send Yes front source target mode told l = (tt, tt)
-  taking_send Never front source target mode told l = (tt, tt)
-  taking_send Later front source target mode told l = (tt, tt)
+  taking_send : (limit : ℕ) (verdict : Verdict) (front source target : List ℕ) (mode : ℕ) (told : Option FileDigest) (l : Lists) → CanAllBeSaid (on_send limit verdict front source target mode told l).says
+  taking_send limit Yes front source target mode told l = (tt, tt)
+  taking_send limit Never front source target mode told l = (tt, tt)
+  taking_send limit Later front source target mode told l = (tt, tt)
 
   taking_request : (source : List ℕ) (found : Option File) (delayed : Bool) (l : Lists) → to_give h source ≡ found →
       CanAllBeSaid (on_request h.digests found delayed l).says
@@ -123,7 +123,7 @@ module _ (h : Holdings) (modes : AreModes h) where
 
   taking_order : (letter : Option ℕ) (told : Option FileDigest) (read : Result Order BadText) (l : Lists) → IsRefusableSo letter →
       CanAllBeSaid (on_order h letter told read l).says
-  taking_order letter told (Ok (order.Send source target user temp mode)) l w = taking_send (send_verdict h (h.landing source target) told)
+  taking_order letter told (Ok (order.Send source target user temp mode)) l w = taking_send h.limit (send_verdict h (h.landing source target) told)
       (front_of h (fetched_by source temp) told) (fetched_by source temp) (h.landing source target) mode told l
   taking_order letter told (Ok (order.Request source target user)) l w = taking_request source (to_give h source) (h.delayed source) l refl
   taking_order letter told (Ok order.HangUp) l w =
@@ -208,12 +208,12 @@ module _ (h : Holdings) (modes : AreModes h) where
   file_of _ mode told bytes l = tt
 
   taking_file : (awaited : Awaits) (bytes : List ℕ) (l : Lists) → CanAllBeSaid (on_file h awaited bytes l).says
-  taking_file (awaits.SentFile source target mode told) bytes l =
+  taking_file (awaits.SentFile source target mode told limit) bytes l =
       sent_file (file_verdict h target told (front_of h source told ++ bytes))
       (record { name = target; mode = mode; bytes = front_of h source told ++ bytes }) l
-  taking_file (awaits.AskedFile mode told) bytes l = file_of l.ahead mode told bytes l
-  taking_file awaits.DroppedSentFile bytes l = (tt, tt)
-  taking_file awaits.DroppedAskedFile bytes l = going_on (moved_once fail l) (the_answer answer.DoneNever ∷ []) (tt, tt)
+  taking_file (awaits.AskedFile mode told limit) bytes l = file_of l.ahead mode told bytes l
+  taking_file (awaits.DroppedSentFile limit) bytes l = (tt, tt)
+  taking_file (awaits.DroppedAskedFile limit) bytes l = going_on (moved_once fail l) (the_answer answer.DoneNever ∷ []) (tt, tt)
   taking_file _ bytes l = tt
 
 -- ---- what the code says

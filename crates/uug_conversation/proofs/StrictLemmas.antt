@@ -72,8 +72,8 @@ strict_verdict too_large Later = refl
 
 pub spool_decides : (h : Holdings) (target : List ℕ) (told : Option FileDigest) → h.lenient ≡ false → send_verdict h target told ≡ h.verdict target
 spool_decides h target told strict =
-    ap (λ (b : Bool). unless_too_large (b && is_too_large told) (h.verdict target)) strict
-    ∙ strict_verdict (is_too_large told) (h.verdict target)
+    ap (λ (b : Bool). unless_too_large (b && is_too_large h.limit told) (h.verdict target)) strict
+    ∙ strict_verdict (is_too_large h.limit told) (h.verdict target)
 
 -- ---- it awaits the rest of no file
 
@@ -88,10 +88,10 @@ order_drops_none order.HangUp = refl
 going_on : (h : Holdings) (l : Lists) (before : List Said) → DropsNone (goes_on h l before)
 going_on h l before = order_drops_none (order_or_hang_up (choice h l.ahead).next)
 
-send : (verdict : Verdict) (front source target : List ℕ) (mode : ℕ) (told : Option FileDigest) (l : Lists) → DropsNone (on_send verdict front source target mode told l)
-send Yes front source target mode told l = refl
-send Never front source target mode told l = refl
-send Later front source target mode told l = refl
+send : (limit : ℕ) (verdict : Verdict) (front source target : List ℕ) (mode : ℕ) (told : Option FileDigest) (l : Lists) → DropsNone (on_send limit verdict front source target mode told l)
+send limit Yes front source target mode told l = refl
+send limit Never front source target mode told l = refl
+send limit Later front source target mode told l = refl
 
 request : (digests : Bool) (found : Option File) (delayed : Bool) (l : Lists) → DropsNone (on_request digests found delayed l)
 request digests None false l = refl
@@ -108,7 +108,7 @@ unread _ _ l = refl
 
 an_order : (h : Holdings) (letter : Option ℕ) (told : Option FileDigest) (read : Result Order BadText) (l : Lists)
     → DropsNone (on_order h letter told read l)
-an_order h letter told (Ok (order.Send source target user temp mode)) l = send (send_verdict h (h.landing source target) told)
+an_order h letter told (Ok (order.Send source target user temp mode)) l = send h.limit (send_verdict h (h.landing source target) told)
     (front_of h (fetched_by source temp) told) (fetched_by source temp) (h.landing source target) mode told l
 an_order h letter told (Ok (order.Request source target user)) l = request h.digests (to_give h source) (h.delayed source) l
 an_order h letter told (Ok order.HangUp) l = hang_up h (choice h l.ahead).next (moved (choice h l.ahead).failing l)
@@ -192,12 +192,12 @@ file_of h (job.Request source target user ∷ jobs) mode told bytes l =
 file_of h _ mode told bytes l = refl
 
 a_file : (h : Holdings) (awaited : Awaits) (bytes : List ℕ) (l : Lists) → DropsNone (on_file h awaited bytes l)
-a_file h (awaits.SentFile source target mode told) bytes l =
+a_file h (awaits.SentFile source target mode told limit) bytes l =
     sent_file (file_verdict h target told (front_of h source told ++ bytes))
     (record { name = target; mode = mode; bytes = front_of h source told ++ bytes }) l
-a_file h (awaits.AskedFile mode told) bytes l = file_of h l.ahead mode told bytes l
-a_file h awaits.DroppedSentFile bytes l = refl
-a_file h awaits.DroppedAskedFile bytes l = going_on h (moved_once fail l) (the_answer answer.DoneNever ∷ [])
+a_file h (awaits.AskedFile mode told limit) bytes l = file_of h l.ahead mode told bytes l
+a_file h (awaits.DroppedSentFile limit) bytes l = refl
+a_file h (awaits.DroppedAskedFile limit) bytes l = going_on h (moved_once fail l) (the_answer answer.DoneNever ∷ [])
 a_file h _ bytes l = refl
 
 a_whole : (kind : Kind) (h : Holdings) (awaited : Awaits) (bytes : List ℕ) (l : Lists) → DropsNone (on_whole kind h awaited bytes l)

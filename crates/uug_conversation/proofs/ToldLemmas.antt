@@ -5,7 +5,6 @@ use Rattle.std.specs.Bool.{Decides, one_answer}
 use Rattle.std.specs.Cmp.Lexicographic.{bytes_decides}
 use Rattle.uug_digest.specs.Digests.{digest_of}
 use Rattle.uug_digest.specs.declared.file_digest.FileDigest.{FileDigest}
-use Rattle.uug_talk.specs.declared.gather.TheConstants.{FILE_MAX}
 use Rattle.uug_conversation.specs.Holdings.{File}
 use Rattle.uug_conversation.specs.Told.{fits, heard, is_same, is_too_large, told_of}
 
@@ -31,14 +30,14 @@ fits_given true false file = refl
 fits_given false true file = refl
 fits_given false false file = refl
 
--- one that may be given is not too large
-within : (n : ℕ) → n ≤ FILE_MAX → nat_lt FILE_MAX n ≡ false
-within n h = grind (arith, nat_tests)
+-- one that is small enough is not too large
+within : (limit n : ℕ) → n ≤ limit → nat_lt limit n ≡ false
+within limit n h = grind (arith, nat_tests)
 
-pub given_is_taken : (lenient comparing digests : Bool) (file : File) → length file.bytes ≤ FILE_MAX →
-    (lenient && is_too_large (heard comparing (told_of digests (Some file)))) ≡ false
-given_is_taken false comparing digests file h = refl
-given_is_taken true true true file h = within (length file.bytes) h
-given_is_taken true true false file h = refl
-given_is_taken true false true file h = refl
-given_is_taken true false false file h = refl
+pub given_is_taken : (limit : ℕ) (lenient comparing digests : Bool) (file : File) → length file.bytes ≤ limit →
+    (lenient && is_too_large limit (heard comparing (told_of digests (Some file)))) ≡ false
+given_is_taken limit false comparing digests file h = refl
+given_is_taken limit true true true file h = within limit (length file.bytes) h
+given_is_taken limit true true false file h = refl
+given_is_taken limit true false true file h = refl
+given_is_taken limit true false false file h = refl

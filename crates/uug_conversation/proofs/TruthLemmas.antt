@@ -31,10 +31,10 @@ module _ (h : Holdings) where
   abbrev IsTrue : Reply → Type 0
   IsTrue r = TellsTruly h r.says
 
-  send : (verdict : Verdict) (front source target : List ℕ) (mode : ℕ) (told : Option FileDigest) (l : Lists) → IsTrue (on_send verdict front source target mode told l)
-  send Yes front source target mode told l = tt
-  send Never front source target mode told l = tt
-  send Later front source target mode told l = tt
+  send : (limit : ℕ) (verdict : Verdict) (front source target : List ℕ) (mode : ℕ) (told : Option FileDigest) (l : Lists) → IsTrue (on_send limit verdict front source target mode told l)
+  send limit Yes front source target mode told l = tt
+  send limit Never front source target mode told l = tt
+  send limit Later front source target mode told l = tt
 
   request : (found : Option File) (delayed : Bool) (l : Lists) → IsTrue (on_request h.digests found delayed l)
   request None false l = tt
@@ -51,7 +51,7 @@ module _ (h : Holdings) where
 
   an_order : (letter : Option ℕ) (told : Option FileDigest) (read : Result Order BadText) (l : Lists) →
       IsTrue (on_order h letter told read l)
-  an_order letter told (Ok (order.Send source target user temp mode)) l = send (send_verdict h (h.landing source target) told)
+  an_order letter told (Ok (order.Send source target user temp mode)) l = send h.limit (send_verdict h (h.landing source target) told)
       (front_of h (fetched_by source temp) told) (fetched_by source temp) (h.landing source target) mode told l
   an_order letter told (Ok (order.Request source target user)) l = request (to_give h source) (h.delayed source) l
   an_order letter told (Ok order.HangUp) l = hang_up (choice h l.ahead).next (moved (choice h l.ahead).failing l)
@@ -135,12 +135,12 @@ module _ (h : Holdings) where
   file_of _ mode told bytes l = tt
 
   a_file : (awaited : Awaits) (bytes : List ℕ) (l : Lists) → IsTrue (on_file h awaited bytes l)
-  a_file (awaits.SentFile source target mode told) bytes l =
+  a_file (awaits.SentFile source target mode told limit) bytes l =
       sent_file (file_verdict h target told (front_of h source told ++ bytes))
       (record { name = target; mode = mode; bytes = front_of h source told ++ bytes }) l
-  a_file (awaits.AskedFile mode told) bytes l = file_of l.ahead mode told bytes l
-  a_file awaits.DroppedSentFile bytes l = tt
-  a_file awaits.DroppedAskedFile bytes l = (refl, tt)
+  a_file (awaits.AskedFile mode told limit) bytes l = file_of l.ahead mode told bytes l
+  a_file (awaits.DroppedSentFile limit) bytes l = tt
+  a_file (awaits.DroppedAskedFile limit) bytes l = (refl, tt)
   a_file _ bytes l = tt
 
   a_whole : (kind : Kind) (awaited : Awaits) (bytes : List ℕ) (l : Lists) → IsTrue (on_whole kind h awaited bytes l)

@@ -5,7 +5,6 @@ use Rattle.std.proofs.lemmas.List.{append_assoc, length-append}
 use Rattle.uug_talk.specs.Chunks.{Measure}
 use Rattle.uug_talk.specs.Answer.{answer_text}
 use Rattle.uug_talk.specs.Lenient.{refusal_text}
-use Rattle.uug_talk.specs.declared.gather.TheConstants.{FILE_MAX}
 use Rattle.uug_talk.specs.Gathering.{Kind, OfCommand, OfFile, part_of, ends, limit_of, gathered, GathersBack}
 use Rattle.uug_conversation.specs.Told.{giving_said, order_said}
 use Rattle.uug_conversation.specs.declared.awaits.Awaits.{Awaits}
@@ -190,13 +189,13 @@ module _ (me : Side) (giver : Party) (h : Holdings) (measure : Measure) (l : Lis
 
 -- ---- whole turns
 
-abbrev pub said_kind : Said → Kind
-said_kind (the_order order told) = OfCommand
-said_kind (the_answer answer) = OfCommand
-said_kind (the_consent position) = OfCommand
-said_kind (the_giving mode told) = OfCommand
-said_kind (the_file bytes) = OfFile FILE_MAX
-said_kind (the_refusal letter) = OfCommand
+abbrev pub said_kind : (limit : ℕ) → Said → Kind
+said_kind limit (the_order order told) = OfCommand
+said_kind limit (the_answer answer) = OfCommand
+said_kind limit (the_consent position) = OfCommand
+said_kind limit (the_giving mode told) = OfCommand
+said_kind limit (the_file bytes) = OfFile limit
+said_kind limit (the_refusal letter) = OfCommand
 
 abbrev pub said_bytes : Said → List ℕ
 said_bytes (the_order order told) = order_said order told
@@ -206,22 +205,22 @@ said_bytes (the_giving mode told) = giving_said mode told
 said_bytes (the_file bytes) = bytes
 said_bytes (the_refusal letter) = refusal_text letter
 
-said_back : (measure : Measure) → 0 < measure.size → (said : Said) → IsReadBack said →
-    GathersBack (said_kind said) (said_messages measure said) (said_bytes said)
-said_back measure p (the_order order told) r = command_back measure (order_said order told) p r.0
-said_back measure p (the_answer answer) r = command_back measure (answer_text answer) p r.0
-said_back measure p (the_consent position) r = command_back measure (consent_text position) p r.0
-said_back measure p (the_giving mode told) r = command_back measure (giving_said mode told) p r.0
-said_back measure p (the_file bytes) r = file_back measure.size FILE_MAX bytes p
-said_back measure p (the_refusal letter) r = absurd r
+said_back : (limit : ℕ) (measure : Measure) → 0 < measure.size → (said : Said) → IsReadBack limit said →
+    GathersBack (said_kind limit said) (said_messages measure said) (said_bytes said)
+said_back limit measure p (the_order order told) r = command_back measure (order_said order told) p r.0
+said_back limit measure p (the_answer answer) r = command_back measure (answer_text answer) p r.0
+said_back limit measure p (the_consent position) r = command_back measure (consent_text position) p r.0
+said_back limit measure p (the_giving mode told) r = command_back measure (giving_said mode told) p r.0
+said_back limit measure p (the_file bytes) r = file_back measure.size limit bytes p
+said_back limit measure p (the_refusal letter) r = absurd r
 
-said_fits : (said : Said) → IsReadBack said → length (said_bytes said) ≤ limit_of (said_kind said)
-said_fits (the_order order told) r = r.0.short
-said_fits (the_answer answer) r = r.0.short
-said_fits (the_consent position) r = r.0.short
-said_fits (the_giving mode told) r = r.0.short
-said_fits (the_file bytes) r = r
-said_fits (the_refusal letter) r = absurd r
+said_fits : (limit : ℕ) (said : Said) → IsReadBack limit said → length (said_bytes said) ≤ limit_of (said_kind limit said)
+said_fits limit (the_order order told) r = r.0.short
+said_fits limit (the_answer answer) r = r.0.short
+said_fits limit (the_consent position) r = r.0.short
+said_fits limit (the_giving mode told) r = r.0.short
+said_fits limit (the_file bytes) r = r
+said_fits limit (the_refusal letter) r = absurd r
 
 not_whole_yet : {kind : Kind} {held : List ℕ} → GathersBack kind [] held → ⊥
 not_whole_yet {kind} {held} back = let e : false ≡ true = sym (nothing_whole kind) ∙ ap (λ g. g.whole) back.whole in cc
@@ -251,12 +250,12 @@ module _ (measure_of : Side → Measure) (positive : (side : Side) → 0 < (meas
     own_chunks_say me giver h (measure_of me) s said moves keeps c cs (messages measure_of ts),
   )
 
-  pub own_says : (s : State) (left : List (List ℕ)) → IsReadBack said →
+  pub own_says : (s : State) (left : List (List ℕ)) → IsReadBack h.limit said →
       Accords giver h (measure_of me) s left (view me (messages measure_of ts)) →
       Fits giver h measure_of me s (said_messages (measure_of me) said ++ left)
       (record { speaker = me; said = said; moves = moves; keeps = keeps } ∷ ts)
   own_says s left r a =
-      let both = own_by s left (said_messages (measure_of me) said) (said_back (measure_of me) (positive me) said r) a in
+      let both = own_by s left (said_messages (measure_of me) said) (said_back h.limit (measure_of me) (positive me) said r) a in
       record { accords = both.0; speaks = both.1 }
 
   other_by : (l : Lists) (w : Awaits) (held : List ℕ) (cs : List (List ℕ)) → length held ≤ limit_of (kind_awaited w) →
@@ -275,7 +274,7 @@ module _ (measure_of : Side → Measure) (positive : (side : Side) → 0 < (meas
       (nothing_whole (kind_awaited w)) back)
 
   -- by the reply to it
-  pub other_hears : (l : Lists) (w : Awaits) → IsReadBack said → said_kind said ≡ kind_awaited w →
+  pub other_hears : (l : Lists) (w : Awaits) → IsReadBack h.limit said → said_kind h.limit said ≡ kind_awaited w →
       LeavesFronts giver h l w (said_messages (measure_of (other me)) said) →
       Waits w (none_left (own_messages (view me (messages measure_of ts)))) → (r : Reply) →
       on_whole (kind_awaited w) h w (said_bytes said) l ≡ r → Does l moves keeps r →
@@ -284,15 +283,15 @@ module _ (measure_of : Side → Measure) (positive : (side : Side) → 0 < (meas
       (view me (messages measure_of (record { speaker = other me; said = said; moves = moves; keeps = keeps } ∷ ts)))
   other_hears l w b k fronts waits r e does a =
       other_by l w (said_bytes said) (said_messages (measure_of (other me)) said)
-      (subst (λ z. length (said_bytes said) ≤ limit_of z) k (said_fits said b))
+      (subst (λ z. length (said_bytes said) ≤ limit_of z) k (said_fits h.limit said b))
       (subst (λ z. GathersBack z (said_messages (measure_of (other me)) said) (said_bytes said)) k
-      (said_back (measure_of (other me)) (positive (other me)) said b))
+      (said_back h.limit (measure_of (other me)) (positive (other me)) said b))
       fronts
       waits
       (subst (λ z. Does l moves keeps z) (sym e) does)
       (subst (λ z. Accords giver h (measure_of me) z.state (all_messages (measure_of me) z.says) (view me (messages measure_of ts))) (sym e) a)
 
-  pub other_says : (l : Lists) (w : Awaits) → IsReadBack said → said_kind said ≡ kind_awaited w →
+  pub other_says : (l : Lists) (w : Awaits) → IsReadBack h.limit said → said_kind h.limit said ≡ kind_awaited w →
       LeavesFronts giver h l w (said_messages (measure_of (other me)) said) → Open w → (r : Reply) →
       on_whole (kind_awaited w) h w (said_bytes said) l ≡ r → Does l moves keeps r →
       Fits giver h measure_of me r.state (all_messages (measure_of me) r.says) ts →

@@ -18,45 +18,45 @@ use Rattle.uug_conversation.specs.Reactions.{FileAwaited, IsKept, awaited_verdic
 abbrev pub keeping : List Kept → Reply → Reply
 keeping files r = record { state = r.state; says = r.says; keeps = files }
 
-sent_is : (h : Holdings) (source target : List ℕ) (mode : ℕ) (told : Option FileDigest) (verdict : Verdict) (file : Kept) (l : Lists) →
-    on_sent_file verdict file l ≡ keeping (kept_on verdict file) (on_kept h (awaits.SentFile source target mode told) verdict l)
-sent_is h source target mode told Yes file l = refl
-sent_is h source target mode told Never file l = refl
-sent_is h source target mode told Later file l = refl
+sent_is : (h : Holdings) (source target : List ℕ) (mode : ℕ) (told : Option FileDigest) (limit : ℕ) (verdict : Verdict) (file : Kept) (l : Lists) →
+    on_sent_file verdict file l ≡ keeping (kept_on verdict file) (on_kept h (awaits.SentFile source target mode told limit) verdict l)
+sent_is h source target mode told limit Yes file l = refl
+sent_is h source target mode told limit Never file l = refl
+sent_is h source target mode told limit Later file l = refl
 
-asked_is : (h : Holdings) (mode : ℕ) (told : Option FileDigest) (verdict : Verdict) (file : Kept) (l : Lists) →
-    on_asked_file h verdict file l ≡ keeping (kept_on verdict file) (on_kept h (awaits.AskedFile mode told) verdict l)
-asked_is h mode told Yes file l = refl
-asked_is h mode told Never file l = refl
-asked_is h mode told Later file l = refl
+asked_is : (h : Holdings) (mode : ℕ) (told : Option FileDigest) (limit : ℕ) (verdict : Verdict) (file : Kept) (l : Lists) →
+    on_asked_file h verdict file l ≡ keeping (kept_on verdict file) (on_kept h (awaits.AskedFile mode told limit) verdict l)
+asked_is h mode told limit Yes file l = refl
+asked_is h mode told limit Never file l = refl
+asked_is h mode told limit Later file l = refl
 
 -- what is done with the file that is awaited
 abbrev done_with : Holdings → Awaits → (bytes : List ℕ) → Lists → FileAwaited → Reply
 done_with h w bytes l file =
     keeping (kept_on (awaited_verdict h file bytes) (kept_file file.name file.mode (file.front ++ bytes))) (on_kept h w (awaited_verdict h file bytes) l)
 
-asked_of : (h : Holdings) (jobs : List Job) (mode : ℕ) (told : Option FileDigest) (bytes : List ℕ) (l : Lists) (file : FileAwaited) →
+asked_of : (h : Holdings) (jobs : List Job) (mode : ℕ) (told : Option FileDigest) (limit : ℕ) (bytes : List ℕ) (l : Lists) (file : FileAwaited) →
     file_of_first h jobs mode told ≡ Some file →
-    on_file_of h jobs mode told bytes l ≡ done_with h (awaits.AskedFile mode told) bytes l file
-asked_of h [] mode told bytes l file e = absurd cc
-asked_of h (job.Send source target user temp ∷ jobs) mode told bytes l file e = absurd cc
-asked_of h (job.Request source target user ∷ jobs) mode told bytes l file e =
+    on_file_of h jobs mode told bytes l ≡ done_with h (awaits.AskedFile mode told limit) bytes l file
+asked_of h [] mode told limit bytes l file e = absurd cc
+asked_of h (job.Send source target user temp ∷ jobs) mode told limit bytes l file e = absurd cc
+asked_of h (job.Request source target user ∷ jobs) mode told limit bytes l file e =
     let made : FileAwaited = record { front = []; name = h.landing source target; mode = mode; told = told } in
     let same : made ≡ file = cc in
     subst (λ f. on_asked_file h (file_verdict h (h.landing source target) told bytes) (kept_file (h.landing source target) mode bytes) l
-    ≡ done_with h (awaits.AskedFile mode told) bytes l f)
-    same (asked_is h mode told (file_verdict h (h.landing source target) told bytes) (kept_file (h.landing source target) mode bytes) l)
+    ≡ done_with h (awaits.AskedFile mode told limit) bytes l f)
+    same (asked_is h mode told limit (file_verdict h (h.landing source target) told bytes) (kept_file (h.landing source target) mode bytes) l)
 
 on_file_is : (h : Holdings) (w : Awaits) (bytes : List ℕ) (l : Lists) (file : FileAwaited) → file_awaited h w l.ahead ≡ Some file →
     on_file h w bytes l ≡ done_with h w bytes l file
-on_file_is h (awaits.SentFile source target mode told) bytes l file e =
+on_file_is h (awaits.SentFile source target mode told limit) bytes l file e =
     let made : FileAwaited = record { front = front_of h source told; name = target; mode = mode; told = told } in
     let same : made ≡ file = cc in
     let whole = front_of h source told ++ bytes in
     subst (λ f. on_sent_file (file_verdict h target told whole) (kept_file target mode whole) l
-    ≡ done_with h (awaits.SentFile source target mode told) bytes l f)
-    same (sent_is h source target mode told (file_verdict h target told whole) (kept_file target mode whole) l)
-on_file_is h (awaits.AskedFile mode told) bytes l file e = asked_of h l.ahead mode told bytes l file e
+    ≡ done_with h (awaits.SentFile source target mode told limit) bytes l f)
+    same (sent_is h source target mode told limit (file_verdict h target told whole) (kept_file target mode whole) l)
+on_file_is h (awaits.AskedFile mode told limit) bytes l file e = asked_of h l.ahead mode told limit bytes l file e
 on_file_is h _ bytes l file e = absurd cc
 
 -- the reply, and what is kept
@@ -105,15 +105,15 @@ none_of_first h (job.Request source target user ∷ jobs) mode told bytes l e = 
 
 none_is : (h : Holdings) (w : Awaits) (bytes : List ℕ) (l : Lists) → file_awaited h w l.ahead ≡ None →
     on_file h w bytes l ≡ on_none_kept h w l
-none_is h (awaits.SentFile source target mode told) bytes l e = absurd cc
-none_is h (awaits.AskedFile mode told) bytes l e = none_of_first h l.ahead mode told bytes l e
-none_is h awaits.DroppedSentFile bytes l e = refl
-none_is h awaits.DroppedAskedFile bytes l e = refl
+none_is h (awaits.SentFile source target mode told limit) bytes l e = absurd cc
+none_is h (awaits.AskedFile mode told limit) bytes l e = none_of_first h l.ahead mode told bytes l e
+none_is h (awaits.DroppedSentFile limit) bytes l e = refl
+none_is h (awaits.DroppedAskedFile limit) bytes l e = refl
 none_is h _ bytes l e = refl
 
 none_kept_keeps : (h : Holdings) (w : Awaits) (l : Lists) → KeepsNone (on_none_kept h w l)
-none_kept_keeps h awaits.DroppedSentFile l = refl
-none_kept_keeps h awaits.DroppedAskedFile l = refl
+none_kept_keeps h (awaits.DroppedSentFile limit) l = refl
+none_kept_keeps h (awaits.DroppedAskedFile limit) l = refl
 none_kept_keeps h _ l = refl
 
 unkept_by : (h : Holdings) (w : Awaits) (bytes : List ℕ) (old new : Lists) (found : Option FileAwaited) (r : Reaction)

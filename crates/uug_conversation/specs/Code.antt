@@ -1,2 +1,3 @@
 -- How the code of this crate keeps what the other definitions say: no public contract names any of it.
+pub mod StandardLimit
 pub mod StoredModes

@@ -10,8 +10,8 @@ use Rattle.uug_conversation.specs.Turns.{Said, the_order, the_answer, the_consen
 
 -- what was told of the file that is awaited
 abbrev pub told_awaited : Awaits → Option FileDigest
-told_awaited (awaits.SentFile source target mode told) = told
-told_awaited (awaits.AskedFile mode told) = told
+told_awaited (awaits.SentFile source target mode told limit) = told
+told_awaited (awaits.AskedFile mode told limit) = told
 told_awaited _ = None
 
 -- each of these files is the one that was told of

@@ -1,8 +1,8 @@
 -- What a spool gives and accepts, and whether its end is lenient, and tells and compares digests (this project's profile). It does not change in a session.
-use Rattle.std.specs.Prelude.{◌≡◌, ℕ, ◌≤◌, Bool, List, length, nat_le, Option, Some, None, if◌then◌else◌}
+use Rattle.std.specs.Prelude.{◌≡◌, ℕ, ◌<◌, ◌≤◌, Bool, List, length, nat_le, Option, Some, None, if◌then◌else◌}
 use Rattle.uug_conversation.specs.declared.verdict.Verdict.{Verdict}
 use Rattle.uug_conversation.specs.Partial.{Partial}
-use Rattle.uug_talk.specs.declared.gather.TheConstants.{FILE_MAX}
+use Rattle.uug_talk.specs.declared.gather.TheConstants.{FILE_LIMIT_MAX}
 use Rattle.uug_talk.specs.declared.mode.TheConstants.{MODE_MAX}
 
 -- a file that a spool has to give
@@ -34,19 +34,26 @@ pub record Holdings : Type 0 where
   pub lenient : Bool
   -- whether it tells digests of its files, and compares those that it is told
   pub digests : Bool
+  -- how many bytes the greatest file has that it gives or takes
+  pub limit : ℕ
 
 -- a mode is at most octal 7777
 abbrev pub AreModes : Holdings → Type 0
 AreModes h = (name : List ℕ) (file : File) → h.file name ≡ Some file → file.mode ≤ MODE_MAX
 
+-- a limit of files can be kept
+pub record IsLimit (limit : ℕ) : Type 0 where
+  pub some : 0 < limit
+  pub fits : limit ≤ FILE_LIMIT_MAX
+
 -- a file that is too large is not given
-abbrev pub within_limit : Option File → Option File
-within_limit None = None
-within_limit (Some file) = if nat_le (length file.bytes) FILE_MAX then Some file else None
+abbrev pub within_limit : (limit : ℕ) → Option File → Option File
+within_limit limit None = None
+within_limit limit (Some file) = if nat_le (length file.bytes) limit then Some file else None
 
 -- the file of this name that may be sent, if there is one
 abbrev pub to_give : Holdings → List ℕ → Option File
-to_give h name = within_limit (h.file name)
+to_give h name = within_limit h.limit (h.file name)
 
 abbrev pub kept_file : (name : List ℕ) → (mode : ℕ) → (bytes : List ℕ) → Kept
 kept_file name mode bytes = record { name = name; mode = mode; bytes = bytes }

@@ -19,7 +19,7 @@ use Rattle.uug_conversation.specs.Told.{heard, told_of}
 
 -- of the file that a slave awaits, where it was told of it: what was held, and what has come behind that
 abbrev pub left_by : Holdings → Awaits → (gathered : List ℕ) → Option Partial
-left_by h (awaits.SentFile source target mode (Some told)) gathered = Some (record {
+left_by h (awaits.SentFile source target mode (Some told) limit) gathered = Some (record {
   key = record { source = source; told = told };
   bytes = front_of h source (Some told) ++ gathered;
 })

@@ -10,7 +10,6 @@ use Rattle.uug_talk.specs.declared.error.BadText.{BadText}
 use Rattle.uug_talk.specs.declared.order.Order.{Order}
 use Rattle.uug_talk.specs.declared.order.Order.TheVariants as order
 use Rattle.uug_talk.specs.Answer.{answer_of}
-use Rattle.uug_talk.specs.declared.gather.TheConstants.{FILE_MAX}
 use Rattle.uug_talk.specs.Gathering.{Kind, OfCommand, OfFile, Gathering, with_message, limit_of}
 use Rattle.uug_talk.specs.Lenient.{is_held, or_wished, refused_letter_of}
 use Rattle.uug_talk.specs.Order.{order_of}
@@ -76,15 +75,16 @@ goes_on h l before = chooses h (choice h l.ahead) l before
 
 -- ---- a slave takes a command
 
--- S, by the verdict on the name under which its file is kept, by the front that is held of it, and by the name by which it is fetched
-abbrev pub on_send : Verdict → (front source target : List ℕ) → (mode : ℕ) → (told : Option FileDigest) → Lists → Reply
-on_send Yes front source target mode told l = replies l (awaits.SentFile source target mode told) (the_consent (length front) ∷ [])
-on_send Never front source target mode told l = replies l awaits.Order (the_answer answer.SendNever ∷ [])
-on_send Later front source target mode told l = replies l awaits.Order (the_answer answer.SendLater ∷ [])
+-- S, by the greatest file that is taken, by the verdict on the name under which its file is kept, by the front that is held of it, and by the
+-- name by which it is fetched
+abbrev pub on_send : (limit : ℕ) → Verdict → (front source target : List ℕ) → (mode : ℕ) → (told : Option FileDigest) → Lists → Reply
+on_send limit Yes front source target mode told l = replies l (awaits.SentFile source target mode told limit) (the_consent (length front) ∷ [])
+on_send limit Never front source target mode told l = replies l awaits.Order (the_answer answer.SendNever ∷ [])
+on_send limit Later front source target mode told l = replies l awaits.Order (the_answer answer.SendLater ∷ [])
 
 -- a lenient end refuses a file that it is told to be too large
 abbrev pub send_verdict : Holdings → (target : List ℕ) → (told : Option FileDigest) → Verdict
-send_verdict h target told = unless_too_large (h.lenient && is_too_large told) (h.verdict target)
+send_verdict h target told = unless_too_large (h.lenient && is_too_large h.limit told) (h.verdict target)
 
 -- R, by the file that it asks for, by whether there is none only for now, and by whether digests are told
 abbrev pub on_request : (digests : Bool) → Option File → (delayed : Bool) → Lists → Reply
@@ -109,7 +109,7 @@ on_unread _ _ l = out_of_turn l
 -- a command, by the letter in which it can be refused and what it tells of its file
 abbrev pub on_order : Holdings → (letter : Option ℕ) → (told : Option FileDigest) → Result Order BadText → Lists → Reply
 on_order h letter told (Ok (order.Send source target user temp mode)) l =
-    on_send (send_verdict h (h.landing source target) told) (front_of h (fetched_by source temp) told) (fetched_by source temp)
+    on_send h.limit (send_verdict h (h.landing source target) told) (front_of h (fetched_by source temp) told) (fetched_by source temp)
     (h.landing source target) mode told l
 on_order h letter told (Ok (order.Request source target user)) l = on_request h.digests (to_give h source) (h.delayed source) l
 on_order h letter told (Ok order.HangUp) l = on_choice h (choice h l.ahead) l
@@ -166,7 +166,7 @@ on_sent_job_done h _ read l = out_of_turn l
 
 -- by what it tells of the file
 abbrev pub on_request_answer : Holdings → (told : Option FileDigest) → Result Answer BadText → Lists → Reply
-on_request_answer h told (Ok (answer.GiveYes mode)) l = replies l (awaits.AskedFile mode told) []
+on_request_answer h told (Ok (answer.GiveYes mode)) l = replies l (awaits.AskedFile mode told h.limit) []
 on_request_answer h told (Ok answer.GiveNever) l = goes_on h (moved_once fail l) []
 on_request_answer h told (Ok answer.GiveLater) l = goes_on h (moved_once pass l) []
 on_request_answer h told _ l = out_of_turn l
@@ -226,22 +226,22 @@ on_file_of h _ mode told bytes l = out_of_turn l
 
 -- of a file that was sent, the rest behind what was held of it
 abbrev pub on_file : Holdings → Awaits → List ℕ → Lists → Reply
-on_file h (awaits.SentFile source target mode told) bytes l =
+on_file h (awaits.SentFile source target mode told limit) bytes l =
     on_sent_file (file_verdict h target told (front_of h source told ++ bytes))
     (record { name = target; mode = mode; bytes = front_of h source told ++ bytes }) l
-on_file h (awaits.AskedFile mode told) bytes l = on_file_of h l.ahead mode told bytes l
-on_file h awaits.DroppedSentFile bytes l = replies l awaits.Order (the_answer answer.DoneNever ∷ [])
-on_file h awaits.DroppedAskedFile bytes l = goes_on h (moved_once fail l) (the_answer answer.DoneNever ∷ [])
+on_file h (awaits.AskedFile mode told limit) bytes l = on_file_of h l.ahead mode told bytes l
+on_file h (awaits.DroppedSentFile limit) bytes l = replies l awaits.Order (the_answer answer.DoneNever ∷ [])
+on_file h (awaits.DroppedAskedFile limit) bytes l = goes_on h (moved_once fail l) (the_answer answer.DoneNever ∷ [])
 on_file h _ bytes l = out_of_turn l
 
 -- ---- one message
 
--- whether a text or a file is awaited
+-- whether a text is awaited, or a file of at most so many bytes
 abbrev pub kind_awaited : Awaits → Kind
-kind_awaited (awaits.SentFile source target mode told) = OfFile FILE_MAX
-kind_awaited (awaits.AskedFile mode told) = OfFile FILE_MAX
-kind_awaited awaits.DroppedSentFile = OfFile FILE_MAX
-kind_awaited awaits.DroppedAskedFile = OfFile FILE_MAX
+kind_awaited (awaits.SentFile source target mode told limit) = OfFile limit
+kind_awaited (awaits.AskedFile mode told limit) = OfFile limit
+kind_awaited (awaits.DroppedSentFile limit) = OfFile limit
+kind_awaited (awaits.DroppedAskedFile limit) = OfFile limit
 kind_awaited _ = OfCommand
 
 abbrev pub on_whole : Kind → Holdings → Awaits → List ℕ → Lists → Reply
@@ -256,13 +256,13 @@ on_gathered true kind h s bytes = on_whole kind h s.awaits bytes s.lists
 
 -- the rest of a file that is past its limit, of which nothing is kept
 abbrev pub dropped : Awaits → Awaits
-dropped (awaits.SentFile source target mode told) = awaits.DroppedSentFile
-dropped (awaits.AskedFile mode told) = awaits.DroppedAskedFile
+dropped (awaits.SentFile source target mode told limit) = awaits.DroppedSentFile limit
+dropped (awaits.AskedFile mode told limit) = awaits.DroppedAskedFile limit
 dropped awaited = awaited
 
 abbrev pub is_dropped : Awaits → Bool
-is_dropped awaits.DroppedSentFile = true
-is_dropped awaits.DroppedAskedFile = true
+is_dropped (awaits.DroppedSentFile limit) = true
+is_dropped (awaits.DroppedAskedFile limit) = true
 is_dropped _ = false
 
 -- past its limit: a lenient end lets a file come to its end, and refuses it then

@@ -1,6 +1,6 @@
 -- What a spool in memory has, and what it gives and accepts (this project's profile).
-use Rattle.std.specs.Prelude.{ℕ, Bool, false, List, [], ◌∷◌, map, Option, Some, None, if◌then◌else◌}
-use Rattle.std.specs.List.{list_any}
+use Rattle.std.specs.Prelude.{ℕ, nat_le, Bool, true, false, List, [], ◌∷◌, length, map, Option, Some, None, if◌then◌else◌}
+use Rattle.std.specs.List.{list_all, list_any}
 use Rattle.std.specs.Str.{bytes_eq}
 use Rattle.uug_conversation.specs.declared.memory_spool.MemorySpool.{MemorySpool}
 use Rattle.uug_conversation.specs.declared.stored.Stored.{Stored}
@@ -8,6 +8,7 @@ use Rattle.uug_conversation.specs.declared.verdict.Verdict.{Verdict}
 use Rattle.uug_conversation.specs.declared.verdict.Verdict.TheVariants.{Yes, Never, Later}
 use Rattle.uug_conversation.specs.Holdings.{File, Kept, Holdings}
 use Rattle.uug_conversation.specs.Partial.{Partial}
+use Rattle.uug_talk.specs.declared.gather.TheConstants.{FILE_MAX}
 
 pub record MemoryHoldings : Type 0 where
   -- the files that it has to give, in the order in which they were added
@@ -24,9 +25,11 @@ pub record MemoryHoldings : Type 0 where
   pub lenient : Bool
   -- it tells digests of its files, and compares those that it is told
   pub digests : Bool
+  -- how many bytes the greatest file has that it gives or takes
+  pub limit : ℕ
 
 abbrev pub no_holdings : MemoryHoldings
-no_holdings = record { files = []; denied = []; postponed = []; immovable = []; stored = []; partials = None; lenient = false; digests = false }
+no_holdings = record { files = []; denied = []; postponed = []; immovable = []; stored = []; partials = None; lenient = false; digests = false; limit = FILE_MAX }
 
 -- whether a name is among these
 abbrev pub has_name : List (List ℕ) → List ℕ → Bool
@@ -37,6 +40,10 @@ abbrev pub first_named : List Kept → List ℕ → Option File
 first_named [] name = None
 first_named (f ∷ files) name =
     if bytes_eq f.name name then Some (record { mode = f.mode; bytes = f.bytes }) else first_named files name
+
+-- whether none of the files that it gives has more than so many bytes
+abbrev pub gives_within : (limit : ℕ) → MemoryHoldings → Bool
+gives_within limit m = if nat_le m.limit limit then true else list_all (λ f. nat_le (length f.bytes) limit) m.files
 
 -- a name both denied and later is denied
 abbrev pub verdict_on : (denied postponed : List (List ℕ)) → List ℕ → Verdict
@@ -54,6 +61,7 @@ holdings_of m = record {
   partials = m.partials;
   lenient = m.lenient;
   digests = m.digests;
+  limit = m.limit;
 }
 
 -- ---- how the program keeps them
@@ -71,4 +79,5 @@ held_by m = record {
   partials = m.partials;
   lenient = m.lenient;
   digests = m.digests;
+  limit = m.limit.bytes;
 }

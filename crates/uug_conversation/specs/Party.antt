@@ -1,8 +1,8 @@
 -- An end as it comes to a session (this project's profile).
-use Rattle.std.specs.Prelude.{◌≡◌, ◌<◌, ℕ, List, All, Some}
+use Rattle.std.specs.Prelude.{◌≡◌, ◌<◌, ◌≤◌, ℕ, List, length, All, Some}
 use Rattle.uug_conversation.specs.declared.job.Job.{Job}
 use Rattle.uug_conversation.specs.declared.job.Job.TheVariants as job
-use Rattle.uug_conversation.specs.Holdings.{File, Holdings, AreModes, to_give}
+use Rattle.uug_conversation.specs.Holdings.{File, Holdings, AreModes, IsLimit, to_give}
 use Rattle.uug_conversation.specs.Partials.{none_of}
 use Rattle.uug_conversation.specs.Resuming.{IsFront, front_held}
 use Rattle.uug_talk.specs.Chunks.{Measure}
@@ -24,6 +24,7 @@ HasNames (job.Request source target user) = AreNames source target user
 pub record IsSound (p : Party) : Type 0 where
   pub names : All HasNames p.jobs
   pub modes : AreModes p.holdings
+  pub limit : IsLimit p.holdings.limit
   pub size : 0 < p.measure.size
 
 -- nothing is held of a file of an earlier session
@@ -35,7 +36,13 @@ abbrev pub HoldsFronts : (giver taker : Holdings) → Type 0
 HoldsFronts giver taker = (source : List ℕ) (file : File) → to_give giver source ≡ Some file →
     IsFront (front_held taker giver.digests source (Some file)) file.bytes
 
--- what each of two ends holds of the other's files
-pub record HoldFronts (a b : Party) : Type 0 where
+-- no file of the giver is too large for the taker
+abbrev pub TakesSizes : (giver taker : Holdings) → Type 0
+TakesSizes giver taker = (source : List ℕ) (file : File) → to_give giver source ≡ Some file → length file.bytes ≤ taker.limit
+
+-- what each of two ends holds of the other's files, and that none of them is too large for it
+pub record Suit (a b : Party) : Type 0 where
   pub of_caller : HoldsFronts a.holdings b.holdings
   pub of_called : HoldsFronts b.holdings a.holdings
+  pub sizes_of_caller : TakesSizes a.holdings b.holdings
+  pub sizes_of_called : TakesSizes b.holdings a.holdings

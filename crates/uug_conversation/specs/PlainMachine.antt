@@ -28,10 +28,10 @@ pub record AreOff (h : Holdings) : Type 0 where
 
 -- nothing was told of the file that is awaited, and it is not the rest of one past its limit
 abbrev pub awaits_plainly : Awaits → Bool
-awaits_plainly (awaits.SentFile source target mode (Some told)) = false
-awaits_plainly (awaits.AskedFile mode (Some told)) = false
-awaits_plainly awaits.DroppedSentFile = false
-awaits_plainly awaits.DroppedAskedFile = false
+awaits_plainly (awaits.SentFile source target mode (Some told) limit) = false
+awaits_plainly (awaits.AskedFile mode (Some told) limit) = false
+awaits_plainly (awaits.DroppedSentFile limit) = false
+awaits_plainly (awaits.DroppedAskedFile limit) = false
 awaits_plainly _ = true
 
 -- ---- the master's next command
@@ -62,7 +62,7 @@ on_choice c l = on_hang_up c.next (moved c.failing l)
 
 abbrev pub on_order : Holdings → Result Order BadText → Lists → Reply
 on_order h (Ok (order.Send source target user temp mode)) l =
-    on_send (h.verdict (h.landing source target)) [] (fetched_by source temp) (h.landing source target) mode None l
+    on_send h.limit (h.verdict (h.landing source target)) [] (fetched_by source temp) (h.landing source target) mode None l
 on_order h (Ok (order.Request source target user)) l = on_request (to_give h source) l
 on_order h (Ok order.HangUp) l = on_choice (choice h l.ahead) l
 on_order h (Err fault) l = out_of_turn l
@@ -93,7 +93,7 @@ on_sent_job_done h (job.Send source target user temp ∷ jobs) read l = on_sent_
 on_sent_job_done h _ read l = out_of_turn l
 
 abbrev pub on_request_answer : Holdings → Result Answer BadText → Lists → Reply
-on_request_answer h (Ok (answer.GiveYes mode)) l = replies l (awaits.AskedFile mode None) []
+on_request_answer h (Ok (answer.GiveYes mode)) l = replies l (awaits.AskedFile mode None h.limit) []
 on_request_answer h (Ok answer.GiveNever) l = goes_on h (moved_once fail l) []
 on_request_answer h (Ok answer.GiveLater) l = goes_on h (moved_once pass l) []
 on_request_answer h _ l = out_of_turn l
@@ -131,9 +131,9 @@ on_file_of h (job.Request source target user ∷ jobs) mode bytes l =
 on_file_of h _ mode bytes l = out_of_turn l
 
 abbrev pub on_file : Holdings → Awaits → List ℕ → Lists → Reply
-on_file h (awaits.SentFile source target mode told) bytes l =
+on_file h (awaits.SentFile source target mode told limit) bytes l =
     on_sent_file (h.immovable target) (record { name = target; mode = mode; bytes = bytes }) l
-on_file h (awaits.AskedFile mode told) bytes l = on_file_of h l.ahead mode bytes l
+on_file h (awaits.AskedFile mode told limit) bytes l = on_file_of h l.ahead mode bytes l
 on_file h _ bytes l = out_of_turn l
 
 -- ---- one message

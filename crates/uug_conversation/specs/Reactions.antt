@@ -18,7 +18,7 @@ use Rattle.uug_conversation.specs.declared.reaction.Says.TheVariants.{Nothing, O
 use Rattle.uug_conversation.specs.declared.verdict.Verdict.{Verdict}
 use Rattle.uug_conversation.specs.declared.verdict.Verdict.TheVariants.{Yes, Never, Later}
 use Rattle.uug_conversation.specs.Choice.{fetched_by}
-use Rattle.uug_conversation.specs.Holdings.{File, Kept, Holdings, to_give, kept_file}
+use Rattle.uug_conversation.specs.Holdings.{File, Kept, Holdings, IsLimit, to_give, kept_file}
 use Rattle.uug_conversation.specs.Jobs.{Lists, Move, pass, strike, fail, moved_once}
 use Rattle.uug_conversation.specs.Machine.{Reply, between, replies, out_of_turn, goes_on, awaits_answer_to, file_verdict}
 use Rattle.uug_conversation.specs.Resuming.{front_of}
@@ -97,9 +97,9 @@ file_of_first h (job.Request source target user ∷ jobs) mode told =
 file_of_first h _ mode told = None
 
 abbrev pub file_awaited : Holdings → Awaits → List Job → Option FileAwaited
-file_awaited h (awaits.SentFile source target mode told) jobs =
+file_awaited h (awaits.SentFile source target mode told limit) jobs =
     Some (record { front = front_of h source told; name = target; mode = mode; told = told })
-file_awaited h (awaits.AskedFile mode told) jobs = file_of_first h jobs mode told
+file_awaited h (awaits.AskedFile mode told limit) jobs = file_of_first h jobs mode told
 file_awaited h _ jobs = None
 
 -- whether that file is kept, where these bytes come
@@ -122,16 +122,16 @@ done_move Never = fail
 done_move Later = pass
 
 abbrev pub on_kept : Holdings → Awaits → Verdict → Lists → Reply
-on_kept h (awaits.SentFile source target mode told) verdict l =
+on_kept h (awaits.SentFile source target mode told limit) verdict l =
     replies l awaits.Order (the_answer (done_answer verdict) ∷ [])
-on_kept h (awaits.AskedFile mode told) verdict l =
+on_kept h (awaits.AskedFile mode told limit) verdict l =
     goes_on h (moved_once (done_move verdict) l) (the_answer (done_answer verdict) ∷ [])
 on_kept h _ verdict l = out_of_turn l
 
 -- where no file is awaited that could be kept
 abbrev pub on_none_kept : Holdings → Awaits → Lists → Reply
-on_none_kept h awaits.DroppedSentFile l = replies l awaits.Order (the_answer answer.DoneNever ∷ [])
-on_none_kept h awaits.DroppedAskedFile l = goes_on h (moved_once fail l) (the_answer answer.DoneNever ∷ [])
+on_none_kept h (awaits.DroppedSentFile limit) l = replies l awaits.Order (the_answer answer.DoneNever ∷ [])
+on_none_kept h (awaits.DroppedAskedFile limit) l = goes_on h (moved_once fail l) (the_answer answer.DoneNever ∷ [])
 on_none_kept h _ l = out_of_turn l
 
 abbrev pub kept_on : Verdict → Kept → List Kept
@@ -145,11 +145,13 @@ IsKept h (Some file) bytes (Some verdict) before after =
     (awaited_verdict h file bytes ≡ verdict) × (after ≡ before ++ kept_on verdict (kept_file file.name file.mode (file.front ++ bytes)))
 IsKept h _ bytes _ before after = ⊥
 
--- a file's mode is one that can be kept
-abbrev pub HasModeInRange : Awaits → Type 0
-HasModeInRange (awaits.SentFile source target mode told) = mode ≤ MODE_MAX
-HasModeInRange (awaits.AskedFile mode told) = mode ≤ MODE_MAX
-HasModeInRange _ = Unit {0}
+-- a file's mode is one that can be kept, and so is its limit
+abbrev pub IsInRange : Awaits → Type 0
+IsInRange (awaits.SentFile source target mode told limit) = (mode ≤ MODE_MAX) × IsLimit limit
+IsInRange (awaits.AskedFile mode told limit) = (mode ≤ MODE_MAX) × IsLimit limit
+IsInRange (awaits.DroppedSentFile limit) = IsLimit limit
+IsInRange (awaits.DroppedAskedFile limit) = IsLimit limit
+IsInRange _ = Unit {0}
 
 abbrev pub HasModeAnswered : Answer → Type 0
 HasModeAnswered (answer.GiveYes mode) = mode ≤ MODE_MAX

@@ -2,7 +2,6 @@
 use Rattle.std.specs.Prelude.{◌≡◌, ℕ, nat_le, Bool, true, false, ◌&&◌, List, [], ◌∷◌, ◌++◌, length, drop, Option, Some, None}
 use Rattle.uug_digest.specs.Positions.{position_told}
 use Rattle.uug_digest.specs.declared.file_digest.FileDigest.{FileDigest}
-use Rattle.uug_talk.specs.declared.gather.TheConstants.{FILE_MAX}
 use Rattle.uug_conversation.specs.Holdings.{File, Holdings}
 use Rattle.uug_conversation.specs.Partials.{held_among}
 use Rattle.uug_conversation.specs.Told.{heard, told_of}
@@ -35,7 +34,7 @@ front_where false (b ∷ bytes) = []
 abbrev pub front_of : Holdings → (source : List ℕ) → (told : Option FileDigest) → List ℕ
 front_of h source None = []
 front_of h source (Some told) =
-    front_where (nat_le (length (held_among h.partials source told)) told.size && nat_le told.size FILE_MAX) (held_among h.partials source told)
+    front_where (nat_le (length (held_among h.partials source told)) told.size && nat_le told.size h.limit) (held_among h.partials source told)
 
 -- ---- both
 

@@ -6,7 +6,6 @@ use Rattle.uug_digest.specs.declared.file_digest.FileDigest.{FileDigest}
 use Rattle.uug_talk.specs.Answer.{answer_text}
 use Rattle.uug_talk.specs.Order.{order_text}
 use Rattle.uug_talk.specs.declared.answer.Answer.TheVariants.{GiveYes}
-use Rattle.uug_talk.specs.declared.gather.TheConstants.{FILE_MAX}
 use Rattle.uug_talk.specs.declared.order.Order.{Order}
 use Rattle.uug_talk.specs.declared.order.Order.TheVariants.{Send}
 use Rattle.uug_conversation.specs.Choice.{fetched_by}
@@ -58,9 +57,9 @@ outcome true true = Never
 outcome true false = Yes
 
 -- whether the file that was told of has more bytes than any that is taken
-abbrev pub is_too_large : Option FileDigest → Bool
-is_too_large None = false
-is_too_large (Some told) = nat_lt FILE_MAX told.size
+abbrev pub is_too_large : (limit : ℕ) → Option FileDigest → Bool
+is_too_large limit None = false
+is_too_large limit (Some told) = nat_lt limit told.size
 
 -- what is said to its command: it is refused, where it would be taken, before it comes
 abbrev pub unless_too_large : (too_large : Bool) → Verdict → Verdict

@@ -1,6 +1,5 @@
 ghost use Rattle.std.specs.Prelude.{IsTrue, ◌≡◌, ◌↔◌};
-ghost use Rattle.uug_talk.specs.declared.gather.TheConstants.{FILE_MAX};
-ghost use Rattle.uug_talk.specs.Gathering.{OfFile};
+ghost use Rattle.uug_talk.specs.Gathering.{OfFile, limit_of};
 ghost use Rattle.uug_conversation.specs.Machine.{comes_early, kind_awaited};
 
 use uug_digest::FileDigest;
@@ -21,6 +20,8 @@ pub enum Awaits {
         mode: u16,
         /// The digest that was announced for it.
         told: Option<FileDigest>,
+        /// The most bytes that it may have.
+        limit: usize,
     },
     /// The result for the file that was given to the master.
     GivenFileDone,
@@ -38,11 +39,19 @@ pub enum Awaits {
         mode: u16,
         /// The digest that was announced for it.
         told: Option<FileDigest>,
+        /// The most bytes that it may have.
+        limit: usize,
     },
     /// The rest of a file over the limit, sent by the master. None of it is kept.
-    DroppedSentFile,
+    DroppedSentFile {
+        /// The most bytes that a file may have.
+        limit: usize,
+    },
     /// The rest of a requested file over the limit. None of it is kept.
-    DroppedAskedFile,
+    DroppedAskedFile {
+        /// The most bytes that a file may have.
+        limit: usize,
+    },
     /// The answer to H.
     HangUpAnswer,
     /// Nothing: the conversation is over.
@@ -54,14 +63,15 @@ pub enum Awaits {
 impl Awaits {
     /// Returns whether a file, not a text, is awaited.
     pub(crate) fn is_file(&self) -> bool
-        ensures { IsTrue result ↔ (kind_awaited self.now ≡ OfFile FILE_MAX) }
+        ensures { IsTrue result
+            ↔ (kind_awaited self.now ≡ OfFile (limit_of (kind_awaited self.now))) }
     {
         matches!(
             self,
             Awaits::SentFile { .. }
                 | Awaits::AskedFile { .. }
-                | Awaits::DroppedSentFile
-                | Awaits::DroppedAskedFile
+                | Awaits::DroppedSentFile { .. }
+                | Awaits::DroppedAskedFile { .. }
         )
     }
 

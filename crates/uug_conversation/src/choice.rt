@@ -6,22 +6,22 @@ ghost use Rattle.uug_conversation.specs.Jobs.{moved};
 ghost use Rattle.uug_conversation.specs.Reactions.{offer, send_offer};
 ghost use Rattle.uug_conversation.specs.Resuming.{front_of, front_where};
 ghost use Rattle.uug_conversation.specs.Told.{told_of, told_with};
-ghost use Rattle.uug_talk.specs.declared.gather.TheConstants.{FILE_MAX};
+ghost use Rattle.uug_talk.specs.declared.gather.TheConstants.{FILE_LIMIT_MAX};
 
 use crate::job::Job;
 use crate::queue::Queue;
 use crate::spool::{FileView, Spool};
 use std::alloc::Allocator;
 use uug_digest::FileDigest;
-use uug_talk::{FILE_MAX, Name, Order};
+use uug_talk::{Name, Order};
 
 /// Returns the file of this name that may be sent, if there is one.
 pub(crate) fn to_give<'a, S: Spool>(spool: &'a S, name: &Name) -> Option<FileView<'a>>
     ensures file { shown_file result ≡ to_give (S.holdings spool.now) name.now }
-    ensures limit { IfSome result (λ file. length file.bytes.now ≤ FILE_MAX) }
+    ensures limit { IfSome result (λ file. length file.bytes.now ≤ FILE_LIMIT_MAX) }
 {
     let file = spool.fetch(name)?;
-    if file.bytes.len() <= FILE_MAX {
+    if file.bytes.len() <= spool.limit() {
         Some(file)
     } else {
         None
@@ -46,21 +46,22 @@ pub(crate) fn front_of<'a, S: Spool>(
     told: &Option<FileDigest>,
 ) -> &'a [u8]
     ensures front { result.now ≡ front_of (S.holdings spool.now) source.now told.now }
-    ensures limit { length result.now ≤ FILE_MAX }
+    ensures limit { length result.now ≤ FILE_LIMIT_MAX }
 {
     match told {
-        Some(told) => front_within(spool.held(source, told), told.size as usize),
+        Some(told) => front_within(spool.held(source, told), told.size as usize, spool.limit()),
         None => &[],
     }
 }
 
-/// Returns these bytes if they may be the front of a file of this size.
-fn front_within(bytes: &[u8], size: usize) -> &[u8]
+/// Returns these bytes if they may be the front of a file of this size, and such a file is taken.
+fn front_within(bytes: &[u8], size: usize, limit: usize) -> &[u8]
+    requires { limit ≤ FILE_LIMIT_MAX }
     ensures front { result.now
-        ≡ front_where (nat_le (length bytes.now) size && nat_le size FILE_MAX) bytes.now }
-    ensures limit { length result.now ≤ FILE_MAX }
+        ≡ front_where (nat_le (length bytes.now) size && nat_le size limit) bytes.now }
+    ensures limit { length result.now ≤ FILE_LIMIT_MAX }
 {
-    if bytes.len() <= size && size <= FILE_MAX {
+    if bytes.len() <= size && size <= limit {
         bytes
     } else {
         &[]

@@ -1,7 +1,6 @@
 ghost use Rattle.std.specs.Prelude.{◌≡◌, ◌≢◌, ◌≤◌, ◌<◌, ◌⊎◌, ◌++◌, [], length, true, false, All, OnOk, OnErr, IfOk, IfErr, IfSome, IfNone, Some, None};
 ghost use Rattle.std.specs.Bool.{OnTrue, OnFalse};
-ghost use Rattle.uug_talk.specs.declared.gather.TheConstants.{FILE_MAX};
-ghost use Rattle.uug_talk.specs.Gathering.{OfFile};
+ghost use Rattle.uug_talk.specs.Gathering.{OfFile, limit_of};
 ghost use Rattle.uug_conversation.specs.Jobs.{Lists, at_start, pending};
 ghost use Rattle.uug_conversation.specs.Left.{left_of};
 ghost use Rattle.uug_conversation.specs.MemoryHoldings.{held_by, holdings_of};
@@ -10,7 +9,7 @@ ghost use Rattle.uug_conversation.specs.PartialView.{shown_partial};
 ghost use Rattle.uug_conversation.specs.Machine.{between, kind_awaited, on_past_limit, opening, replies, reply_to, step};
 ghost use Rattle.uug_conversation.specs.Outgoing.{IsSayable, sayings_of};
 ghost use Rattle.uug_conversation.specs.Party.{HasNames};
-ghost use Rattle.uug_conversation.specs.Reactions.{HasModeInRange, reply_of};
+ghost use Rattle.uug_conversation.specs.Reactions.{IsInRange, reply_of};
 ghost use Rattle.uug_conversation.specs.Runs.{is_bad};
 ghost use Rattle.uug_conversation.specs.DialogueState.{asks_spool, first_of, opened_with, taking, unmeasured, with_first_sent};
 ghost use Rattle.uug_conversation.specs.DialogueValue.{IsPart, state_of, dialogue_of, told_as, dialogue_has_parted, dialogue_is_through};
@@ -51,7 +50,7 @@ pub struct Dialogue<A: Allocator> {
 impl<A: Allocator> Model for Dialogue<A> {
     ghost use Rattle.std.specs.Prelude.{◌≡◌, ◌≤◌, ◌<◌, true};
     ghost use Rattle.uug_talk.specs.declared.chunks.TheConstants.{MESSAGE_MAX};
-    ghost use Rattle.uug_conversation.specs.Reactions.{HasModeInRange};
+    ghost use Rattle.uug_conversation.specs.Reactions.{IsInRange};
     ghost use Rattle.uug_conversation.specs.DialogueValue.{DialogueValue, IsPart, state_of};
 
     ghost Value = { DialogueValue };
@@ -63,7 +62,7 @@ impl<A: Allocator> Model for Dialogue<A> {
       outgoing = d.outgoing;
     } };
 
-    ghost invariant = { λ d. HasModeInRange d.awaits × IsPart d.awaits d.gather
+    ghost invariant = { λ d. IsInRange d.awaits × IsPart d.awaits d.gather
         × (d.size ≤ MESSAGE_MAX)
         × (d.opened ≡ true → 0 < d.size) };
 }
@@ -162,7 +161,9 @@ impl<A: Allocator + Copy> Dialogue<A> {
         ensures count { S.faults spool.old ≤ S.faults spool.new }
     {
         if self.awaits.is_file() && !message.is_empty() {
-            return self.take_part(spool, message);
+            let taken = self.take_part(spool, message);
+            self.note(spool);
+            return taken;
         }
         self.take_and_say(spool, message)
     }
@@ -171,7 +172,8 @@ impl<A: Allocator + Copy> Dialogue<A> {
     /// commands, and takes longer to make than the part takes.
     fn take_part<S: Spool>(&mut self, spool: &S, message: &[u8]) -> Result<(), FileFault>
         requires opened { self.old.opened ≡ true }
-        requires file { kind_awaited self.old.machine.awaits ≡ OfFile FILE_MAX }
+        requires file { kind_awaited self.old.machine.awaits
+            ≡ OfFile (limit_of (kind_awaited self.old.machine.awaits)) }
         requires some { message.now ≢ [] }
         ensures taken { OnOk result (dialogue_of (S.holdings spool.now) (S.kept spool.now) self.new
             ≡ taking (S.holdings spool.now) message.now
@@ -186,6 +188,22 @@ impl<A: Allocator + Copy> Dialogue<A> {
                 self.pass_limit(spool);
                 Ok(())
             }
+        }
+    }
+
+    /// Lets the spool note what has come of the awaited file, if its digest was announced.
+    fn note<S: Spool>(&self, spool: &mut S)
+        ensures holdings { S.holdings spool.new ≡ S.holdings spool.old }
+        ensures kept { S.kept spool.new ≡ S.kept spool.old }
+        ensures faults { S.faults spool.new ≡ S.faults spool.old }
+    {
+        if let Awaits::SentFile {
+            source,
+            told: Some(told),
+            ..
+        } = &self.awaits
+        {
+            spool.note(source, told, self.gather.bytes());
         }
     }
 
@@ -332,7 +350,7 @@ impl<A: Allocator + Copy> Dialogue<A> {
 fn opening<A: Allocator, S: Spool>(queue: &mut Queue<A>, spool: &S, side: Side) -> Reaction
     ensures reply { opening side (S.holdings spool.now) queue.old
         ≡ reply_of (S.holdings spool.now) queue.new result [] }
-    ensures mode { HasModeInRange result.awaits }
+    ensures mode { IsInRange result.awaits }
     ensures sayable { All IsSayable (sayings_of result.says) }
 {
     match side {
@@ -343,14 +361,17 @@ fn opening<A: Allocator, S: Spool>(queue: &mut Queue<A>, spool: &S, side: Side) 
 
 /// Makes an empty gatherer for the awaited item.
 fn gather_for<A: Allocator + Copy>(awaits: &Awaits, alloc: A) -> Gather<A>
+    requires { IsInRange awaits.now }
     ensures kind { result.kind ≡ kind_awaited awaits.now }
     ensures bytes { result.bytes ≡ [] }
     ensures whole { result.whole ≡ false }
 {
-    if awaits.is_file() {
-        Gather::file(alloc)
-    } else {
-        Gather::command()
+    match awaits {
+        Awaits::SentFile { limit, .. }
+        | Awaits::AskedFile { limit, .. }
+        | Awaits::DroppedSentFile { limit }
+        | Awaits::DroppedAskedFile { limit } => Gather::file_from(Vec::new(alloc), *limit),
+        _ => Gather::command(),
     }
 }
 
@@ -365,7 +386,7 @@ fn reaction_unless_early<A: Allocator, S: Spool>(
     message: &[u8],
     alloc: A,
 ) -> Result<Option<Reaction>, FileFault>
-    requires mode { HasModeInRange awaits.now }
+    requires mode { IsInRange awaits.now }
     requires part { IsPart awaits.now gather.old }
     ensures holdings { S.holdings spool.new ≡ S.holdings spool.old }
     ensures reply { IfOk result (λ told. reply_to (S.holdings spool.old) none_waits
@@ -376,7 +397,7 @@ fn reaction_unless_early<A: Allocator, S: Spool>(
     ensures kept { OnOk result (S.kept spool.new ≡ S.kept spool.old
         ++ (reply_to (S.holdings spool.old) none_waits
         (state_of queue.old awaits.now gather.old) message.now).keeps) }
-    ensures mode { IfOk result (λ told. IfSome told (λ reaction. HasModeInRange reaction.awaits)) }
+    ensures mode { IfOk result (λ told. IfSome told (λ reaction. IsInRange reaction.awaits)) }
     ensures sayable { IfOk result (λ told.
         IfSome told (λ reaction. All IsSayable (sayings_of reaction.says))) }
     ensures more { IfOk result (λ told. IfNone told (IsPart awaits.now gather.new)) }
@@ -406,7 +427,7 @@ fn reaction_to<A: Allocator, S: Spool>(
     message: &[u8],
     alloc: A,
 ) -> Result<Option<Reaction>, FileFault>
-    requires mode { HasModeInRange awaits.now }
+    requires mode { IsInRange awaits.now }
     requires part { IsPart awaits.now gather.old }
     ensures holdings { S.holdings spool.new ≡ S.holdings spool.old }
     ensures reply { IfOk result (λ told. step (S.holdings spool.old)
@@ -417,7 +438,7 @@ fn reaction_to<A: Allocator, S: Spool>(
     ensures kept { OnOk result (S.kept spool.new ≡ S.kept spool.old
         ++ (step (S.holdings spool.old) (state_of queue.old awaits.now gather.old)
         message.now).keeps) }
-    ensures mode { IfOk result (λ told. IfSome told (λ reaction. HasModeInRange reaction.awaits)) }
+    ensures mode { IfOk result (λ told. IfSome told (λ reaction. IsInRange reaction.awaits)) }
     ensures sayable { IfOk result (λ told.
         IfSome told (λ reaction. All IsSayable (sayings_of reaction.says))) }
     ensures more { IfOk result (λ told. IfNone told (IsPart awaits.now gather.new)) }
@@ -447,12 +468,14 @@ fn reaction_to_part<A: Allocator, S: Spool>(
     gather: &mut Gather<A>,
     message: &[u8],
 ) -> Result<Option<Reaction>, FileFault>
+    requires range { IsInRange awaits.now }
     requires part { IsPart awaits.now gather.old }
-    requires no_end { kind_awaited awaits.now ≡ OfFile FILE_MAX → message.now ≢ [] }
+    requires no_end { kind_awaited awaits.now ≡ OfFile (limit_of (kind_awaited awaits.now))
+        → message.now ≢ [] }
     ensures reply { IfOk result (λ told. step (S.holdings spool.now)
         (state_of queue.old awaits.now gather.old) message.now
         ≡ told_as (S.holdings spool.now) (state_of queue.new awaits.now gather.new) told []) }
-    ensures mode { IfOk result (λ told. IfSome told (λ reaction. HasModeInRange reaction.awaits)) }
+    ensures mode { IfOk result (λ told. IfSome told (λ reaction. IsInRange reaction.awaits)) }
     ensures sayable { IfOk result (λ told.
         IfSome told (λ reaction. All IsSayable (sayings_of reaction.says))) }
     ensures more { IfOk result (λ told. IfNone told (IsPart awaits.now gather.new)) }
@@ -470,16 +493,21 @@ fn reaction_to_part<A: Allocator, S: Spool>(
 
 /// Returns what is awaited after a text or a file has passed its limit. A lenient end lets a file run to its end.
 fn awaits_past_limit<S: Spool>(spool: &S, awaits: &Awaits) -> Awaits
+    requires { IsInRange awaits.now }
     ensures reply { (l : Lists) → on_past_limit (S.holdings spool.now).lenient
         (kind_awaited awaits.now) awaits.now l ≡ replies l result [] }
-    ensures mode { HasModeInRange result }
+    ensures mode { IsInRange result }
 {
     if !spool.is_lenient() {
         return Awaits::Bad;
     }
     match awaits {
-        Awaits::SentFile { .. } | Awaits::DroppedSentFile => Awaits::DroppedSentFile,
-        Awaits::AskedFile { .. } | Awaits::DroppedAskedFile => Awaits::DroppedAskedFile,
+        Awaits::SentFile { limit, .. } | Awaits::DroppedSentFile { limit } => {
+            Awaits::DroppedSentFile { limit: *limit }
+        }
+        Awaits::AskedFile { limit, .. } | Awaits::DroppedAskedFile { limit } => {
+            Awaits::DroppedAskedFile { limit: *limit }
+        }
         _ => Awaits::Bad,
     }
 }

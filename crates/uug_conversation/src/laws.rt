@@ -10,7 +10,7 @@ ghost use Rattle.uug_conversation.specs.Partial.{Partial};
 ghost use Rattle.uug_conversation.specs.Runs.{progress_at};
 ghost use Rattle.uug_conversation.specs.Machine.{State, gathered_with, goes_on, is_dropped, kind_awaited, on_past_limit, on_request_answer, on_text, opening, out_of_turn, reply_to, send_verdict, step};
 ghost use Rattle.uug_conversation.specs.OneEnd.{Act, AllAllowed, FollowsConversation, after_acts, link_up};
-ghost use Rattle.uug_conversation.specs.Party.{HoldFronts, Party, IsSound};
+ghost use Rattle.uug_conversation.specs.Party.{Party, IsSound, Suit};
 ghost use Rattle.uug_conversation.specs.PlainMachine.{AreOff, awaits_plainly, plain_opening, plain_reply_to, plain_step};
 ghost use Rattle.uug_conversation.specs.ReadBack.{EachTurn, IsReadBack};
 ghost use Rattle.uug_conversation.specs.declared.side.Side.{Side};
@@ -32,21 +32,20 @@ ghost use Rattle.uug_talk.specs.Gathering.{limit_of};
 ghost use Rattle.uug_talk.specs.Order.{order_of};
 
 use crate::queue::JOBS_MAX;
-use uug_talk::FILE_MAX;
 
 /// States the limit of jobs as a number.
 pub fn limits()
     ensures jobs { JOBS_MAX ≡ 1024 }
 {}
 
-/// States that a spool's file may be given exactly if it has at most `FILE_MAX` bytes, and that it is then given
-/// unchanged. With one byte more, it is as if the spool had no such file.
+/// States that a spool's file may be given exactly if it has at most as many bytes as its end allows, and that it is
+/// then given unchanged. With one byte more, it is as if the spool had no such file.
 pub fn what_may_be_given()
     ensures given { (h : Holdings) (name : List ℕ) (file : File)
         → (to_give h name ≡ Some file) ↔ ((h.file name ≡ Some file)
-        × (length file.bytes ≤ FILE_MAX)) }
+        × (length file.bytes ≤ h.limit)) }
     ensures too_large { (h : Holdings) (name : List ℕ) (file : File) → h.file name ≡ Some file
-        → FILE_MAX < length file.bytes → to_give h name ≡ None }
+        → h.limit < length file.bytes → to_give h name ≡ None }
 {}
 
 /// States that a text which a message takes past its limit fits no turn, whatever the end awaits. The same holds for a
@@ -166,17 +165,19 @@ pub fn an_end_with_all_settings_off_goes_by_the_plain_table()
 {}
 
 /// States that every text of a conversation may be cut into messages, and is read as it was said. No file is too
-/// large. Here and below, what an end holds of the other's files of earlier sessions are fronts of them.
+/// large for either end. Here and below, what an end holds of the other's files of earlier sessions are fronts of
+/// them, and the other gives no file that is too large for it.
 pub fn said_is_read_back()
-    ensures { (a b : Party) → HoldFronts a b → IsSound a → IsSound b
-        → EachTurn (λ t. IsReadBack t.said) (conversation a b) }
+    ensures { (a b : Party) → Suit a b → IsSound a → IsSound b
+        → (me : Side)
+        → EachTurn (λ t. IsReadBack (party me a b).holdings.limit t.said) (conversation a b) }
 {}
 
 /// States that one end is where the conversation says. It doesn't know the other's jobs or holdings, and sends and
 /// takes in any order that a link allows. This holds for both ends, every two parties, and whatever it brought from
 /// earlier sessions.
 pub fn an_end_follows_the_conversation()
-    ensures { (a b : Party) → HoldFronts a b → IsSound a → IsSound b → (me : Side) (struck failed : List Job) (kept : List Kept)
+    ensures { (a b : Party) → Suit a b → IsSound a → IsSound b → (me : Side) (struck failed : List Job) (kept : List Kept)
         (acts : List Act) → let p = party me a b in let first = link_up me p struck failed kept in
         AllAllowed me a b first acts
         → FollowsConversation me a b struck failed kept (after_acts p.holdings first acts) }
@@ -185,7 +186,7 @@ pub fn an_end_follows_the_conversation()
 /// States what is left of a file if the session ends now: a front of the file that a Send job of the other end gives.
 /// So what an end holds of the other's files stays fronts of them, from session to session.
 pub fn what_is_left_is_a_front()
-    ensures { (a b : Party) → HoldFronts a b → IsSound a → IsSound b → (me : Side) (struck failed : List Job)
+    ensures { (a b : Party) → Suit a b → IsSound a → IsSound b → (me : Side) (struck failed : List Job)
         (kept : List Kept) (acts : List Act) → let p = party me a b in let first = link_up me p struck failed kept in
         AllAllowed me a b first acts
         → IsLeft (party (other me) a b) p.holdings
@@ -195,7 +196,7 @@ pub fn what_is_left_is_a_front()
 /// States that what has come of a file is not sent again. If the next session begins with what is left at the end of
 /// this one, the giver sends just the bytes behind it.
 pub fn what_came_is_not_sent_again()
-    ensures { (a b : Party) → HoldFronts a b → IsSound a → IsSound b → (me : Side) (k : ℕ) (ps : List Partial) (p : Partial)
+    ensures { (a b : Party) → Suit a b → IsSound a → IsSound b → (me : Side) (k : ℕ) (ps : List Partial) (p : Partial)
         → let giver = (party (other me) a b).holdings in let taker = (party me a b).holdings in
         taker.partials ≡ Some ps → left_of taker (progress_at me a b k).state ≡ Some p
         → GoesOnBehind giver taker p }

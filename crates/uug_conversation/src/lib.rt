@@ -6,6 +6,7 @@ mod backlog;
 mod choice;
 pub mod conversation_laws;
 mod dialogue;
+mod file_limit;
 mod job;
 pub mod laws;
 mod machine;
@@ -25,6 +26,7 @@ mod whole_file;
 
 pub use awaits::Awaits;
 pub use dialogue::Dialogue;
+pub use file_limit::FileLimit;
 pub use job::Job;
 pub use memory_spool::{MemorySpool, has_name};
 pub use outgoing::SAYINGS_MAX;

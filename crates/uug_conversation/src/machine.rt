@@ -4,7 +4,7 @@ ghost use Rattle.uug_conversation.specs.Jobs.{Lists, moved_once, pass, strike, f
 ghost use Rattle.uug_conversation.specs.Holdings.{Holdings};
 ghost use Rattle.uug_conversation.specs.Machine.{goes_on, on_send, send_verdict, on_request, on_hang_up, on_choice, on_unread, on_order, on_given_file_done, on_last_hang_up, sends_file, on_send_yes, move_refused, on_send_answer, on_sent_file_done, on_sent_job_done, on_request_answer, on_hang_up_answer, on_nothing_more, on_text};
 ghost use Rattle.uug_conversation.specs.Holdings.{to_give};
-ghost use Rattle.uug_conversation.specs.Reactions.{reply_of, said_before, gives_order, HasModeInRange, HasModeAnswered};
+ghost use Rattle.uug_conversation.specs.Reactions.{reply_of, said_before, gives_order, IsInRange, HasModeAnswered};
 ghost use Rattle.uug_conversation.specs.Resuming.{front_of, position_heard, rest_from};
 ghost use Rattle.uug_conversation.specs.Told.{heard, is_too_large, told_with};
 ghost use Rattle.uug_digest.specs.Digests.{told_by_answer, told_by_order};
@@ -23,8 +23,7 @@ use crate::verdict::Verdict;
 use std::alloc::Allocator;
 use uug_digest::{FileDigest, position_told, told_by_answer, told_by_order};
 use uug_talk::{
-    Answer, BadText, FILE_MAX, Name, Order, is_held, read_answer, read_order, read_wished,
-    refused_letter,
+    Answer, BadText, Name, Order, is_held, read_answer, read_order, read_wished, refused_letter,
 };
 
 /// Continues as master: chooses the next job and says its command, after an answer if there is one.
@@ -35,7 +34,7 @@ pub(crate) fn go_on<A: Allocator, S: Spool>(
 ) -> Reaction
     ensures reply { goes_on (S.holdings spool.now) queue.old (said_before before)
         ≡ reply_of (S.holdings spool.now) queue.new result [] }
-    ensures mode { HasModeInRange result.awaits }
+    ensures mode { IsInRange result.awaits }
 {
     let order = choose(queue, spool).unwrap_or(Order::HangUp);
     commands(spool, before, order)
@@ -58,7 +57,7 @@ pub(crate) fn on_text<A: Allocator, S: Spool>(
 ) -> Reaction
     ensures reply { on_text (S.holdings spool.now) awaits text.now queue.old
         ≡ reply_of (S.holdings spool.now) queue.new result [] }
-    ensures mode { HasModeInRange result.awaits }
+    ensures mode { IsInRange result.awaits }
 {
     match awaits {
         Awaits::Order => {
@@ -86,8 +85,8 @@ pub(crate) fn on_text<A: Allocator, S: Spool>(
         Awaits::NothingMore => on_nothing_more(read_answer(text)),
         Awaits::SentFile { .. }
         | Awaits::AskedFile { .. }
-        | Awaits::DroppedSentFile
-        | Awaits::DroppedAskedFile
+        | Awaits::DroppedSentFile { .. }
+        | Awaits::DroppedAskedFile { .. }
         | Awaits::Bad => Reaction::out_of_turn(),
     }
 }
@@ -134,7 +133,7 @@ fn on_order<A: Allocator, S: Spool>(
 ) -> Reaction
     ensures reply { on_order (S.holdings spool.now) letter told order.now queue.old
         ≡ reply_of (S.holdings spool.now) queue.new result [] }
-    ensures mode { IfOk order.now (λ o. HasMode o) → HasModeInRange result.awaits }
+    ensures mode { IfOk order.now (λ o. HasMode o) → IsInRange result.awaits }
 {
     match order {
         Ok(
@@ -159,7 +158,7 @@ fn on_order<A: Allocator, S: Spool>(
 fn on_unread<S: Spool>(spool: &S, letter: Option<u8>) -> Reaction
     ensures reply { (l : Lists) → on_unread (S.holdings spool.now).lenient letter l
         ≡ reply_of (S.holdings spool.now) l result [] }
-    ensures mode { HasModeInRange result.awaits }
+    ensures mode { IsInRange result.awaits }
 {
     match letter {
         Some(letter) if spool.is_lenient() => Reaction::refuses(letter),
@@ -175,10 +174,10 @@ fn on_send<S: Spool>(
     told: Option<FileDigest>,
 ) -> Reaction
     ensures reply { (l : Lists)
-        → on_send (send_verdict (S.holdings spool.now) target told)
+        → on_send (S.holdings spool.now).limit (send_verdict (S.holdings spool.now) target told)
         (front_of (S.holdings spool.now) source told) source target mode told l
         ≡ reply_of (S.holdings spool.now) l result [] }
-    ensures mode { mode ≤ MODE_MAX → HasModeInRange result.awaits }
+    ensures mode { mode ≤ MODE_MAX → IsInRange result.awaits }
 {
     match send_verdict(spool, &target, &told) {
         Verdict::Yes => {
@@ -188,6 +187,7 @@ fn on_send<S: Spool>(
                 target,
                 mode,
                 told,
+                limit: spool.limit(),
             };
             Reaction::consents(awaits, position)
         }
@@ -201,16 +201,16 @@ fn send_verdict<S: Spool>(spool: &S, target: &Name, told: &Option<FileDigest>) -
     ensures { result ≡ send_verdict (S.holdings spool.now) target.now told.now }
 {
     match spool.may_keep(target) {
-        Verdict::Yes if spool.is_lenient() && is_too_large(told) => Verdict::Never,
+        Verdict::Yes if spool.is_lenient() && is_too_large(spool.limit(), told) => Verdict::Never,
         verdict => verdict,
     }
 }
 
-fn is_too_large(told: &Option<FileDigest>) -> bool
-    ensures { result ≡ is_too_large told.now }
+fn is_too_large(limit: usize, told: &Option<FileDigest>) -> bool
+    ensures { result ≡ is_too_large limit told.now }
 {
     match told {
-        Some(told) => FILE_MAX < told.size as usize,
+        Some(told) => limit < told.size as usize,
         None => false,
     }
 }
@@ -219,7 +219,7 @@ fn on_request<S: Spool>(spool: &S, source: Name) -> Reaction
     ensures reply { (l : Lists) → on_request (S.holdings spool.now).digests
         (to_give (S.holdings spool.now) source) ((S.holdings spool.now).delayed source) l
         ≡ reply_of (S.holdings spool.now) l result [] }
-    ensures mode { HasModeInRange result.awaits }
+    ensures mode { IsInRange result.awaits }
 {
     match to_give(spool, &source) {
         Some(file) => Reaction {
@@ -238,7 +238,7 @@ fn on_request<S: Spool>(spool: &S, source: Name) -> Reaction
 fn on_hang_up<S: Spool>(spool: &S, next: Option<Order>) -> Reaction
     ensures reply { (l : Lists) → on_hang_up (S.holdings spool.now) next l
         ≡ reply_of (S.holdings spool.now) l result [] }
-    ensures mode { HasModeInRange result.awaits }
+    ensures mode { IsInRange result.awaits }
 {
     match next {
         Some(order) => commands(spool, Some(Answer::HangNo), order),
@@ -249,7 +249,7 @@ fn on_hang_up<S: Spool>(spool: &S, next: Option<Order>) -> Reaction
 fn on_given_file_done(answer: Result<Answer, BadText>) -> Reaction
     ensures reply { (h : Holdings) (l : Lists)
         → on_given_file_done answer l ≡ reply_of h l result [] }
-    ensures mode { HasModeInRange result.awaits }
+    ensures mode { IsInRange result.awaits }
 {
     match answer {
         Ok(Answer::DoneYes | Answer::DoneYesMaster | Answer::DoneNever | Answer::DoneLater) => {
@@ -261,7 +261,7 @@ fn on_given_file_done(answer: Result<Answer, BadText>) -> Reaction
 
 fn on_last_hang_up(answer: Result<Answer, BadText>) -> Reaction
     ensures reply { (h : Holdings) (l : Lists) → on_last_hang_up answer l ≡ reply_of h l result [] }
-    ensures mode { HasModeInRange result.awaits }
+    ensures mode { IsInRange result.awaits }
 {
     match answer {
         Ok(Answer::HangYes) => Reaction::quiet(Awaits::NothingMore),
@@ -278,7 +278,7 @@ fn on_send_answer<A: Allocator, S: Spool>(
 ) -> Reaction
     ensures reply { on_send_answer (S.holdings spool.now) held position answer queue.old
         ≡ reply_of (S.holdings spool.now) queue.new result [] }
-    ensures mode { HasModeInRange result.awaits }
+    ensures mode { IsInRange result.awaits }
 {
     match answer {
         Ok(Answer::SendYes) => on_send_yes(queue, spool, position),
@@ -319,7 +319,7 @@ fn move_refused<A: Allocator>(queue: &mut Queue<A>, held: bool)
 fn on_send_yes<A: Allocator, S: Spool>(queue: &Queue<A>, spool: &S, position: usize) -> Reaction
     ensures reply { on_send_yes (S.holdings spool.now) position queue.now.ahead queue.now
         ≡ reply_of (S.holdings spool.now) queue.now result [] }
-    ensures mode { HasModeInRange result.awaits }
+    ensures mode { IsInRange result.awaits }
 {
     match queue.first() {
         Some(Job::Send { source, temp, .. }) => send_file(
@@ -335,7 +335,7 @@ fn send_file<S: Spool>(spool: &S, name: &Name, position: usize) -> Reaction
     ensures reply { (l : Lists)
         → sends_file (rest_from position (to_give (S.holdings spool.now) name.now)) l
         ≡ reply_of (S.holdings spool.now) l result [] }
-    ensures mode { HasModeInRange result.awaits }
+    ensures mode { IsInRange result.awaits }
 {
     match to_give(spool, name) {
         Some(file) if position <= file.bytes.len() => Reaction {
@@ -354,7 +354,7 @@ fn on_sent_job_done<A: Allocator, S: Spool>(
 ) -> Reaction
     ensures reply { on_sent_job_done (S.holdings spool.now) queue.old.ahead answer queue.old
         ≡ reply_of (S.holdings spool.now) queue.new result [] }
-    ensures mode { HasModeInRange result.awaits }
+    ensures mode { IsInRange result.awaits }
 {
     match queue.first() {
         Some(Job::Send { .. }) => on_sent_file_done(queue, spool, answer),
@@ -369,7 +369,7 @@ fn on_sent_file_done<A: Allocator, S: Spool>(
 ) -> Reaction
     ensures reply { on_sent_file_done (S.holdings spool.now) answer queue.old
         ≡ reply_of (S.holdings spool.now) queue.new result [] }
-    ensures mode { HasModeInRange result.awaits }
+    ensures mode { IsInRange result.awaits }
 {
     match answer {
         Ok(Answer::DoneYes) => {
@@ -400,10 +400,14 @@ fn on_request_answer<A: Allocator, S: Spool>(
 ) -> Reaction
     ensures reply { on_request_answer (S.holdings spool.now) told answer queue.old
         ≡ reply_of (S.holdings spool.now) queue.new result [] }
-    ensures mode { IfOk answer (λ a. HasModeAnswered a) → HasModeInRange result.awaits }
+    ensures mode { IfOk answer (λ a. HasModeAnswered a) → IsInRange result.awaits }
 {
     match answer {
-        Ok(Answer::GiveYes(mode)) => Reaction::quiet(Awaits::AskedFile { mode, told }),
+        Ok(Answer::GiveYes(mode)) => Reaction::quiet(Awaits::AskedFile {
+            mode,
+            told,
+            limit: spool.limit(),
+        }),
         Ok(Answer::GiveNever) => {
             queue.fail_first();
             go_on(queue, spool, None)
@@ -420,7 +424,7 @@ fn on_request_answer<A: Allocator, S: Spool>(
 fn on_hang_up_answer(answer: Result<Answer, BadText>) -> Reaction
     ensures reply { (h : Holdings) (l : Lists)
         → on_hang_up_answer answer l ≡ reply_of h l result [] }
-    ensures mode { HasModeInRange result.awaits }
+    ensures mode { IsInRange result.awaits }
 {
     match answer {
         Ok(Answer::HangYes) => Reaction::answers(Awaits::NothingMore, Answer::HangYes),
@@ -431,7 +435,7 @@ fn on_hang_up_answer(answer: Result<Answer, BadText>) -> Reaction
 
 fn on_nothing_more(answer: Result<Answer, BadText>) -> Reaction
     ensures reply { (h : Holdings) (l : Lists) → on_nothing_more answer l ≡ reply_of h l result [] }
-    ensures mode { HasModeInRange result.awaits }
+    ensures mode { IsInRange result.awaits }
 {
     match answer {
         Ok(Answer::HangYes) => Reaction::quiet(Awaits::NothingMore),

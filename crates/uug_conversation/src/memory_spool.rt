@@ -1,11 +1,13 @@
-ghost use Rattle.std.specs.Prelude.{◌≡◌, ℕ, ◌≤◌, [], ◌∷◌, ◌++◌, map, Some, None, is_some, if◌then◌else◌, OnOk, OnErr};
+ghost use Rattle.std.specs.Prelude.{IsTrue, ◌≡◌, ℕ, ◌<◌, ◌≤◌, nat_le, List, [], ◌∷◌, ◌++◌, length, map, Some, None, is_some, if◌then◌else◌, OnOk, OnErr};
 ghost use Rattle.uug_conversation.specs.FileView.{shown_file};
-ghost use Rattle.uug_conversation.specs.Holdings.{kept_file};
+ghost use Rattle.std.specs.List.{list_all};
+ghost use Rattle.uug_conversation.specs.Holdings.{File, kept_file, to_give};
 ghost use Rattle.uug_conversation.specs.Partials.{none_of, partials_then};
 ghost use Rattle.uug_conversation.specs.PartialView.{partial_of};
-ghost use Rattle.uug_conversation.specs.MemoryHoldings.{no_holdings, has_name, first_named, holdings_of, kept_of, held_by};
+ghost use Rattle.uug_conversation.specs.MemoryHoldings.{gives_within, no_holdings, has_name, first_named, holdings_of, kept_of, held_by};
 ghost use Rattle.uug_conversation.specs.Code.StoredModes.{modes_in_range};
 
+use crate::file_limit::FileLimit;
 use crate::partial_file::PartialFile;
 use crate::partials::Partials;
 use crate::spool::{FileView, KeepFault, Spool};
@@ -27,6 +29,7 @@ pub struct MemorySpool<A: Allocator> {
     partials: Option<Partials<A>>,
     lenient: bool,
     digests: bool,
+    limit: FileLimit,
     alloc: A,
 }
 
@@ -44,6 +47,7 @@ impl<A: Allocator + Copy> MemorySpool<A> {
             partials: None,
             lenient: false,
             digests: false,
+            limit: FileLimit::standard(),
             alloc,
         }
     }
@@ -103,6 +107,26 @@ impl<A: Allocator + Copy> MemorySpool<A> {
         ensures { held_by self.new ≡ record (held_by self.old) { digests = digests } }
     {
         self.digests = digests;
+    }
+
+    /// Sets how many bytes the greatest file has that the end sends or takes.
+    pub fn set_limit(&mut self, limit: FileLimit)
+        ensures { held_by self.new ≡ record (held_by self.old) { limit = limit.bytes } }
+    {
+        self.limit = limit;
+    }
+
+    /// Returns whether none of the files that the end gives has more than `limit` bytes.
+    pub fn gives_within(&self, limit: usize) -> bool
+        ensures value { result ≡ gives_within limit (held_by self.now) }
+        ensures within { IsTrue result → (source : List ℕ) (file : File)
+            → to_give (holdings_of (held_by self.now)) source ≡ Some file
+            → length file.bytes ≤ limit }
+    {
+        if self.limit.bytes <= limit {
+            return true;
+        }
+        are_within(self.files.as_slice(), limit)
     }
 
     /// Sets whether the end resumes files that are cut off, and forgets what it held of such files.
@@ -203,6 +227,8 @@ impl<A: Allocator + Copy> Spool for MemorySpool<A> {
         Ok(())
     }
 
+    fn note(&mut self, _source: &Name, _told: &FileDigest, _bytes: &[u8]) {}
+
     fn let_go(&mut self, _told: &FileDigest) {}
 
     fn is_lenient(&self) -> bool {
@@ -213,11 +239,17 @@ impl<A: Allocator + Copy> Spool for MemorySpool<A> {
         self.digests
     }
 
+    fn limit(&self) -> usize {
+        self.limit.bytes
+    }
+
     fn faults(&self) -> u64 {
         0
     }
 
     ghost modes = { λ m. modes_in_range m.files.items };
+
+    ghost limits = { λ m. record { some = m.limit.some; fits = m.limit.fits } };
 }
 
 /// Returns whether one of the names has these bytes.
@@ -225,6 +257,13 @@ pub fn has_name(names: &[Name], bytes: &[u8]) -> bool
     ensures { result ≡ has_name names.now bytes.now }
 {
     names.iter().any(|name| name.as_bytes() == bytes)
+}
+
+/// Returns whether none of these files has more than `limit` bytes.
+fn are_within<A: Allocator>(files: &[Stored<A>], limit: usize) -> bool
+    ensures { result ≡ list_all (λ f. nat_le (length f.bytes.items) limit) files.now }
+{
+    files.iter().all(|file| file.bytes.len() <= limit)
 }
 
 fn first_named<'a, A: Allocator>(files: &'a [Stored<A>], name: &Name) -> Option<FileView<'a>>

@@ -16,7 +16,8 @@ use crate::spool::Spool;
 use uug_digest::{FileDigest, give_telling, order_telling, write_consent};
 use uug_talk::laws::{file_goes_on, messages_fit};
 use uug_talk::{
-    Answer, Chunks, FILE_MAX, MESSAGE_MAX, Message, Order, refusal_text, write_answer, write_order,
+    Answer, Chunks, FILE_LIMIT_MAX, MESSAGE_MAX, Message, Order, refusal_text, write_answer,
+    write_order,
 };
 
 /// Writes the message at an offset in the text or file into `message`, and returns whether it is the last. It has at
@@ -40,7 +41,7 @@ pub(crate) fn part_of<S: Spool>(
         (said_by (S.holdings spool.now) saying.now)) }
     ensures size { length message.new.items ≤ size }
     ensures next { result ≡ false → IsWithin (saying.now ∷ []) (offset + size) }
-    ensures limit { result ≡ false → offset < FILE_MAX }
+    ensures limit { result ≡ false → offset < FILE_LIMIT_MAX }
 {
     match saying {
         Saying::Order(order, told) => part_of_order(order, told, size, short, offset, message),
@@ -77,7 +78,7 @@ fn part_of_order(
         (drop (offset + size) (order_said order.now told.now))) }
     ensures size { length message.new.items ≤ size }
     ensures next { result ≡ false → offset + size ≤ length (order_said order.now told.now) }
-    ensures limit { result ≡ false → offset < FILE_MAX }
+    ensures limit { result ≡ false → offset < FILE_LIMIT_MAX }
 {
     match told {
         Some(told) => part_of_text(&order_telling(order, told), size, short, offset, message),
@@ -105,7 +106,7 @@ fn part_of_answer(
         (drop (offset + size) (answer_text answer.now))) }
     ensures size { length message.new.items ≤ size }
     ensures next { result ≡ false → offset + size ≤ length (answer_text answer.now) }
-    ensures limit { result ≡ false → offset < FILE_MAX }
+    ensures limit { result ≡ false → offset < FILE_LIMIT_MAX }
 {
     part_of_text(&write_answer(answer), size, short, offset, message)
 }
@@ -129,7 +130,7 @@ fn part_of_consent(
         (drop (offset + size) (consent_text position))) }
     ensures size { length message.new.items ≤ size }
     ensures next { result ≡ false → offset + size ≤ length (consent_text position) }
-    ensures limit { result ≡ false → offset < FILE_MAX }
+    ensures limit { result ≡ false → offset < FILE_LIMIT_MAX }
 {
     part_of_text(&write_consent(position), size, short, offset, message)
 }
@@ -154,7 +155,7 @@ fn part_of_refusal(
         (drop (offset + size) (refusal_text letter))) }
     ensures size { length message.new.items ≤ size }
     ensures next { result ≡ false → offset + size ≤ length (refusal_text letter) }
-    ensures limit { result ≡ false → offset < FILE_MAX }
+    ensures limit { result ≡ false → offset < FILE_LIMIT_MAX }
 {
     part_of_text(&refusal_text(letter), size, short, offset, message)
 }
@@ -180,7 +181,7 @@ fn part_of_giving(
         (drop (offset + size) (giving_said mode told.now))) }
     ensures size { length message.new.items ≤ size }
     ensures next { result ≡ false → offset + size ≤ length (giving_said mode told.now) }
-    ensures limit { result ≡ false → offset < FILE_MAX }
+    ensures limit { result ≡ false → offset < FILE_LIMIT_MAX }
 {
     match told {
         Some(told) => part_of_text(&give_telling(mode, told), size, short, offset, message),

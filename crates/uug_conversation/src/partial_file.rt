@@ -28,7 +28,7 @@ impl<A: Allocator> PartialFile<A> {
 }
 
 /// Returns whether two announced digests are equal.
-fn is_same(a: &FileDigest, b: &FileDigest) -> bool
+pub(crate) fn is_same(a: &FileDigest, b: &FileDigest) -> bool
     ensures { result ≡ is_same a.now b.now }
 {
     a.size == b.size && a.hash.as_slice() == b.hash.as_slice()

@@ -3,7 +3,7 @@ ghost use Rattle.uug_conversation.specs.Partial.{Partial};
 ghost use Rattle.uug_conversation.specs.Partials.{bytes_under, put, without};
 ghost use Rattle.uug_conversation.specs.PartialView.{key_of, partial_of, partials_of};
 
-use crate::partial_file::PartialFile;
+use crate::partial_file::{PartialFile, is_same};
 use std::alloc::{AllocError, Allocator};
 use std::marker::Model;
 use uug_digest::FileDigest;
@@ -60,11 +60,12 @@ impl<A: Allocator> Partials<A> {
         Ok(())
     }
 
-    /// Notes that the file with this digest is over. What is held of it stays until the session's end.
+    /// Notes that the file with this digest is over, if something is held of it. That stays until the session's end.
     pub fn let_go(&mut self, told: &FileDigest)
         ensures { self.new ≡ self.old }
     {
-        if self.over.len() < self.over.capacity() {
+        let is_held = self.files.iter().any(|file| is_same(&file.told, told));
+        if is_held && self.over.len() < self.over.capacity() {
             self.over.push_reserved(*told);
         }
     }

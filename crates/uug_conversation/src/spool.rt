@@ -1,12 +1,12 @@
 ghost use Rattle.std.specs.Prelude.{◌≡◌, ◌≢◌, ℕ, ◌^◌, ◌-◌, ◌≤◌, ◌<◌, ◌⊎◌, List, [], ◌∷◌, ◌++◌, true, OnOk, OnErr, ◌↔◌};
-ghost use Rattle.uug_conversation.specs.Holdings.{Holdings, Kept, AreModes, kept_file};
+ghost use Rattle.uug_conversation.specs.Holdings.{Holdings, Kept, AreModes, IsLimit, kept_file};
 ghost use Rattle.uug_conversation.specs.FileView.{shown_file};
 ghost use Rattle.uug_conversation.specs.Partials.{held_among};
 
 use crate::verdict::Verdict;
 use thiserror::Error;
 use uug_digest::FileDigest;
-use uug_talk::{MODE_MAX, Name};
+use uug_talk::{FILE_LIMIT_MAX, MODE_MAX, Name};
 
 /// A file that a spool lends.
 #[derive(Clone, Copy, Debug)]
@@ -77,8 +77,15 @@ pub trait Spool {
             → (faults self.old < faults self.new) ⊎ (faults self.old ≡ u64.MAX) }
         ensures count { faults self.old ≤ faults self.new };
 
-    /// Notes that a file with this announced digest, of which something was held, is over: it was kept or refused, or
-    /// doesn't fit. What is held of it is of no more use, but stays until the session's end.
+    /// Notes what has come in this session of a file with this name at its giver and this announced digest, behind what
+    /// is held of it. A spool over a disk may write it down, so that it isn't lost if its end is killed.
+    fn note(&mut self, source: &Name, told: &FileDigest, bytes: &[u8])
+        ensures holdings { holdings self.new ≡ holdings self.old }
+        ensures kept { kept self.new ≡ kept self.old }
+        ensures faults { faults self.new ≡ faults self.old };
+
+    /// Notes that a file with this announced digest is over: it was kept or refused, or doesn't fit. What is held of it
+    /// is of no more use, but stays until the session's end.
     fn let_go(&mut self, told: &FileDigest)
         ensures holdings { holdings self.new ≡ holdings self.old }
         ensures kept { kept self.new ≡ kept self.old }
@@ -92,10 +99,19 @@ pub trait Spool {
     fn tells_digests(&self) -> bool
         ensures { result ≡ (holdings self.now).digests };
 
+    /// Returns how many bytes the greatest file has that this end sends or takes.
+    fn limit(&self) -> usize
+        ensures limit { result ≡ (holdings self.now).limit }
+        ensures some { 0 < result }
+        ensures fits { result ≤ FILE_LIMIT_MAX };
+
     /// Returns the number of device failures. The count stops at the greatest number.
     fn faults(&self) -> u64
         ensures { result ≡ faults self.now };
 
     // A mode is at most octal 7777.
     ghost modes: { (s : Self) → AreModes (holdings s) };
+
+    // The limit of its files is one that can be kept.
+    ghost limits: { (s : Self) → IsLimit (holdings s).limit };
 }

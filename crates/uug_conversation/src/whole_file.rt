@@ -3,7 +3,7 @@ ghost use Rattle.uug_conversation.specs.Holdings.{Kept, kept_file};
 ghost use Rattle.uug_conversation.specs.Machine.{on_file};
 ghost use Rattle.uug_conversation.specs.Outgoing.{IsSayable, sayings_of};
 ghost use Rattle.uug_conversation.specs.Jobs.{moved_once};
-ghost use Rattle.uug_conversation.specs.Reactions.{reply_of, file_awaited, on_kept, on_none_kept, kept_on, done_answer, done_move, HasModeInRange, IsKept, MayBeKept};
+ghost use Rattle.uug_conversation.specs.Reactions.{reply_of, file_awaited, on_kept, on_none_kept, kept_on, done_answer, done_move, IsInRange, IsKept, MayBeKept};
 ghost use Rattle.uug_conversation.specs.Resuming.{front_of};
 ghost use Rattle.uug_conversation.specs.Told.{fits, outcome};
 ghost use Rattle.uug_conversation.specs.declared.verdict.Verdict.TheVariants.{Yes};
@@ -107,12 +107,16 @@ fn keep_sent<A: Allocator, S: Spool>(
             let_go(spool, told);
             Ok(verdict)
         }
-        Ok(None) => keep(spool, target, mode, told, bytes),
+        Ok(None) => {
+            let verdict = keep(spool, target, mode, told, bytes)?;
+            let_go(spool, told);
+            Ok(verdict)
+        }
         Err(_) => Err(FileFault::Memory),
     }
 }
 
-/// Tells the spool that a file is over of which it holds the front.
+/// Tells the spool that a file is over, if its digest was announced.
 fn let_go<S: Spool>(spool: &mut S, told: &Option<FileDigest>)
     ensures holdings { S.holdings spool.new ≡ S.holdings spool.old }
     ensures kept { S.kept spool.new ≡ S.kept spool.old }
@@ -164,7 +168,7 @@ fn keep_awaited<A: Allocator, S: Spool>(
     bytes: &[u8],
     alloc: A,
 ) -> Result<Option<Verdict>, FileFault>
-    requires { HasModeInRange awaits.now }
+    requires { IsInRange awaits.now }
     ensures holdings { S.holdings spool.new ≡ S.holdings spool.old }
     ensures kept { IfOk result (λ verdict.
         IsKept (S.holdings spool.old)
@@ -185,11 +189,12 @@ fn keep_awaited<A: Allocator, S: Spool>(
             target,
             mode,
             told,
+            ..
         } => {
             let verdict = keep_sent(spool, source, target, *mode, told, bytes, alloc)?;
             Ok(Some(verdict))
         }
-        Awaits::AskedFile { mode, told } => match queue.first() {
+        Awaits::AskedFile { mode, told, .. } => match queue.first() {
             Some(Job::Request { source, target, .. }) => {
                 let name = spool.landing(source, target);
                 Ok(Some(keep(spool, &name, *mode, told, bytes)?))
@@ -229,7 +234,7 @@ fn on_kept<A: Allocator, S: Spool>(
 ) -> Reaction
     ensures reply { on_kept (S.holdings spool.now) awaits verdict queue.old
         ≡ reply_of (S.holdings spool.now) queue.new result [] }
-    ensures mode { HasModeInRange result.awaits }
+    ensures mode { IsInRange result.awaits }
 {
     let answer = done_answer(verdict);
     match awaits {
@@ -250,11 +255,11 @@ fn on_none_kept<A: Allocator, S: Spool>(
 ) -> Reaction
     ensures reply { on_none_kept (S.holdings spool.now) awaits.now queue.old
         ≡ reply_of (S.holdings spool.now) queue.new result [] }
-    ensures mode { HasModeInRange result.awaits }
+    ensures mode { IsInRange result.awaits }
 {
     match awaits {
-        Awaits::DroppedSentFile => Reaction::answers(Awaits::Order, Answer::DoneNever),
-        Awaits::DroppedAskedFile => {
+        Awaits::DroppedSentFile { .. } => Reaction::answers(Awaits::Order, Answer::DoneNever),
+        Awaits::DroppedAskedFile { .. } => {
             queue.fail_first();
             go_on(queue, spool, Some(Answer::DoneNever))
         }
@@ -271,12 +276,12 @@ pub(crate) fn on_file<A: Allocator, S: Spool>(
     bytes: &[u8],
     alloc: A,
 ) -> Result<Reaction, FileFault>
-    requires { HasModeInRange awaits }
+    requires { IsInRange awaits }
     ensures holdings { S.holdings spool.new ≡ S.holdings spool.old }
     ensures reply { IfOk result (λ r. on_file (S.holdings spool.old) awaits bytes.now queue.old
         ≡ reply_of (S.holdings spool.old) queue.new r
         (on_file (S.holdings spool.old) awaits bytes.now queue.old).keeps) }
-    ensures mode { IfOk result (λ r. HasModeInRange r.awaits) }
+    ensures mode { IfOk result (λ r. IsInRange r.awaits) }
     ensures sayable { IfOk result (λ r. All IsSayable (sayings_of r.says)) }
     ensures kept { OnOk result (S.kept spool.new
         ≡ S.kept spool.old ++ (on_file (S.holdings spool.old) awaits bytes.now queue.old).keeps) }

@@ -14,12 +14,21 @@ use std::fs::{DirEntry, ReadDir};
 use std::io::ErrorKind;
 use std::rt::Files;
 use uug_failure::{EndDir, LISTINGS_MAX, Resource, RunFault, was_interrupted};
-use uug_folder::local_source;
+use uug_folder::{Allowance, local_source};
 use uug_session::{Job, Stored};
 use uug_talk::Name;
 
 /// The maximum number of files that an end gives beside those of its offered jobs.
 pub const OTHERS_MAX: usize = 256;
+
+/// What may be given beside the files of jobs.
+#[derive(Clone, Copy)]
+struct Others {
+    /// The number of files of jobs.
+    before: usize,
+    /// What is left for other files.
+    left: Allowance,
+}
 
 /// The files that an end gives in a session, and the number of jobs that it offers.
 #[derive(Drop)]
@@ -32,19 +41,19 @@ pub struct Given<A: Allocator> {
     pub delayed: Vec<Name, A>,
 }
 
-/// Returns the files that an end gives. The first are those of its first jobs, up to `most` bytes together. Then come
-/// up to `OTHERS_MAX` others in the folder `send` below that of the end, which the other end may ask for. The remaining
-/// jobs wait for another session, which is reported on standard error. A file that isn't in `send` is looked for with
-/// those of failed jobs, and the line of such a job may be tried again. A missing folder counts as empty. Hidden files,
-/// copies whose job is not offered, and anything but a regular file are skipped, and so are files of more than
-/// `FILE_MAX` bytes. Other files that are not given are reported on standard error. Only a file that a job names stops
-/// the end, if it can't be read. A listing that a signal has ended is repeated.
+/// Returns the files that an end gives. The first are those of its first jobs, as long as there is room. Then come up to
+/// `OTHERS_MAX` others in the folder `send` below that of the end, which the other end may ask for, with as much room.
+/// The remaining jobs wait for another session, which is reported on standard error. A file that isn't in `send` is
+/// looked for with those of failed jobs, and the line of such a job may be tried again. A missing folder counts as
+/// empty. Hidden files, copies whose job is not offered, and anything but a regular file are skipped, and so are files
+/// over the limit. Other files that are not given are reported on standard error. Only a file that a job names stops the
+/// end, if it can't be read. A listing that a signal has ended is repeated.
 pub fn read_given<A: Allocator + Copy, R: Files + Eprint + Alloc + Clone + Drop>(
     alloc: A,
     rt: &R,
     lock: &DirLock<A>,
     jobs: &[Job],
-    most: u64,
+    allowance: Allowance,
 ) -> Result<Given<A>, RunFault>
     ensures within { IfOk result (λ given.
         length given.files.items ≤ given.offered + OTHERS_MAX) }
@@ -52,7 +61,7 @@ pub fn read_given<A: Allocator + Copy, R: Files + Eprint + Alloc + Clone + Drop>
     ensures some { IfOk result (λ given. given.offered ≡ 0 → length jobs.now ≡ 0) }
     ensures no_other { IfErr result IsFolderFault }
 {
-    let given = list_again(alloc, rt, lock.dir(), jobs, most)?;
+    let given = list_again(alloc, rt, lock.dir(), jobs, allowance)?;
     say_waiting(rt, jobs.len() - given.offered);
     Ok(given)
 }
@@ -63,7 +72,7 @@ fn list_again<A: Allocator + Copy, R: Files + Eprint + Alloc + Clone + Drop>(
     rt: &R,
     dir: EndDir<'_>,
     jobs: &[Job],
-    most: u64,
+    allowance: Allowance,
 ) -> Result<Given<A>, RunFault>
     ensures within { IfOk result (λ given.
         length given.files.items ≤ given.offered + OTHERS_MAX) }
@@ -72,13 +81,13 @@ fn list_again<A: Allocator + Copy, R: Files + Eprint + Alloc + Clone + Drop>(
     ensures no_other { IfErr result IsFolderFault }
 {
     for _ in 0..LISTINGS_MAX {
-        let given = list_given(alloc, rt, dir, jobs, most);
+        let given = list_given(alloc, rt, dir, jobs, allowance);
         if !was_interrupted(&given) {
             return given;
         }
         drop(given);
     }
-    list_given(alloc, rt, dir, jobs, most)
+    list_given(alloc, rt, dir, jobs, allowance)
 }
 
 /// Does the same, in one listing.
@@ -87,7 +96,7 @@ fn list_given<A: Allocator + Copy, R: Files + Eprint + Alloc + Clone + Drop>(
     rt: &R,
     dir: EndDir<'_>,
     jobs: &[Job],
-    most: u64,
+    allowance: Allowance,
 ) -> Result<Given<A>, RunFault>
     ensures within { IfOk result (λ given.
         length given.files.items ≤ given.offered + OTHERS_MAX) }
@@ -96,8 +105,8 @@ fn list_given<A: Allocator + Copy, R: Files + Eprint + Alloc + Clone + Drop>(
     ensures no_other { IfErr result IsFolderFault }
 {
     let mut files = Vec::new(alloc);
-    let offered = add_sources(&mut files, alloc, rt, dir, jobs, most)?;
-    let delayed = add_others(&mut files, alloc, rt, dir)?;
+    let offered = add_sources(&mut files, alloc, rt, dir, jobs, allowance)?;
+    let delayed = add_others(&mut files, alloc, rt, dir, allowance)?;
     Ok(Given {
         files,
         offered,
@@ -122,7 +131,7 @@ fn add_sources<A: Allocator + Copy, R: Files>(
     rt: &R,
     dir: EndDir<'_>,
     jobs: &[Job],
-    most: u64,
+    allowance: Allowance,
 ) -> Result<usize, RunFault>
     requires { length files.old.items ≡ 0 }
     ensures within { IfOk result (λ offered. length files.new.items ≤ offered) }
@@ -130,10 +139,10 @@ fn add_sources<A: Allocator + Copy, R: Files>(
     ensures some { IfOk result (λ offered. offered ≡ 0 → length jobs.now ≡ 0) }
     ensures no_other { IfErr result IsFolderFault }
 {
-    let mut room = most;
+    let mut left = allowance;
     for (place, job) in jobs.iter().enumerate() {
         let has_room = match source_of(job) {
-            Some(name) => add_source(files, alloc, rt, dir, name, &mut room)?,
+            Some(name) => add_source(files, alloc, rt, dir, name, &mut left)?,
             None => true,
         };
         if !has_room && place > 0 {
@@ -159,7 +168,7 @@ fn add_source<A: Allocator + Copy, R: Files>(
     rt: &R,
     dir: EndDir<'_>,
     name: Name,
-    room: &mut u64,
+    left: &mut Allowance,
 ) -> Result<bool, RunFault>
     ensures one { length files.new.items ≤ length files.old.items + 1 }
     ensures full { result ≡ Ok false → length files.new.items ≤ length files.old.items }
@@ -174,8 +183,8 @@ fn add_source<A: Allocator + Copy, R: Files>(
         Err(fault) => return Err(fault),
     };
     let before = files.len();
-    add_given(files, alloc, rt, dir, name, path.as_str())?;
-    Ok(fits(files, before, room))
+    add_given(files, alloc, rt, dir, name, path.as_str(), left.limit)?;
+    Ok(fits(files, before, &mut left.bytes))
 }
 
 /// Returns the path of the file of this name, which a job names: in `send`, else with the files of failed jobs.
@@ -211,8 +220,8 @@ fn has_file<R: Files>(rt: &R, dir: EndDir<'_>, name: Name, path: &str) -> Result
     }
 }
 
-/// Returns whether the file after the first `before`, if one was added, fits in the room, and takes up the room. A file
-/// that does not fit is removed from the list.
+/// Returns whether the file after the first `before`, if one was added, fits in the room, and takes up the room. The
+/// first file always fits. Another one that does not is removed from the list.
 fn fits<A: Allocator>(files: &mut Vec<Stored<A>, A>, before: usize, room: &mut u64) -> bool
     ensures fewer { length files.new.items ≤ length files.old.items }
     ensures full { result ≡ false → length files.new.items ≤ before }
@@ -224,6 +233,10 @@ fn fits<A: Allocator>(files: &mut Vec<Stored<A>, A>, before: usize, room: &mut u
     match room_behind(*room, size) {
         Some(left) => {
             *room = left;
+            true
+        }
+        None if before == 0 => {
+            *room = 0;
             true
         }
         None => {
@@ -247,12 +260,14 @@ fn is_there<A: Allocator>(files: &[Stored<A>], name: &Name) -> bool {
         .any(|file| file.name.as_bytes() == name.as_bytes())
 }
 
-/// Adds up to `OTHERS_MAX` other files in `send`. Returns the names of those that can't be read now, but may be later.
+/// Adds up to `OTHERS_MAX` other files in `send`, as long as there is room. Returns the names of those that can't be
+/// given now, but may be later.
 fn add_others<A: Allocator + Copy, R: Files + Eprint + Alloc + Clone + Drop>(
     files: &mut Vec<Stored<A>, A>,
     alloc: A,
     rt: &R,
     dir: EndDir<'_>,
+    allowance: Allowance,
 ) -> Result<Vec<Name, A>, RunFault>
     ensures within { OnOk result
         (length files.new.items ≤ length files.old.items + OTHERS_MAX) }
@@ -260,10 +275,13 @@ fn add_others<A: Allocator + Copy, R: Files + Eprint + Alloc + Clone + Drop>(
 {
     let front = dir.path;
     let path = format!(in alloc; "{front}/send")?;
-    let before = files.len();
+    let mut others = Others {
+        before: files.len(),
+        left: allowance,
+    };
     let mut passed = PassedOver::none(alloc, rt, path.as_str());
     match fs::read_dir(rt, path.as_str()) {
-        Ok(entries) => add_entries(files, alloc, rt, dir, entries, before, &mut passed)?,
+        Ok(entries) => add_entries(files, alloc, rt, dir, entries, &mut others, &mut passed)?,
         Err(error) if error.kind() == ErrorKind::NotFound => (),
         Err(error) => return Err(RunFault::of(&error, dir, Resource::Send)),
     }
@@ -271,23 +289,24 @@ fn add_others<A: Allocator + Copy, R: Files + Eprint + Alloc + Clone + Drop>(
     Ok(passed.delayed)
 }
 
-/// Adds the files of these entries of `send`, up to `OTHERS_MAX` after the first `before`.
+/// Adds the files of these entries of `send`, as far as they may be given beside those of jobs.
 fn add_entries<A: Allocator + Copy, R: Files + Eprint + Alloc + Clone + Drop>(
     files: &mut Vec<Stored<A>, A>,
     alloc: A,
     rt: &R,
     dir: EndDir<'_>,
     entries: ReadDir<R, R::A>,
-    before: usize,
+    others: &mut Others,
     passed: &mut PassedOver<'_, R, A>,
 ) -> Result<(), RunFault>
-    requires { length files.old.items ≤ before + OTHERS_MAX }
-    ensures within { OnOk result (length files.new.items ≤ before + OTHERS_MAX) }
+    requires { length files.old.items ≤ others.old.before + OTHERS_MAX }
+    ensures within { OnOk result (length files.new.items ≤ others.new.before + OTHERS_MAX) }
+    ensures before { others.new.before ≡ others.old.before }
     ensures no_other { IfErr result IsFolderFault }
 {
     for entry in entries {
         match entry {
-            Ok(entry) => add_entry(files, alloc, rt, dir, &entry, before, passed)?,
+            Ok(entry) => add_entry(files, alloc, rt, dir, &entry, others, passed)?,
             Err(error) if is_no_text(&error) => passed.note_no_text(),
             Err(error) => return Err(RunFault::of(&error, dir, Resource::Send)),
         }
@@ -302,11 +321,12 @@ fn add_entry<A: Allocator + Copy, R: Files + Eprint + Alloc + Clone + Drop>(
     rt: &R,
     dir: EndDir<'_>,
     entry: &DirEntry<R, R::A>,
-    before: usize,
+    others: &mut Others,
     passed: &mut PassedOver<'_, R, A>,
 ) -> Result<(), RunFault>
-    requires { length files.old.items ≤ before + OTHERS_MAX }
-    ensures within { OnOk result (length files.new.items ≤ before + OTHERS_MAX) }
+    requires { length files.old.items ≤ others.old.before + OTHERS_MAX }
+    ensures within { OnOk result (length files.new.items ≤ others.new.before + OTHERS_MAX) }
+    ensures before { others.new.before ≡ others.old.before }
     ensures no_other { IfErr result IsFolderFault }
 {
     let path = entry.path();
@@ -320,11 +340,16 @@ fn add_entry<A: Allocator + Copy, R: Files + Eprint + Alloc + Clone + Drop>(
     if is_there(files.as_slice(), &name) || is_copy(alloc, rt, dir, name)? {
         return Ok(());
     }
-    if files.len().saturating_sub(before) >= OTHERS_MAX {
+    let count = files.len();
+    if count.saturating_sub(others.before) >= OTHERS_MAX {
         passed.note(Lack::Room, path.as_str());
         return Ok(());
     }
-    match add_given(files, alloc, rt, dir, name, path.as_str()) {
+    match add_given(files, alloc, rt, dir, name, path.as_str(), others.left.limit) {
+        Ok(()) if !fits(files, count, &mut others.left.bytes) => {
+            passed.note_large(name, path.as_str())?;
+            Ok(())
+        }
         Err(RunFault::System(failure)) => {
             passed.note_unread(name, path.as_str(), failure.cause)?;
             Ok(())

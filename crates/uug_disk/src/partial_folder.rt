@@ -19,13 +19,13 @@ use uug_digest::{FileDigest, TELLING_MAX};
 use uug_failure::Cause;
 use uug_folder::{partial_text, read_partial};
 use uug_session::{PartialFile, Partials};
-use uug_talk::FILE_MAX;
+use uug_talk::FILE_LIMIT_MAX;
 
 /// The length of the name of such a file: a digest in hexadecimal digits.
 const DIGITS: usize = 64;
 
 /// The maximum number of bytes of such a file: a line, and its end, and the bytes of a file.
-const PARTIAL_MAX: usize = TELLING_MAX + 1 + FILE_MAX;
+const PARTIAL_MAX: usize = TELLING_MAX + 1 + FILE_LIMIT_MAX;
 
 /// The seconds after which such a file is removed that has not grown: 30 days.
 const AGE_MAX: u64 = 2_592_000;
@@ -150,7 +150,7 @@ pub fn hold_partial<A: Allocator + Copy, R: Files<File = File>>(
 }
 
 /// Writes the file in which this one is held.
-fn write_partial<A: Allocator + Copy, R: Files<File = File>>(
+pub(crate) fn write_partial<A: Allocator + Copy, R: Files<File = File>>(
     alloc: A,
     rt: &R,
     path: &str,
@@ -184,7 +184,7 @@ pub fn drop_partials<A: Allocator + Copy, R: Files>(
 }
 
 /// Returns the path of the file in which one with this digest is held.
-fn path_of<A: Allocator + Copy>(
+pub(crate) fn path_of<A: Allocator + Copy>(
     alloc: A,
     path: &str,
     told: &FileDigest,

@@ -1,5 +1,5 @@
 //! Reports on standard error about files that are not given.
-ghost use Rattle.std.specs.Prelude.{◌≡◌, ◌<◌, OnOk};
+ghost use Rattle.std.specs.Prelude.{◌≡◌, ◌<◌, ◌++◌, [], ◌∷◌, OnOk};
 ghost use Rattle.uug_disk.specs.Delayed.{with_delayed};
 ghost use Rattle.uug_failure.specs.Passing.{may_pass};
 
@@ -8,7 +8,7 @@ use uug_failure::Cause;
 use uug_talk::Name;
 
 /// The number of reasons.
-const LACKS: usize = 4;
+const LACKS: usize = 5;
 
 /// The reason why a file in `send` is not given.
 #[derive(Clone, Copy)]
@@ -21,6 +21,8 @@ pub(crate) enum Lack {
     Access,
     /// There are as many others as may be given.
     Room,
+    /// The others have as many bytes as may be given.
+    Bytes,
 }
 
 impl Lack {
@@ -33,6 +35,7 @@ impl Lack {
             Lack::Name => 1,
             Lack::Access => 2,
             Lack::Room => 3,
+            Lack::Bytes => 4,
         }
     }
 
@@ -40,7 +43,7 @@ impl Lack {
     fn rest(self) -> &'static str {
         match self {
             Lack::Text => "/?",
-            Lack::Name | Lack::Access | Lack::Room => "",
+            Lack::Name | Lack::Access | Lack::Room | Lack::Bytes => "",
         }
     }
 
@@ -51,6 +54,7 @@ impl Lack {
             Lack::Name => "its name is none of 1 to 200 printing characters without a space",
             Lack::Access => "it can't be read",
             Lack::Room => "there are more than 256 files that no job sends",
+            Lack::Bytes => "the files that no job sends have more bytes than --most",
         }
     }
 }
@@ -108,6 +112,15 @@ impl<'a, R: Eprint, A: Allocator> PassedOver<'a, R, A> {
         if cause.may_pass() {
             self.delayed.push(name)?;
         }
+        Ok(())
+    }
+
+    /// Notes that there is no room for the file of this name at this path. It may be given later.
+    pub(crate) fn note_large(&mut self, name: Name, path: &str) -> Result<(), AllocError>
+        ensures { OnOk result (self.new.delayed.items ≡ self.old.delayed.items ++ name ∷ []) }
+    {
+        self.note(Lack::Bytes, path);
+        self.delayed.push(name)?;
         Ok(())
     }
 

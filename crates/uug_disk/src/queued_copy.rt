@@ -3,7 +3,7 @@ ghost use Rattle.std.specs.IoError.{error_kind};
 ghost use Rattle.std.specs.Prelude.{◌≡◌, ◌≤◌, ◌↔◌, false, true, IfErr, IfOk, IfSome, length};
 ghost use Rattle.uug_disk.specs.Copies.{is_needed_by};
 ghost use Rattle.uug_failure.specs.Faults.{IsCopyFault, IsFolderFault};
-ghost use Rattle.uug_talk.specs.declared.gather.TheConstants.{FILE_MAX};
+ghost use Rattle.uug_talk.specs.declared.gather.TheConstants.{FILE_LIMIT_MAX};
 
 use crate::atomic_file::{see_folder, write_synced};
 use crate::copy_place::is_taken;
@@ -20,7 +20,7 @@ use uug_failure::{Cause, EndDir, Resource, RunFault, SystemFailure};
 use uug_folder::nth_name;
 use uug_session::Job;
 use uug_stream::ToolFault;
-use uug_talk::{FILE_MAX, Name};
+use uug_talk::{FILE_LIMIT_MAX, Name};
 
 /// The text before a copy's name in the name of its mark. The mark is another name of the same file, and shows that it
 /// is a copy of ours.
@@ -32,14 +32,14 @@ pub(crate) const FAILED_FILES: &str = "failed.files";
 /// The maximum number of names that are tried for a copy.
 pub(crate) const NAMES_MAX: u32 = 1_000_000;
 
-/// Returns the bytes of the file to copy. It must be a regular one, of at most `FILE_MAX` bytes.
+/// Returns the bytes of the file to copy. It must be a regular one, of at most `FILE_LIMIT_MAX` bytes.
 pub(crate) fn read_copied<A: Allocator + Copy, R: Files>(
     alloc: A,
     rt: &R,
     path: &str,
     why: &mut Option<SystemFailure>,
 ) -> Result<Vec<u8, A>, ToolFault>
-    ensures within { IfOk result (λ bytes. length bytes.items ≤ FILE_MAX) }
+    ensures within { IfOk result (λ bytes. length bytes.items ≤ FILE_LIMIT_MAX) }
     ensures no_other { IfErr result IsCopyFault }
 {
     let cause = match read_regular(alloc, rt, path) {
@@ -58,19 +58,23 @@ fn is_no_file(error: &io::Error) -> bool {
     error.kind() == ErrorKind::InvalidInput && error.raw_os_error().is_none()
 }
 
-/// Returns the bytes of a regular file, or `None` if they are more than `FILE_MAX`. Nothing else is opened: a pipe
+/// Returns the bytes of a regular file, or `None` if they are more than `FILE_LIMIT_MAX`. Nothing else is opened: a pipe
 /// would wait for a writer.
 fn read_regular<A: Allocator + Copy, R: Files>(
     alloc: A,
     rt: &R,
     path: &str,
 ) -> io::Result<Option<Vec<u8, A>>>
-    ensures { IfOk result (λ found. IfSome found (λ bytes. length bytes.items ≤ FILE_MAX)) }
+    ensures { IfOk result (λ found. IfSome found (λ bytes. length bytes.items ≤ FILE_LIMIT_MAX)) }
 {
-    if !fs::metadata(rt, path)?.is_file() {
+    let found = fs::metadata(rt, path)?;
+    if !found.is_file() {
         return Err(io::Error::from(ErrorKind::InvalidInput));
     }
-    read_file(alloc, rt, path, FILE_MAX)
+    if found.len() > FILE_LIMIT_MAX as u64 {
+        return Ok(None);
+    }
+    read_file(alloc, rt, path, FILE_LIMIT_MAX)
 }
 
 /// A copy in `send`.

@@ -13,8 +13,8 @@ use std::{fs, io};
 use uug_failure::{
     Cause, EndDir, EndText, LISTINGS_MAX, Resource, RunFault, read_within, was_interrupted,
 };
-use uug_session::Stored;
-use uug_talk::{FILE_MAX, Name};
+use uug_session::{FileLimit, Stored};
+use uug_talk::Name;
 
 /// The maximum number of files to give in a folder of `pair`.
 pub const FILES_MAX: usize = 256;
@@ -58,7 +58,7 @@ fn given<A: Allocator>(name: Name, bytes: Vec<u8, A>) -> Stored<A> {
     }
 }
 
-/// Adds a file to those that are given, unless it has more than `FILE_MAX` bytes.
+/// Adds a file to those that are given, unless it is over the limit.
 pub(crate) fn add_given<A: Allocator, R: Files>(
     files: &mut Vec<Stored<A>, A>,
     alloc: A,
@@ -66,11 +66,12 @@ pub(crate) fn add_given<A: Allocator, R: Files>(
     dir: EndDir<'_>,
     name: Name,
     path: &str,
+    limit: FileLimit,
 ) -> Result<(), RunFault>
     ensures one { length files.new.items ≤ length files.old.items + 1 }
     ensures no_other { IfErr result IsFolderFault }
 {
-    match read_file(alloc, rt, path, FILE_MAX) {
+    match read_file(alloc, rt, path, limit.bytes) {
         Ok(Some(bytes)) => {
             files.reserve(1)?;
             files.push_reserved(given(name, bytes));
@@ -228,7 +229,8 @@ fn add_entry<A: Allocator + Copy, R: Files + Alloc + Clone + Drop>(
         return Err(RunFault::System(dir.failure(Resource::Send, Cause::TooMuch)));
     }
     *count += 1;
-    add_given(files, alloc, rt, dir, name, entry.path().as_str())
+    let path = entry.path();
+    add_given(files, alloc, rt, dir, name, path.as_str(), FileLimit::standard())
 }
 
 /// Returns the name of an entry's file, if it may be given. An incomplete file may not, nor may the mark of a copy.

@@ -55,7 +55,12 @@ sound_session ends sound = record {
   window = window;
   party = party_sound;
   renewed = renewed;
-  fronts = record { of_caller = sound.fronts Caller; of_called = sound.fronts Called };
+  fronts = record {
+    of_caller = sound.fronts Caller;
+    of_called = sound.fronts Called;
+    sizes_of_caller = sound.sizes Caller;
+    sizes_of_called = sound.sizes Called;
+  };
 }
   where
     window : (side : Side) → IsWindow (at side (setup_of ends)).own.window
@@ -63,8 +68,8 @@ sound_session ends sound = record {
     window Called = (sound.each Called).window
 
     party_sound : (side : Side) → IsSound (party (setup_of ends) (brought_of ends) side)
-    party_sound Caller = record { names = (sound.each Caller).names; modes = (sound.each Caller).modes; size = pow_pos (ends.at_called.own.size_code + 1 + 4) }
-    party_sound Called = record { names = (sound.each Called).names; modes = (sound.each Called).modes; size = pow_pos (ends.at_caller.own.size_code + 1 + 4) }
+    party_sound Caller = record { names = (sound.each Caller).names; modes = (sound.each Caller).modes; limit = (sound.each Caller).limit; size = pow_pos (ends.at_called.own.size_code + 1 + 4) }
+    party_sound Called = record { names = (sound.each Called).names; modes = (sound.each Called).modes; limit = (sound.each Called).limit; size = pow_pos (ends.at_caller.own.size_code + 1 + 4) }
 
     renewed : (side : Side) → (at side (brought_of ends)).lists
         ≡ at_start (pending (at side (brought_of ends)).lists) (at side (brought_of ends)).lists.struck (at side (brought_of ends)).lists.failed

@@ -4,9 +4,9 @@ use Rattle.uug_link.specs.Announced.{Announced}
 use Rattle.uug_link.specs.Terms.{IsWindow}
 use Rattle.uug_session.specs.EndStep.{EndEffect, Identity, begins_session}
 use Rattle.uug_conversation.specs.DialogueState.{DialogueState, unopened}
-use Rattle.uug_conversation.specs.Holdings.{AreModes, Holdings, Kept}
+use Rattle.uug_conversation.specs.Holdings.{AreModes, Holdings, IsLimit, Kept}
 use Rattle.uug_conversation.specs.Jobs.{Lists, at_start, pending}
-use Rattle.uug_conversation.specs.Party.{HasNames, HoldsFronts}
+use Rattle.uug_conversation.specs.Party.{HasNames, HoldsFronts, TakesSizes}
 use Rattle.uug_conversation.specs.Sides.{AtBoth, at}
 use Rattle.uug_conversation.specs.Turns.{other}
 use Rattle.uug_conversation.specs.declared.side.Side.{Side}
@@ -29,15 +29,17 @@ identity_of side b = record { side = side; me = b.me; peer = b.peer }
 abbrev pub first_effect : Side → EndBeginning → EndEffect DialogueState
 first_effect side b = begins_session (identity_of side b) b.own b.number (unopened b.lists b.kept)
 
--- What the types of a program say of it: it announces a window, its files have modes, its pending jobs names, and all of them
--- are to be offered.
+-- What the types of a program say of it: it announces a window, its files have modes and a limit, its pending jobs names, and all of
+-- them are to be offered.
 pub record IsSoundBeginning (b : EndBeginning) : Type 0 where
   pub window : IsWindow b.own.window
   pub modes : AreModes b.holdings
+  pub limit : IsLimit b.holdings.limit
   pub names : All HasNames (pending b.lists)
   pub ahead : b.lists ≡ at_start (pending b.lists) b.lists.struck b.lists.failed
 
--- each is, and what an end holds of the other's files are fronts of them
+-- each is, what an end holds of the other's files are fronts of them, and none of them is too large for it
 pub record AreSound (ends : AtBoth EndBeginning) : Type 0 where
   pub each : (side : Side) → IsSoundBeginning (at side ends)
   pub fronts : (giver : Side) → HoldsFronts (at giver ends).holdings (at (other giver) ends).holdings
+  pub sizes : (giver : Side) → TakesSizes (at giver ends).holdings (at (other giver) ends).holdings

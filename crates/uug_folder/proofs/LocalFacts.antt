@@ -20,7 +20,7 @@ local : AreLocal
 local = record { plain = refl; public = refl; root = refl; tilde = refl; public_alone = refl; root_alone = refl }
 
 abbrev source : List ℕ → Option File
-source name = (local_holdings false false [] None (folder_holdings (λ name. false) (kept_file (codes "y") 420 (codes "hi") ∷ []))).file name
+source name = (local_holdings false false 9 [] None (folder_holdings (λ name. false) (kept_file (codes "y") 420 (codes "hi") ∷ []))).file name
 
 abbrev hi : Option File
 hi = Some (record { mode = 420; bytes = codes "hi" })
@@ -37,13 +37,13 @@ given = record { plain = refl; public = refl; root = refl; other = refl; nameles
 
 -- whatever the folder has
 record LeadOut (h : Holdings) : Type 0 where
-  up : (local_holdings false false [] None h).file (codes "../x") ≡ None
-  deep : (local_holdings false false [] None h).file (codes "/etc/x") ≡ None
-  public_deep : (local_holdings false false [] None h).file (codes "~/a/x") ≡ None
-  home : (local_holdings false false [] None h).file (codes "~user/x") ≡ None
-  twice : (local_holdings false false [] None h).file (codes "//x") ≡ None
-  hidden : (local_holdings false false [] None h).file (codes ".x") ≡ None
-  public_hidden : (local_holdings false false [] None h).file (codes "~/.x") ≡ None
+  up : (local_holdings false false 9 [] None h).file (codes "../x") ≡ None
+  deep : (local_holdings false false 9 [] None h).file (codes "/etc/x") ≡ None
+  public_deep : (local_holdings false false 9 [] None h).file (codes "~/a/x") ≡ None
+  home : (local_holdings false false 9 [] None h).file (codes "~user/x") ≡ None
+  twice : (local_holdings false false 9 [] None h).file (codes "//x") ≡ None
+  hidden : (local_holdings false false 9 [] None h).file (codes ".x") ≡ None
+  public_hidden : (local_holdings false false 9 [] None h).file (codes "~/.x") ≡ None
 
 lead_out : (h : Holdings) → LeadOut h
 lead_out h = record {
@@ -57,7 +57,7 @@ lead_out h = record {
 }
 
 abbrev verdict : List ℕ → Verdict
-verdict name = (local_holdings false false [] None (folder_holdings (λ name. false) [])).verdict name
+verdict name = (local_holdings false false 9 [] None (folder_holdings (λ name. false) [])).verdict name
 
 record AreTaken : Type 0 where
   plain : verdict (codes "y") ≡ Yes
@@ -89,7 +89,7 @@ taken = record {
 
 -- a folder with a file that can't be given now
 abbrev delayed : List ℕ → Bool
-delayed name = (local_holdings false false (codes "q" ∷ []) None (folder_holdings (λ name. false) [])).delayed name
+delayed name = (local_holdings false false 9 (codes "q" ∷ []) None (folder_holdings (λ name. false) [])).delayed name
 
 record AreDelayed : Type 0 where
   plain : delayed (codes "q") ≡ true
@@ -102,7 +102,7 @@ delays = record { plain = refl; public = refl; other = refl; deep = refl }
 
 -- a folder that bars one name
 abbrev immovable : List ℕ → Bool
-immovable name = (local_holdings false false [] None (folder_holdings (λ other. bytes_eq other (codes "f")) [])).immovable name
+immovable name = (local_holdings false false 9 [] None (folder_holdings (λ other. bytes_eq other (codes "f")) [])).immovable name
 
 record AreBarred : Type 0 where
   plain : immovable (codes "f") ≡ true
@@ -116,7 +116,7 @@ barred : AreBarred
 barred = record { plain = refl; public = refl; other = refl; hidden = refl; deep = refl; nameless = refl }
 
 abbrev landing : List ℕ → List ℕ → List ℕ
-landing source target = (local_holdings false false [] None (folder_holdings (λ name. false) [])).landing source target
+landing source target = (local_holdings false false 9 [] None (folder_holdings (λ name. false) [])).landing source target
 
 record AreLanded : Type 0 where
   plain : landing (codes "/srv/f") (codes "y") ≡ codes "y"

@@ -12,6 +12,7 @@ use Rattle.uug_conversation.specs.Holdings.{Holdings, Kept, kept_file}
 use Rattle.uug_conversation.specs.MemoryHoldings.{kept_of}
 use Rattle.uug_conversation.specs.Partial.{Partial}
 use Rattle.uug_folder.specs.LocalFiles.{LocalFiles}
+use Rattle.uug_conversation.specs.declared.file_limit.FileLimit.{FileLimit}
 use Rattle.uug_folder.specs.LocalNames.{StandUnder, behind_root, holdings_here, in_folder, kept_here, local_holdings, local_name, local_source, renamed}
 
 one_more : (names : List (List ℕ)) (files : List Kept) (name : List ℕ) (file : Kept) → length names ≡ length files
@@ -28,21 +29,21 @@ as_many names files stand =
     sym (length-map names local_name) ∙ ap length stand ∙ length-map files (λ (file : Kept). Some file.name)
 
 -- what is given and taken stays where the folder's stays
-pub holdings_stay : {F A : Type 0} (barred : F → List ℕ → Bool) (files : FolderFiles F A) (names delayed : List (List ℕ)) (partials : Option (List Partial)) (lenient digests : Bool)
+pub holdings_stay : {F A : Type 0} (barred : F → List ℕ → Bool) (files : FolderFiles F A) (names delayed : List (List ℕ)) (partials : Option (List Partial)) (lenient digests : Bool) (limit : FileLimit)
     (now : LocalFiles F A) (h : Holdings)
-    → record { files = files; names = names; delayed = delayed; partials = partials; lenient = lenient; digests = digests } ≡ now
+    → record { files = files; names = names; delayed = delayed; partials = partials; lenient = lenient; digests = digests; limit = limit } ≡ now
     → h ≡ folder_holdings (barred files.folder) (map kept_of files.files)
-    → local_holdings lenient digests delayed partials h ≡ holdings_here barred now
-holdings_stay barred files names delayed partials lenient digests now h view stay =
-    subst (λ (s : LocalFiles _ _). local_holdings lenient digests delayed partials h ≡ holdings_here barred s) view (ap (λ (l : Holdings). local_holdings lenient digests delayed partials l) stay)
+    → local_holdings lenient digests limit.bytes delayed partials h ≡ holdings_here barred now
+holdings_stay barred files names delayed partials lenient digests limit now h view stay =
+    subst (λ (s : LocalFiles _ _). local_holdings lenient digests limit.bytes delayed partials h ≡ holdings_here barred s) view (ap (λ (l : Holdings). local_holdings lenient digests limit.bytes delayed partials l) stay)
 
-pub kept_more : {F A : Type 0} (files files_after : FolderFiles F A) (names names_after delayed : List (List ℕ)) (partials : Option (List Partial)) (lenient digests : Bool)
+pub kept_more : {F A : Type 0} (files files_after : FolderFiles F A) (names names_after delayed : List (List ℕ)) (partials : Option (List Partial)) (lenient digests : Bool) (limit : FileLimit)
     (now : LocalFiles F A) (name local : List ℕ) (mode : ℕ) (bytes : List ℕ)
-    → record { files = files; names = names; delayed = delayed; partials = partials; lenient = lenient; digests = digests } ≡ now
+    → record { files = files; names = names; delayed = delayed; partials = partials; lenient = lenient; digests = digests; limit = limit } ≡ now
     → length names ≡ length files.stored → names_after ≡ names ++ name ∷ []
     → map kept_of files_after.stored ≡ map kept_of files.stored ++ kept_file local mode bytes ∷ []
     → renamed names_after (map kept_of files_after.stored) ≡ kept_here now ++ kept_file name mode bytes ∷ []
-kept_more files files_after names names_after delayed partials lenient digests now name local mode bytes view same named kept =
+kept_more files files_after names names_after delayed partials lenient digests limit now name local mode bytes view same named kept =
     let whole = one_more names (map kept_of files.stored) name (kept_file local mode bytes) (same ∙ sym (length-map files.stored kept_of)) in
     subst (λ (s : LocalFiles _ _). renamed names_after (map kept_of files_after.stored) ≡ kept_here s ++ kept_file name mode bytes ∷ []) view
     (ap (λ (n : List (List ℕ)). renamed n (map kept_of files_after.stored)) named

@@ -4,6 +4,7 @@ use Rattle.std.specs.List.{list_any}
 use Rattle.uug_conversation.specs.declared.verdict.Verdict.TheVariants.{Yes, Never}
 use Rattle.uug_conversation.specs.Holdings.{Kept, Holdings}
 use Rattle.uug_conversation.specs.MemoryHoldings.{first_named}
+use Rattle.uug_talk.specs.declared.gather.TheConstants.{FILE_MAX}
 
 -- a file that was put in a folder; its mode is the system's affair
 pub record Placed : Type 0 where
@@ -47,4 +48,5 @@ folder_holdings barred files = record {
   partials = None;
   lenient = false;
   digests = false;
+  limit = FILE_MAX;
 }

@@ -1,6 +1,7 @@
 -- What a spool has whose files real systems name (this project's profile).
 use Rattle.std.specs.Prelude.{Bool, List, ℕ, Option}
 use Rattle.uug_conversation.specs.Partial.{Partial}
+use Rattle.uug_conversation.specs.declared.file_limit.FileLimit.{FileLimit}
 use Rattle.uug_folder.specs.FolderFiles.{FolderFiles}
 
 pub record LocalFiles (F A : Type 0) : Type 0 where
@@ -16,3 +17,5 @@ pub record LocalFiles (F A : Type 0) : Type 0 where
   pub lenient : Bool
   -- it tells digests of its files, and compares those that it is told
   pub digests : Bool
+  -- the greatest file that it gives or takes
+  pub limit : FileLimit

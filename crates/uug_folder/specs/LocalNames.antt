@@ -64,8 +64,8 @@ local_landing source target = landing_by (behind_root target) (name_of (last_par
 
 -- A file is given and taken as the folder gives and takes its name there; so none whose name there has a slash left, or a
 -- dot in front.
-abbrev pub local_holdings : (lenient digests : Bool) → (delayed : List (List ℕ)) → (partials : Option (List Partial)) → Holdings → Holdings
-local_holdings lenient digests delayed partials h = record {
+abbrev pub local_holdings : (lenient digests : Bool) → (limit : ℕ) → (delayed : List (List ℕ)) → (partials : Option (List Partial)) → Holdings → Holdings
+local_holdings lenient digests limit delayed partials h = record {
   file = λ name. file_by h (local_source name);
   delayed = λ name. delayed_by delayed (local_source name);
   verdict = λ name. verdict_by h (local_name name);
@@ -74,6 +74,7 @@ local_holdings lenient digests delayed partials h = record {
   partials = partials;
   lenient = lenient;
   digests = digests;
+  limit = limit;
 }
 
 -- the files that were kept, each under the name under which it came
@@ -88,7 +89,7 @@ StandUnder names files = map local_name names ≡ map (λ (file : Kept). Some fi
 
 -- where the folder bars these names
 abbrev pub holdings_here : {F A : Type 0} → (barred : F → List ℕ → Bool) → LocalFiles F A → Holdings
-holdings_here barred s = local_holdings s.lenient s.digests s.delayed s.partials (folder_holdings (barred s.files.folder) (map kept_of s.files.files))
+holdings_here barred s = local_holdings s.lenient s.digests s.limit.bytes s.delayed s.partials (folder_holdings (barred s.files.folder) (map kept_of s.files.files))
 
 abbrev pub kept_here : {F A : Type 0} → LocalFiles F A → List Kept
 kept_here s = renamed s.names (map kept_of s.files.stored)

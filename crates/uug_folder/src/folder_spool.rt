@@ -2,6 +2,7 @@ ghost use Rattle.std.specs.Prelude.{◌≡◌, ◌≢◌, ◌<◌, ◌≤◌, �
 ghost use Rattle.uug_conversation.specs.FileView.{shown_file};
 ghost use Rattle.uug_conversation.specs.Holdings.{kept_file};
 ghost use Rattle.uug_conversation.specs.MemoryHoldings.{first_named, kept_of};
+ghost use Rattle.uug_conversation.specs.Code.StandardLimit.{standard_limit};
 ghost use Rattle.uug_conversation.specs.Code.StoredModes.{modes_in_range};
 ghost use Rattle.uug_folder.specs.Folders.{EndsWith, folder_holdings, is_hidden, placed_of};
 
@@ -11,7 +12,7 @@ use std::marker::Model;
 use std::snapshot::Snapshot;
 use uug_digest::FileDigest;
 use uug_session::{FileView, KeepFault, Spool, Stored, Verdict};
-use uug_talk::{MODE_MAX, Name};
+use uug_talk::{FILE_MAX, MODE_MAX, Name};
 
 /// A spool that puts the files that it keeps in a folder. Clauses see the files that it has to give, those that it has
 /// kept, and the folder.
@@ -125,6 +126,8 @@ impl<F: Folder, A: Allocator + Copy> Spool for FolderSpool<F, A> {
         )
     }
 
+    fn note(&mut self, _source: &Name, _told: &FileDigest, _bytes: &[u8]) {}
+
     fn let_go(&mut self, _told: &FileDigest) {}
 
     fn is_lenient(&self) -> bool {
@@ -135,11 +138,17 @@ impl<F: Folder, A: Allocator + Copy> Spool for FolderSpool<F, A> {
         false
     }
 
+    fn limit(&self) -> usize {
+        FILE_MAX
+    }
+
     fn faults(&self) -> u64 {
         self.folder.faults()
     }
 
     ghost modes = { λ s. modes_in_range s.files };
+
+    ghost limits = { λ s. standard_limit };
 }
 
 /// Returns whether a name would be hidden in a folder, or lead out of it.

@@ -2,6 +2,7 @@
 //! of its conversations, and the lines of its report. Nothing here calls the system: folders and files are traits.
 #![tactic(auto)]
 
+mod allowance;
 mod faults;
 mod folder;
 mod folder_spool;
@@ -14,6 +15,7 @@ mod jobs_text;
 pub mod laws;
 mod local_names;
 mod meanwhile;
+mod notebook;
 mod notices;
 mod number_text;
 mod partial_file;
@@ -21,6 +23,7 @@ mod queued;
 mod report;
 mod text_file;
 
+pub use allowance::Allowance;
 pub use folder::{Folder, FolderFailed};
 pub use folder_spool::FolderSpool;
 pub use front::first_jobs;
@@ -31,6 +34,7 @@ pub use jobs_plan::JobsPlan;
 pub use jobs_text::{JobsFault, read_jobs, write_jobs};
 pub use local_names::{LocalNames, local_source};
 pub use meanwhile::{jobs_after, take_first};
+pub use notebook::{NoNotebook, Notebook};
 pub use notices::{WhyFailed, why_failed, write_notices};
 pub use number_text::{
     BadNumber, NUMBER_LINE_MAX, number_at_start, number_beside, number_line, read_number_text,

@@ -7,11 +7,12 @@ ghost use Rattle.uug_folder.specs.LocalNames.{StandUnder, behind_root, holdings_
 
 use crate::folder::Folder;
 use crate::folder_spool::{FolderSpool, is_hidden};
+use crate::notebook::Notebook;
 use std::alloc::Allocator;
 use std::marker::Model;
 use uug_conversation::has_name;
 use uug_digest::FileDigest;
-use uug_session::{FileView, KeepFault, Partials, Spool, Verdict};
+use uug_session::{FileLimit, FileView, KeepFault, Partials, Spool, Verdict};
 use uug_talk::Name;
 
 /// The spool over a folder, for another end that names files as real systems do. `~/x` and `/x` are `x` in the folder.
@@ -19,17 +20,20 @@ use uug_talk::Name;
 /// folder under the last part of its own name. Clauses see the files in the folder, and the names under which those
 /// that were kept came.
 #[derive(Drop)]
-pub struct LocalNames<F: Folder, A: Allocator> {
+pub struct LocalNames<F: Folder, N: Notebook, A: Allocator> {
     files: FolderSpool<F, A>,
     names: Vec<Name, A>,
     delayed: Vec<Name, A>,
     /// None if the end doesn't resume files that were cut off.
     partials: Option<Partials<A>>,
+    /// What comes of a file is written down here, if the end resumes.
+    notebook: N,
     lenient: bool,
     digests: bool,
+    limit: FileLimit,
 }
 
-impl<F: Folder, A: Allocator> Model for LocalNames<F, A> {
+impl<F: Folder, N: Notebook, A: Allocator> Model for LocalNames<F, N, A> {
     ghost use Rattle.std.specs.Prelude.{map};
     ghost use Rattle.uug_conversation.specs.MemoryHoldings.{kept_of};
     ghost use Rattle.uug_folder.specs.LocalFiles.{LocalFiles};
@@ -44,16 +48,17 @@ impl<F: Folder, A: Allocator> Model for LocalNames<F, A> {
       partials = s.partials;
       lenient = s.lenient;
       digests = s.digests;
+      limit = s.limit;
     } };
 
     // Each file that was kept stands in the folder under the name there of the one under which it came.
     ghost invariant = { λ s. StandUnder s.names.items (map kept_of s.files.stored) };
 }
 
-impl<F: Folder, A: Allocator + Copy> LocalNames<F, A> {
-    /// Returns the spool over a folder that has kept nothing, of an end that is not lenient, announces no digests, and
-    /// resumes no file. No file is delayed. It takes no memory.
-    pub fn new(alloc: A, files: FolderSpool<F, A>) -> Self
+impl<F: Folder, N: Notebook, A: Allocator + Copy> LocalNames<F, N, A> {
+    /// Returns the spool over a folder that has kept nothing, of an end that is not lenient, announces no digests,
+    /// resumes no file, and gives and takes files within this limit. No file is delayed. It takes no memory.
+    pub fn new(alloc: A, files: FolderSpool<F, A>, notebook: N, limit: FileLimit) -> Self
         requires { files.stored ≡ [] }
         ensures { result ≡ record {
           files = files;
@@ -62,6 +67,7 @@ impl<F: Folder, A: Allocator + Copy> LocalNames<F, A> {
           partials = None;
           lenient = false;
           digests = false;
+          limit = limit;
         } }
     {
         LocalNames {
@@ -69,8 +75,10 @@ impl<F: Folder, A: Allocator + Copy> LocalNames<F, A> {
             names: Vec::new(alloc),
             delayed: Vec::new(alloc),
             partials: None,
+            notebook,
             lenient: false,
             digests: false,
+            limit,
         }
     }
 
@@ -119,7 +127,7 @@ impl<F: Folder, A: Allocator + Copy> LocalNames<F, A> {
     }
 }
 
-impl<F: Folder, A: Allocator + Copy> Spool for LocalNames<F, A> {
+impl<F: Folder, N: Notebook, A: Allocator + Copy> Spool for LocalNames<F, N, A> {
     ghost holdings = { λ s. holdings_here F.barred s };
 
     ghost kept = { λ s. kept_here s };
@@ -171,9 +179,17 @@ impl<F: Folder, A: Allocator + Copy> Spool for LocalNames<F, A> {
         Ok(())
     }
 
+    fn note(&mut self, source: &Name, told: &FileDigest, bytes: &[u8]) {
+        if let Some(partials) = &self.partials {
+            self.notebook
+                .note(source, told, partials.held(source, told), bytes);
+        }
+    }
+
     fn let_go(&mut self, told: &FileDigest) {
         if let Some(partials) = &mut self.partials {
             partials.let_go(told);
+            self.notebook.let_go(told);
         }
     }
 
@@ -185,13 +201,19 @@ impl<F: Folder, A: Allocator + Copy> Spool for LocalNames<F, A> {
         self.digests
     }
 
+    fn limit(&self) -> usize {
+        self.limit.bytes
+    }
+
     fn faults(&self) -> u64 {
         self.files.faults()
     }
 
-    ghost modes = { λ s. local_modes s.lenient s.digests s.delayed s.partials
+    ghost modes = { λ s. local_modes s.lenient s.digests s.limit.bytes s.delayed s.partials
         (folder_holdings (F.barred s.files.folder) (map kept_of s.files.files))
         (modes_in_range s.files.files) };
+
+    ghost limits = { λ s. record { some = s.limit.some; fits = s.limit.fits } };
 }
 
 /// Returns the name in the folder of a file that a real system names, if there is one.

@@ -8,7 +8,7 @@ ghost use Rattle.uug_folder.specs.Notices.{notice, notices, why_failed, why_not_
 use crate::jobs_text::add_job_line;
 use std::alloc::{AllocError, Allocator};
 use uug_session::{FileView, Job, Spool, Verdict};
-use uug_talk::{FILE_MAX, Name};
+use uug_talk::Name;
 
 /// The reason for which an end has given up a job, as far as it knows.
 #[derive(Clone, Copy, Debug, PartialEq, Eq)]
@@ -39,7 +39,7 @@ fn to_give<'a, S: Spool>(spool: &'a S, name: &Name) -> Option<FileView<'a>>
     ensures { shown_file result ≡ to_give (S.holdings spool.now) name.now }
 {
     let file = spool.fetch(name)?;
-    if file.bytes.len() <= FILE_MAX {
+    if file.bytes.len() <= spool.limit() {
         Some(file)
     } else {
         None

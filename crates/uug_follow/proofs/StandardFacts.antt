@@ -55,7 +55,7 @@ record AreLines : Type 0 where
   begins : news_line 3 0 (Begins ours) ≡ codes "uucpair: 3 s: send x y\n"
   ends : news_line 12 9 (Ends theirs Done 400) ≡ codes "uucpair: 12 s: peer's request ~/q q: done 400 bytes in 9 s\n"
   differs : news_line 12 9 (Ends ours Differs 400) ≡ codes "uucpair: 12 s: send x y: wrong digest 400 bytes in 9 s\n"
-  too_large : news_line 1 0 (Ends ours TooLarge 0) ≡ codes "uucpair: 1 s: send x y: too large 0 bytes in 0 s\n"
+  too_large : news_line 1 0 (Ends ours TooLarge 0) ≡ codes "uucpair: 1 s: send x y: refused, maybe for its size 0 bytes in 0 s\n"
   goes_on : progress_line 5 ours 64 ≡ codes "uucpair: 5 s: send x: 64 bytes"
   all : counts_line (codes "wrote") 1234 (of 1 2 3 4).counts ≡ codes "uucpair: wrote 1234 bytes rejects 2 repeats 3 damaged 4\n"
 

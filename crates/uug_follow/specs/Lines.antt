@@ -23,7 +23,7 @@ wish_word Request = codes "request"
 abbrev pub outcome_word : Outcome → List ℕ
 outcome_word Done = codes "done"
 outcome_word Never = codes "refused"
-outcome_word TooLarge = codes "too large"
+outcome_word TooLarge = codes "refused, maybe for its size"
 outcome_word Later = codes "put off"
 outcome_word Differs = codes "wrong digest"
 

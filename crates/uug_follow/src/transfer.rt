@@ -50,7 +50,7 @@ pub enum Outcome {
     Done,
     /// It will never be sent, given, or put in its place.
     Never,
-    /// The announced size of its file is more than an end takes; it is refused for good.
+    /// It is refused for good, and the announced size of its file is more than an end takes by default.
     TooLarge,
     /// It may be later.
     Later,

@@ -13,7 +13,7 @@ use Rattle.uug_conversation.specs.EarlierJobs.{behind}
 use Rattle.uug_conversation.specs.Holdings.{Kept}
 use Rattle.uug_conversation.specs.Jobs.{at_start}
 use Rattle.uug_conversation.specs.Machine.{reply_to}
-use Rattle.uug_conversation.specs.Party.{HoldFronts, IsSound, Party}
+use Rattle.uug_conversation.specs.Party.{IsSound, Party, Suit}
 use Rattle.uug_conversation.specs.Runs.{has_said_all, is_over}
 use Rattle.uug_conversation.specs.DialogueState.{behind_first, is_empty, opened_with, replied, taking, unopened, with_first_sent}
 use Rattle.uug_conversation.specs.View.{conversation_view, others_messages, own_messages}
@@ -69,7 +69,7 @@ talk_sends p t struck failed kept =
 
 -- ---- two ends that hear each other stand where the conversation says
 
-pub both_told : (a b : Party) → HoldFronts a b → IsSound a → IsSound b → (two : Two) → Reached a b two →
+pub both_told : (a b : Party) → Suit a b → IsSound a → IsSound b → (two : Two) → Reached a b two →
     IsTold Caller a b two.caller_end two.called_end × IsTold Called a b two.called_end two.caller_end
 both_told a b fronts s t = two_ends a b (first_law a b fronts s t)
 

@@ -10,7 +10,7 @@ use Rattle.uug_session.specs.Arriving.{held_in, Buffered, Arrival, all_taken, st
 use Rattle.uug_conversation.specs.Count.{Count}
 use Rattle.uug_session.specs.EndStep.{EndEvent, time_ran_out, line_lost}
 use Rattle.uug_conversation.specs.Jobs.{at_start, pending}
-use Rattle.uug_conversation.specs.Party.{HoldsFronts, IsSound}
+use Rattle.uug_conversation.specs.Party.{HoldsFronts, IsSound, TakesSizes}
 use Rattle.uug_conversation.specs.Left.{left_of}
 use Rattle.uug_conversation.proofs.ResumingLemmas.{fronts_then, holds_no_fronts}
 use Rattle.uug_line.proofs.SessionLemmas.{left_joined}
@@ -320,7 +320,12 @@ module _ (setup : SetupValue) where
     window = s.sound.window;
     party = party_sound;
     renewed = renewed_so;
-    fronts = record { of_caller = fronts_of_caller; of_called = fronts_of_called };
+    fronts = record {
+      of_caller = fronts_of_caller;
+      of_called = fronts_of_called;
+      sizes_of_caller = sizes_of_caller;
+      sizes_of_called = sizes_of_called;
+    };
   }
     where
       fronts_of_caller : HoldsFronts (party setup (brings run) Caller).holdings (party setup (brings run) Called).holdings
@@ -333,17 +338,25 @@ module _ (setup : SetupValue) where
           (left_of (party setup run.brought Caller).holdings run.ends.at_caller.end.state.keeper.machine) s.sound.fronts.of_called
           (left_joined setup run.brought s.sound Caller run.ends.at_caller.end run.ends.at_called.end (s.joined Caller))
 
+      sizes_of_caller : TakesSizes (party setup (brings run) Caller).holdings (party setup (brings run) Called).holdings
+      sizes_of_caller = s.sound.fronts.sizes_of_caller
+
+      sizes_of_called : TakesSizes (party setup (brings run) Called).holdings (party setup (brings run) Caller).holdings
+      sizes_of_called = s.sound.fronts.sizes_of_called
+
       party_sound : (side : Side) → IsSound (party setup (brings run) side)
       party_sound Caller = record {
         names = names_now setup run.brought s.sound Caller run.ends.at_caller.end run.ends.at_called.end (s.joined Caller) refl
             (s.sound.party Caller).names;
         modes = (s.sound.party Caller).modes;
+        limit = (s.sound.party Caller).limit;
         size = (s.sound.party Caller).size;
       }
       party_sound Called = record {
         names = names_now setup run.brought s.sound Called run.ends.at_called.end run.ends.at_caller.end
             (s.joined Called) refl (s.sound.party Called).names;
         modes = (s.sound.party Called).modes;
+        limit = (s.sound.party Called).limit;
         size = (s.sound.party Called).size;
       }
 
@@ -445,24 +458,28 @@ module _ (setup : SetupValue) where
 
   first_sound : IsSoundSetup setup → IsSoundSession setup (set_up setup)
   first_sound sound = record {
-    window = λ side. (sound side).window;
+    window = λ side. (sound.each side).window;
     party = party_sound;
     renewed = renewed_so;
     fronts = record {
-      of_caller = holds_no_fronts (party setup (set_up setup) Caller).holdings (party setup (set_up setup) Called).holdings (sound Called).holds_none;
-      of_called = holds_no_fronts (party setup (set_up setup) Called).holdings (party setup (set_up setup) Caller).holdings (sound Caller).holds_none;
+      of_caller = holds_no_fronts (party setup (set_up setup) Caller).holdings (party setup (set_up setup) Called).holdings (sound.each Called).holds_none;
+      of_called = holds_no_fronts (party setup (set_up setup) Called).holdings (party setup (set_up setup) Caller).holdings (sound.each Caller).holds_none;
+      sizes_of_caller = sound.sizes Caller;
+      sizes_of_called = sound.sizes Called;
     };
   }
     where
       party_sound : (side : Side) → IsSound (party setup (set_up setup) side)
       party_sound Caller = record {
-        names = (sound Caller).names;
-        modes = (sound Caller).modes;
+        names = (sound.each Caller).names;
+        modes = (sound.each Caller).modes;
+        limit = (sound.each Caller).limit;
         size = pow_pos (setup.at_called.own.size_code + 1 + 4);
       }
       party_sound Called = record {
-        names = (sound Called).names;
-        modes = (sound Called).modes;
+        names = (sound.each Called).names;
+        modes = (sound.each Called).modes;
+        limit = (sound.each Called).limit;
         size = pow_pos (setup.at_caller.own.size_code + 1 + 4);
       }
 

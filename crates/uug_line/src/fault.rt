@@ -7,6 +7,9 @@ pub enum RunFault {
     /// Memory ran out.
     #[error("out of memory")]
     Memory,
+    /// One end gives a file that is too large for the other, and what a run promises is not for such ends.
+    #[error("a file of one end is too large for the other")]
+    TooLarge,
 }
 
 impl From<AllocError> for RunFault {

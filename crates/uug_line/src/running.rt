@@ -108,7 +108,9 @@ pub fn run<A: Allocator + Copy>(
     ensures present { OnOk result
         (PresentRanAsMachine (setup_of setup) (run_of_ends (setup_of setup) events.now)) }
 {
-    look_at_setup(&setup, events);
+    if !look_at_setup(&setup, events) {
+        return Err(RunFault::TooLarge);
+    }
     let mut run = RunSoFar::start(alloc, setup)?;
     let Ok(verdict) = run.go_through(alloc, events) else {
         drop(run);

@@ -22,7 +22,7 @@ record AreLogged : Type 0 where
   their_file : job_entry (job In Send) Done 20 ≡ receives (codes "y") (Some 20)
   a_file_for_them : job_entry (job In Request) Done 20 ≡ sends (codes "~/x") 20
   refused : job_entry (job Out Send) Never 20 ≡ fault (codes "send ~/x y: refused")
-  too_large : job_entry (job In Send) TooLarge 0 ≡ fault (codes "send ~/x y: too large")
+  too_large : job_entry (job In Send) TooLarge 0 ≡ fault (codes "send ~/x y: refused, maybe for its size")
   put_off : job_entry (job In Request) Later 0 ≡ fault (codes "request ~/x y: put off")
   differs : job_entry (job In Send) Differs 20 ≡ fault (codes "send ~/x y: wrong digest")
   a_word : end_text (codes "hungup") [] ≡ codes "hungup"

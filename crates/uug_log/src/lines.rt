@@ -118,7 +118,7 @@ fn outcome_word(outcome: Outcome) -> &'static str
     match outcome {
         Outcome::Done => "done",
         Outcome::Never => "refused",
-        Outcome::TooLarge => "too large",
+        Outcome::TooLarge => "refused, maybe for its size",
         Outcome::Later => "put off",
         Outcome::Differs => "wrong digest",
     }

@@ -17,13 +17,13 @@ abbrev pub marks_at : {D A : Type 0} → SpoolFolder D A → (place : Option Spo
 marks_at folder None bytes = marks_of folder
 marks_at folder (Some place) bytes = marks_after (marks_of folder) (came_of folder) place bytes
 
-abbrev pub place_for : {D A : Type 0} → MailSpool D A → (name : List ℕ) → Option Spot
+abbrev pub place_for : {D N A : Type 0} → MailSpool D N A → (name : List ℕ) → Option Spot
 place_for spool name = place_in (shown_public spool.public) name
 
 -- a file of this name and these bytes comes into its place
-abbrev pub keep_ops : {D A : Type 0} → MailSpool D A → (name bytes : List ℕ) → List Op
+abbrev pub keep_ops : {D N A : Type 0} → MailSpool D N A → (name bytes : List ℕ) → List Op
 keep_ops spool name bytes = ops_at spool.folder (place_for spool name) bytes
 
 -- the markers that stand then
-abbrev pub keep_marks : {D A : Type 0} → MailSpool D A → (name bytes : List ℕ) → Marks
+abbrev pub keep_marks : {D N A : Type 0} → MailSpool D N A → (name bytes : List ℕ) → Marks
 keep_marks spool name bytes = marks_at spool.folder (place_for spool name) bytes

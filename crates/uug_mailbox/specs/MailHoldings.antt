@@ -28,8 +28,8 @@ delayed_in public (Some name) = if public.is_unknown then true else has_name pub
 abbrev pub is_refused : Public → (name : List ℕ) → Bool
 is_refused public name = is_none (place_in public name)
 
-abbrev pub mail_holdings : (lenient digests : Bool) → Public → (partials : Option (List Partial)) → List Kept → Holdings
-mail_holdings lenient digests public partials files = record {
+abbrev pub mail_holdings : (lenient digests : Bool) → (limit : ℕ) → Public → (partials : Option (List Partial)) → List Kept → Holdings
+mail_holdings lenient digests limit public partials files = record {
   file = given files;
   delayed = λ name. delayed_in public (local_source name);
   verdict = λ name. if is_refused public name then Never else Yes;
@@ -38,4 +38,5 @@ mail_holdings lenient digests public partials files = record {
   partials = partials;
   lenient = lenient;
   digests = digests;
+  limit = limit;
 }

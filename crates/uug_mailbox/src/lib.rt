@@ -25,7 +25,7 @@ pub use command_text::CommandText;
 pub use execution::{Execution, addressee, is_told_with_data, read_execution};
 pub use held::held_lines;
 pub use mail_date::{day_word, month_word};
-pub use mail_spool::MailSpool;
+pub use mail_spool::{MailSettings, MailSpool};
 pub use marks::{Came, Marks};
 pub use offer::{NotOffered, Offer, read_offer, text_name};
 pub use open_line::{OpenLine, Outcome};

@@ -18,30 +18,42 @@ use std::alloc::{AllocError, Allocator};
 use std::snapshot::Snapshot;
 use uug_conversation::has_name;
 use uug_digest::FileDigest;
-use uug_folder::local_source;
-use uug_session::{FileView, KeepFault, Partials, Spool, Stored, Verdict};
+use uug_folder::{Notebook, local_source};
+use uug_session::{FileLimit, FileView, KeepFault, Partials, Spool, Stored, Verdict};
 use uug_spool::Disk;
 use uug_talk::{MODE_MAX, Name};
+
+/// The settings of an end over a spool.
+#[derive(Clone, Copy)]
+pub struct MailSettings {
+    /// Set if it refuses what it can't read, and goes on.
+    pub is_lenient: bool,
+    /// Set if it announces digests of its files, and compares those that are announced to it.
+    pub tells_digests: bool,
+    /// How many bytes the greatest file has that it gives or takes.
+    pub limit: FileLimit,
+}
 
 /// The files of an end over a spool. A file that it gives is named by its copy or its path, or by its name in the
 /// public folder. A received one goes where its name says, with the public folder as it was when the session began.
 #[derive(Drop)]
-pub struct MailSpool<D, A: Allocator> {
+pub struct MailSpool<D, N, A: Allocator> {
     given: Vec<Stored<A>, A>,
     public: PublicFolder<A>,
     /// Holds the first bytes of files that were cut off, if the end resumes such files.
     partials: Option<Partials<A>>,
+    /// What comes of a file is written down here, if the end resumes.
+    notebook: N,
     /// The files that were kept, for clauses alone: the bytes are in the spool, and no longer in memory.
     kept: Vec<Snapshot<Stored<A>>, A>,
     /// The folders of the spool.
     pub folder: SpoolFolder<D, A>,
-    lenient: bool,
-    digests: bool,
+    settings: MailSettings,
     faults: u64,
     alloc: A,
 }
 
-impl<D: Disk, A: Allocator + Copy> MailSpool<D, A> {
+impl<D: Disk, N: Notebook, A: Allocator + Copy> MailSpool<D, N, A> {
     /// Makes the spool with these files to give, over these folders, that has kept none, and holds this of files that
     /// were cut off. It takes no memory.
     pub fn new(
@@ -50,12 +62,13 @@ impl<D: Disk, A: Allocator + Copy> MailSpool<D, A> {
         public: PublicFolder<A>,
         folder: SpoolFolder<D, A>,
         partials: Option<Partials<A>>,
-        lenient: bool,
-        digests: bool,
+        notebook: N,
+        settings: MailSettings,
     ) -> Self
-        ensures holdings { ⟦<MailSpool<D, A> as Spool>⟧.holdings result
-            ≡ mail_holdings lenient digests (shown_public public) partials (map kept_of given.items) }
-        ensures kept { ⟦<MailSpool<D, A> as Spool>⟧.kept result ≡ [] }
+        ensures holdings { ⟦<MailSpool<D, N, A> as Spool>⟧.holdings result
+            ≡ mail_holdings settings.is_lenient settings.tells_digests settings.limit.bytes
+            (shown_public public) partials (map kept_of given.items) }
+        ensures kept { ⟦<MailSpool<D, N, A> as Spool>⟧.kept result ≡ [] }
         ensures folder { result.folder ≡ folder }
         ensures faults { result.faults ≡ 0 }
     {
@@ -63,10 +76,10 @@ impl<D: Disk, A: Allocator + Copy> MailSpool<D, A> {
             given,
             public,
             partials,
+            notebook,
             kept: Vec::new(alloc),
             folder,
-            lenient,
-            digests,
+            settings,
             faults: 0,
             alloc,
         }
@@ -81,9 +94,9 @@ impl<D: Disk, A: Allocator + Copy> MailSpool<D, A> {
 }
 
 #[tactic(auto, using(crate::proofs::OverLemmas::none_done))]
-impl<D: Disk, A: Allocator + Copy> Spool for MailSpool<D, A> {
-    ghost holdings = { λ s. mail_holdings s.lenient s.digests (shown_public s.public) s.partials
-        (map kept_of s.given.items) };
+impl<D: Disk, N: Notebook, A: Allocator + Copy> Spool for MailSpool<D, N, A> {
+    ghost holdings = { λ s. mail_holdings s.settings.is_lenient s.settings.tells_digests
+        s.settings.limit.bytes (shown_public s.public) s.partials (map kept_of s.given.items) };
 
     ghost kept = { λ s. map kept_of (map (λ f. f.value) s.kept.items) };
 
@@ -126,12 +139,12 @@ impl<D: Disk, A: Allocator + Copy> Spool for MailSpool<D, A> {
         ensures marks { OnOk result (marks_of self.new.folder
             ≡ keep_marks self.old name.now bytes.now) }
         ensures came { came_of self.new.folder ≡ came_of self.old.folder }
-        ensures holdings { ⟦<MailSpool<D, A> as Spool>⟧.holdings self.new
-            ≡ ⟦<MailSpool<D, A> as Spool>⟧.holdings self.old }
-        ensures ok { OnOk result (⟦<MailSpool<D, A> as Spool>⟧.kept self.new
-            ≡ ⟦<MailSpool<D, A> as Spool>⟧.kept self.old ++ kept_file name.now mode bytes.now ∷ []) }
-        ensures err { OnErr result (⟦<MailSpool<D, A> as Spool>⟧.kept self.new
-            ≡ ⟦<MailSpool<D, A> as Spool>⟧.kept self.old) }
+        ensures holdings { ⟦<MailSpool<D, N, A> as Spool>⟧.holdings self.new
+            ≡ ⟦<MailSpool<D, N, A> as Spool>⟧.holdings self.old }
+        ensures ok { OnOk result (⟦<MailSpool<D, N, A> as Spool>⟧.kept self.new
+            ≡ ⟦<MailSpool<D, N, A> as Spool>⟧.kept self.old ++ kept_file name.now mode bytes.now ∷ []) }
+        ensures err { OnErr result (⟦<MailSpool<D, N, A> as Spool>⟧.kept self.new
+            ≡ ⟦<MailSpool<D, N, A> as Spool>⟧.kept self.old) }
         ensures refused { (result ≡ Err KeepFault.Refused)
             ↔ (is_refused (shown_public self.old.public) name.now ≡ true) }
         ensures stands { result ≢ Err KeepFault.Device → self.new.faults ≡ self.old.faults }
@@ -154,26 +167,43 @@ impl<D: Disk, A: Allocator + Copy> Spool for MailSpool<D, A> {
         Ok(())
     }
 
+    fn note(&mut self, source: &Name, told: &FileDigest, bytes: &[u8]) {
+        if let Some(partials) = &self.partials {
+            self.notebook
+                .note(source, told, partials.held(source, told), bytes);
+        }
+    }
+
     fn let_go(&mut self, told: &FileDigest) {
         if let Some(partials) = &mut self.partials {
             partials.let_go(told);
+            self.notebook.let_go(told);
         }
     }
 
     fn is_lenient(&self) -> bool {
-        self.lenient
+        self.settings.is_lenient
     }
 
     fn tells_digests(&self) -> bool {
-        self.digests
+        self.settings.tells_digests
+    }
+
+    fn limit(&self) -> usize {
+        self.settings.limit.bytes
     }
 
     fn faults(&self) -> u64 {
         self.faults
     }
 
-    ghost modes = { λ s. mail_modes s.lenient s.digests (shown_public s.public) s.partials
-        s.given.items };
+    ghost modes = { λ s. mail_modes s.settings.is_lenient s.settings.tells_digests
+        s.settings.limit.bytes (shown_public s.public) s.partials s.given.items };
+
+    ghost limits = { λ s. record {
+      some = s.settings.limit.some;
+      fits = s.settings.limit.fits;
+    } };
 }
 
 /// Returns whether the file of this name in the public folder may be given later.

@@ -11,7 +11,7 @@ use std::alloc::{AllocError, Allocator};
 use uug_line::{Report, Side};
 use uug_script::add_job_words;
 use uug_session::{End, FileView, Job, MemorySpool, Node, Phase, Spool, Verdict};
-use uug_talk::{FILE_MAX, Name};
+use uug_talk::Name;
 
 /// The reason for which a job is not done.
 #[derive(Clone, Copy, Debug, PartialEq, Eq)]
@@ -57,7 +57,7 @@ fn given<'a, A: Allocator + Copy>(spool: &'a MemorySpool<A>, name: &Name) -> Opt
     ensures { shown_file result ≡ to_give (given_by (held_by spool.now)) name.now }
 {
     let file = spool.fetch(name)?;
-    if file.bytes.len() <= FILE_MAX {
+    if file.bytes.len() <= spool.limit() {
         Some(file)
     } else {
         None

@@ -18,7 +18,7 @@ const REMARKS: &[(&[u8], &str)] = &[
     ),
     (
         b"caller a 2 32",
-        "the end is set up, numbered, quiet, short, lenient, telling digests or resuming already, or has 1024 jobs",
+        "the end is set up, numbered, quiet, short, lenient, telling digests, resuming or limited already, or has 1024 jobs",
     ),
     (b"caller a 2", "packet size is missing"),
     (b"caller a 2 32 x", "unexpected word x"),
@@ -42,6 +42,12 @@ const REMARKS: &[(&[u8], &str)] = &[
     (b"short", "side is missing"),
     (b"short caller 1", "unexpected word 1"),
     (b"lenient caller 1", "unexpected word 1"),
+    (b"limit caller", "limit is missing"),
+    (b"limit caller 0", "limit 0 is not 1 to 268435456"),
+    (
+        b"limit caller 268435457",
+        "limit 268435457 is not 1 to 268435456",
+    ),
     (b"flow 100001", "number 100001 is not 0 to 100000"),
     (b"flip caller 0g", "byte 0g is not 2 hexadecimal digits"),
     (
@@ -110,6 +116,14 @@ const REASONS: &[(&[u8], &str)] = &[
         "send called x y u: put off: the other end takes it later\n",
     ),
     (
+        b"file caller x 0644 000102\nlimit caller 2\nsend caller x y u\nflow 20",
+        "send caller x y u: no such file\n",
+    ),
+    (
+        b"file caller x 0644 000102\nlimit caller 3\nlimit called 3\nsend caller x y u\nflow 20",
+        "",
+    ),
+    (
         b"file caller x 0644 -\nsend caller x y u\nhangup caller",
         "send caller x y u: not done: the session ended before\n",
     ),
@@ -118,6 +132,10 @@ const REASONS: &[(&[u8], &str)] = &[
         "send caller x y u: not done: the session goes on\nrequest called x y u: not done: the session goes on\n",
     ),
 ];
+
+/// What is said of a script whose ends can't be run.
+const MISSING: &str =
+    "caller or called is missing, or gives a file that is too large for the other";
 
 /// Checks the remarks on the jobs of a script, beside its report.
 fn check_reasons(rt: &(impl Abort + AllocGlobal), script: &[u8], expected: &str) {
@@ -156,8 +174,21 @@ fn says_what_is_wrong(rt: HostRuntime) -> Result<(), Fail> {
 
 #[test]
 fn says_what_is_missing(rt: HostRuntime) {
-    check_remark(&rt, b"caller a 2 32\n", 2, "caller or called is missing");
-    check_remark(&rt, b"", 1, "caller or called is missing");
+    check_remark(&rt, b"caller a 2 32\n", 2, MISSING);
+    check_remark(&rt, b"", 1, MISSING);
+}
+
+// a file of three bytes for an end that takes two, and the other way round
+#[test]
+fn says_that_a_file_is_too_large(rt: HostRuntime) -> Result<(), Fail> {
+    for lines in [
+        b"file caller x 0644 000102\nlimit called 2\n".as_slice(),
+        b"limit caller 2\nfile called x 0644 000102\n".as_slice(),
+    ] {
+        let script = with_lines(rt.alloc(), lines)?;
+        check_remark(&rt, &script, 5, MISSING);
+    }
+    Ok(())
 }
 
 #[test]

@@ -65,7 +65,7 @@ named_or_numbered resource None number = number_words resource number
 
 -- of what there is more than the program takes
 abbrev pub much_words : Resource → List ℕ
-much_words Input = codes "over the limit of 1048576 bytes"
+much_words Input = codes "too large"
 much_words (Text which) = codes "over the limit of 16777216 bytes"
 much_words Send = codes "over the limit of 256 files"
 much_words resource = codes "over a limit"

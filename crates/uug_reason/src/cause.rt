@@ -38,7 +38,7 @@ fn much_words(resource: Resource) -> &'static str
     ensures { result.now ≡ much_words resource }
 {
     match resource {
-        Resource::Input => "over the limit of 1048576 bytes",
+        Resource::Input => "too large",
         Resource::Text(_) => "over the limit of 16777216 bytes",
         Resource::Send => "over the limit of 256 files",
         _ => "over a limit",

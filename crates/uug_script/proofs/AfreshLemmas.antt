@@ -10,8 +10,8 @@ use Rattle.uug_script.specs.declared.script.Script.{Script}
 use Rattle.uug_talk.specs.Chained.{◌>>=◌}
 use Rattle.uug_script.specs.IsScript.{LinesAdd, no_line, line_more, IsScript, BeginsAfresh, EndBegins}
 use Rattle.uug_conversation.specs.Partial.{Partial}
-use Rattle.uug_script.specs.Meaning.{EndMeaning, place, file, job, deny, later, immovable, number, quiet, short, lenient, digest, resume, LineMeaning, nothing, of_end, event, flow}
-use Rattle.uug_script.specs.Script.{Place, EndSaid, Said, nothing_said, numbered, placed, quieted, shortened, made_lenient, made_resuming, made_telling, place_at, end_added, added, with_caller, with_called, EndSays, ScriptSays, end_completed}
+use Rattle.uug_script.specs.Meaning.{EndMeaning, place, file, job, deny, later, immovable, number, quiet, short, lenient, digest, resume, limit, LineMeaning, nothing, of_end, event, flow}
+use Rattle.uug_script.specs.Script.{Place, EndSaid, Said, nothing_said, numbered, placed, quieted, shortened, made_lenient, made_limited, made_resuming, made_telling, place_at, end_added, added, with_caller, with_called, EndSays, ScriptSays, are_suited, end_completed}
 use Rattle.uug_script.specs.ScriptOf.{script_said}
 use Rattle.uug_script.proofs.WordTableLemmas.{bind_some}
 
@@ -57,6 +57,10 @@ resuming_fresh : (partials : Option (List Partial)) (before after : EndSaid) →
 resuming_fresh (Some ps) before after h e = absurd cc
 resuming_fresh None before after h e = fresh_as (record before { held = record before.held { digests = true; partials = Some [] } }) after (record { passed = h.passed; struck = h.struck; failed = h.failed; stored = h.stored }) e
 
+limited_fresh : (n : ℕ) (b : Bool) (before after : EndSaid) → Fresh before → made_limited n b before ≡ Some after → Fresh after
+limited_fresh n true before after h e = absurd cc
+limited_fresh n false before after h e = fresh_as (record before { held = record before.held { limit = n }; limited = true }) after (record { passed = h.passed; struck = h.struck; failed = h.failed; stored = h.stored }) e
+
 end_fresh : (m : EndMeaning) (before after : EndSaid) → Fresh before → end_added m before ≡ Some after → Fresh after
 end_fresh (place name a) before after h e = placed_fresh (place_at name a) before.place before after h e
 end_fresh (file f) before after h e = fresh_as _ after (record { passed = h.passed; struck = h.struck; failed = h.failed; stored = h.stored }) e
@@ -73,6 +77,7 @@ end_fresh short before after h e = shortened_fresh before.short before after h e
 end_fresh lenient before after h e = lenient_fresh before.held.lenient before after h e
 end_fresh digest before after h e = telling_fresh before.held.digests before after h e
 end_fresh resume before after h e = resuming_fresh before.held.partials before after h e
+end_fresh (limit n) before after h e = limited_fresh n before.limited before after h e
 
 both_as : (x after : Said) → BothFresh x → Some x ≡ Some after → BothFresh after
 both_as x after h e = let same : x ≡ after = cc in subst BothFresh same h
@@ -103,16 +108,20 @@ end_begins (Some p) end says h e =
     subst EndBegins same
     (record { jobs = lists_fresh end.queue.passed end.queue.ahead end.queue.struck end.queue.failed h.passed h.struck h.failed; stored = h.stored })
 
+is_suited : (suited : Bool) (found script : ScriptSays) → (if suited then Some found else None) ≡ Some script → found ≡ script
+is_suited true found script e = cc
+is_suited false found script e = absurd cc
+
 script_begins : (text : List ℕ) (script : ScriptSays) → IsScript text script → BeginsAfresh script
 script_begins text script h =
     let both = lines_fresh _ nothing_said h.said h.taken
     (record { caller = record { passed = refl; struck = refl; failed = refl; stored = refl }; called = record { passed = refl; struck = refl; failed = refl; stored = refl } }) in
     let a = bind_some (end_completed h.said.caller.place h.said.caller)
-    (λ caller. end_completed h.said.called.place h.said.called >>= (λ called. Some (record { caller = caller; called = called; events = h.said.events }))) script h.complete in
+    (λ caller. end_completed h.said.called.place h.said.called >>= (λ called. if are_suited caller called then Some (record { caller = caller; called = called; events = h.said.events }) else None)) script h.complete in
     let b = bind_some (end_completed h.said.called.place h.said.called)
-    (λ called. Some (record { caller = a.0; called = called; events = h.said.events })) script a.2 in
-    let found = b.2 in
-    let same : ◌≡◌ {A = ScriptSays} (record { caller = a.0; called = b.0; events = h.said.events }) script = cc in
+    (λ called. if are_suited a.0 called then Some (record { caller = a.0; called = called; events = h.said.events }) else None) script a.2 in
+    let same : ◌≡◌ {A = ScriptSays} (record { caller = a.0; called = b.0; events = h.said.events }) script =
+        is_suited (are_suited a.0 b.0) (record { caller = a.0; called = b.0; events = h.said.events }) script b.2 in
     subst BeginsAfresh same (record {
       caller = end_begins h.said.caller.place h.said.caller a.0 both.caller a.1;
       called = end_begins h.said.called.place h.said.called b.0 both.called b.1;

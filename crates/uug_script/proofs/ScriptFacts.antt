@@ -15,7 +15,7 @@ use Rattle.uug_line.specs.declared.verdict.LineVerdict.TheVariants.{Clean, Foole
 use Rattle.uug_talk.specs.Lines.{lines, ended}
 use Rattle.uug_script.specs.declared.field.Field.TheVariants as fields
 use Rattle.uug_script.specs.Complaints.{missing, too_many, unknown, wrong}
-use Rattle.uug_script.specs.Meaning.{digest, resume, event, lenient, number, of_end, quiet, short}
+use Rattle.uug_script.specs.Meaning.{digest, resume, event, lenient, limit, number, of_end, quiet, short}
 use Rattle.uug_script.specs.ReadLine.{line_of}
 use Rattle.uug_script.specs.ReportText.{RunResult, report_text, stored_line, verdict_line}
 use Rattle.uug_script.specs.Script.{ScriptSays, flow_events}
@@ -119,6 +119,19 @@ a_resuming_end = refl
 -- and that it resumes, which says that it tells digests
 twice_resuming : script_of (both_ends ++ ended (codes "resume caller") ++ ended (codes "resume called") ++ codes "resume caller") ≡ Err 5
 twice_resuming = refl
+
+a_limited_end : line_of (codes "limit called 268435456") ≡ Ok (of_end Called (limit 268435456))
+a_limited_end = refl
+
+too_great_a_limit : line_of (codes "limit called 268435457") ≡ Err (wrong fields.Limit (codes "268435457"))
+too_great_a_limit = refl
+
+no_limit : line_of (codes "limit called 0") ≡ Err (wrong fields.Limit (codes "0"))
+no_limit = refl
+
+-- a limit is said once of each end, also where it is the one that stands without it
+twice_limited : script_of (both_ends ++ ended (codes "limit caller 1048576") ++ ended (codes "limit called 7") ++ codes "limit caller 7") ≡ Err 5
+twice_limited = refl
 
 telling_again : script_of (both_ends ++ ended (codes "resume caller") ++ codes "digest caller") ≡ Err 4
 telling_again = refl

@@ -1,5 +1,5 @@
 -- The function that reads a line and the table of lines agree.
-use Rattle.std.proofs.Common.{◌≡◌, ℕ, Bool, true, false, if◌then◌else◌, List, [], ◌∷◌, length, codes, nat_le, Option, Some, None, Result, Ok, Err, IsSome, refl, sym, ap, subst, ◌∙◌, arith}
+use Rattle.std.proofs.Common.{◌≡◌, ℕ, ◌<◌, Bool, true, false, if◌then◌else◌, List, [], ◌∷◌, length, codes, nat_le, Option, Some, None, Result, Ok, Err, IsSome, refl, sym, ap, subst, ◌∙◌, arith}
 use Rattle.std.proofs.lemmas.Bool.Decides.{nat_tests}
 use Rattle.std.specs.Result.{result_err}
 use Rattle.std.specs.Str.{bytes_eq}
@@ -16,16 +16,17 @@ use Rattle.uug_talk.specs.declared.lines.TheConstants.{LINE_MAX}
 use Rattle.uug_conversation.specs.declared.side.Side.{Side}
 use Rattle.uug_conversation.specs.declared.side.Side.TheVariants.{Caller, Called}
 use Rattle.uug_talk.specs.declared.call.TheConstants.{NUMBER_MAX}
+use Rattle.uug_talk.specs.declared.gather.TheConstants.{FILE_LIMIT_MAX}
 use Rattle.uug_talk.specs.Number.{number_of}
 use Rattle.uug_session.specs.PhaseWords.{side_word}
 use Rattle.uug_script.specs.Complaints.{Wrong, too_long, field_at, read_or_wrong, ◌>>=◌}
-use Rattle.uug_script.specs.Fields.{side_of, window_of, announcement_of, mode_of_word, hex_bytes, byte_of}
+use Rattle.uug_script.specs.Fields.{side_of, window_of, announcement_of, mode_of_word, hex_bytes, byte_of, limit_of_word}
 use Rattle.uug_talk.specs.Lines.{is_comment}
 use Rattle.hex.specs.Hex.{decode_of}
-use Rattle.uug_script.specs.LineSays.{Announces, WritesNumber, WritesMode, WritesBytes, NamesCopy, LineSays, TextSays, blank, comment, end_line, file_line, send_line, request_line, deny_line, later_line, immovable_line, number_line, quiet_line, short_line, lenient_line, digest_line, resume_line, pass_line, drop_line, flip_line, insert_line, timeout_line, hangup_line, call_line, flow_line}
-use Rattle.uug_script.specs.Meaning.{LineMeaning, nothing, of_end, event, flow, place, file, job, deny, later, immovable, number, quiet, short, lenient, digest, resume}
-use Rattle.uug_script.specs.ReadLine.{side_at, name_at, window_at, announcement_at, mode_at, hex_at, number_at, byte_at, copy_of, ends, place_of, file_of, send_of, request_of, side_and_name, side_and_number, side_and_byte, one_side, call_of, flow_of, event_by, line_by, line_of_words, line_of}
-use Rattle.uug_script.proofs.WordTableLemmas.{same_bytes, name_of_name, name_is, number_written, writes_number, window_written, announcement_written, announces, mode_written, writes_mode, bytes_written, writes_bytes, byte_written, writes_byte}
+use Rattle.uug_script.specs.LineSays.{Announces, WritesNumber, WritesMode, WritesBytes, NamesCopy, LineSays, TextSays, blank, comment, end_line, file_line, send_line, request_line, deny_line, later_line, immovable_line, number_line, quiet_line, short_line, lenient_line, digest_line, resume_line, limit_line, pass_line, drop_line, flip_line, insert_line, timeout_line, hangup_line, call_line, flow_line}
+use Rattle.uug_script.specs.Meaning.{LineMeaning, nothing, of_end, event, flow, place, file, job, deny, later, immovable, number, quiet, short, lenient, digest, resume, limit}
+use Rattle.uug_script.specs.ReadLine.{side_at, name_at, window_at, announcement_at, mode_at, hex_at, limit_at, number_at, byte_at, copy_of, ends, place_of, file_of, send_of, request_of, side_and_name, side_and_number, side_and_byte, one_side, call_of, flow_of, limit_line_of, event_by, line_by, line_of_words, line_of}
+use Rattle.uug_script.proofs.WordTableLemmas.{limit_written, writes_limit, same_bytes, name_of_name, name_is, number_written, writes_number, window_written, announcement_written, announces, mode_written, writes_mode, bytes_written, writes_bytes, byte_written, writes_byte}
 
 -- ---- what the table says is read
 
@@ -57,6 +58,7 @@ says_read ws m (short_line {side = side}) = rw (side_read side) refl
 says_read ws m (lenient_line {side = side}) = rw (side_read side) refl
 says_read ws m (digest_line {side = side}) = rw (side_read side) refl
 says_read ws m (resume_line {side = side}) = rw (side_read side) refl
+says_read ws m (limit_line {side = side} {word = word} {n = n} h p) = rw (side_read side, limit_written word n h p) refl
 says_read ws m (pass_line {side = side} {word = word} {n = n} h) = rw (side_read side, number_written BYTES_MAX word n h) refl
 says_read ws m (drop_line {side = side} {word = word} {n = n} h) = rw (side_read side, number_written BYTES_MAX word n h) refl
 says_read ws m (flip_line {side = side} {hex = hex} {byte = byte} h) = rw (side_read side, byte_written hex byte h) refl
@@ -138,6 +140,12 @@ number_leads : (field : Field) (most : ℕ) (ws : List (List ℕ)) (p : ℕ × L
 number_leads field most ws p e =
     let l = field_is field (number_of most) ws p e in
     record { word = l.word; spelled = l.spelled; says = writes_number most l.word p.0 l.says }
+
+limit_leads : (ws : List (List ℕ)) (p : ℕ × List (List ℕ)) → limit_at ws ≡ Ok p
+    → Leads (λ word. WritesNumber FILE_LIMIT_MAX word p.0 × (0 < p.0)) p.1 ws
+limit_leads ws p e =
+    let l = field_is fields.Limit limit_of_word ws p e in
+    record { word = l.word; spelled = l.spelled; says = writes_limit l.word p.0 l.says }
 
 byte_leads : (ws : List (List ℕ)) (p : ℕ × List (List ℕ)) → byte_at ws ≡ Ok p → Leads (λ word. decode_of word ≡ Ok (p.0 ∷ [])) p.1 ws
 byte_leads ws p e =
@@ -302,6 +310,16 @@ alone_says first means says ws m e =
     (front _ _ s.0.1 ws (nothing_left s.0.1 u.0 u.1) (side_leads ws s.0 s.1))
     (says s.0.0) (ap (λ side. Ok (means side)) same ∙ p.2)
 
+limit_says : (ws : List (List ℕ)) (m : LineMeaning) → limit_line_of ws ≡ Ok m → LineSays (codes "limit" ∷ ws) m
+limit_says ws m e =
+    let s = bind_ok (side_at ws) _ m e in
+    let n = bind_ok (limit_at s.0.1) _ m s.2 in
+    let u = bind_ok (ends n.0.1) _ m n.2 in
+    let l = limit_leads s.0.1 n.0 n.1 in
+    spelled_says (codes "limit") (side_word s.0.0 ∷ l.word ∷ []) ws (of_end s.0.0 (limit n.0.0)) m
+    (front _ _ s.0.1 ws (front _ _ n.0.1 _ (nothing_left n.0.1 u.0 u.1) l.spelled) (side_leads ws s.0 s.1))
+    (limit_line {side = s.0.0} l.says.0 l.says.1) u.2
+
 call_says : (ws : List (List ℕ)) (m : LineMeaning) → call_of ws ≡ Ok m → LineSays (codes "call" ∷ ws) m
 call_says ws m e =
     let u = bind_ok (ends ws) _ m e in
@@ -353,7 +371,8 @@ line_says first ws m e =
     by_word first (codes "lenient") ws _ _ m e (alone_says _ (λ s. of_end s lenient) (λ s. lenient_line) ws m) (λ e.
     by_word first (codes "digest") ws _ _ m e (alone_says _ (λ s. of_end s digest) (λ s. digest_line) ws m) (λ e.
     by_word first (codes "resume") ws _ _ m e (alone_says _ (λ s. of_end s resume) (λ s. resume_line) ws m) (λ e.
-    event_says first ws m e))))))))))))))
+    by_word first (codes "limit") ws _ _ m e (limit_says ws m) (λ e.
+    event_says first ws m e)))))))))))))))
 
 comment_is : (first : List ℕ) → is_comment first ≡ true → (letters : List ℕ) × (35 ∷ letters ≡ first)
 comment_is [] e = absurd cc

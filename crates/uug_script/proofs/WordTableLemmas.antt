@@ -16,6 +16,7 @@ use Rattle.hex.specs.declared.error.FromHexError.{FromHexError}
 use Rattle.hex.specs.declared.error.FromHexError.TheVariants.{OddLength}
 use Rattle.uug_link.specs.Announced.{Announced, quiet_as, short_as}
 use Rattle.uug_link.specs.declared.limits.TheConstants.{MESSAGE_MAX, SIZE_CODES, WINDOW_MAX}
+use Rattle.uug_talk.specs.declared.gather.TheConstants.{FILE_LIMIT_MAX}
 use Rattle.uug_link.specs.Terms.{size_of_code}
 use Rattle.uug_talk.specs.Mode.{IsOctalDigit, IsModeWord, is_octal_digit, is_mode_word, mode_of, mode_read, octal_value}
 use Rattle.uug_talk.specs.declared.error.BadText.TheVariants as bad_text
@@ -25,7 +26,7 @@ use Rattle.uug_talk.specs.declared.name.TheConstants.{NAME_MAX}
 use Rattle.uug_script.specs.declared.fields.TheConstants.{MODE_DIGITS}
 use Rattle.uug_talk.specs.Number.{is_numeral, number_of}
 use Rattle.uug_talk.specs.Chained.{◌>>=◌}
-use Rattle.uug_script.specs.Fields.{mode_of_word, hex_bytes, first_byte, byte_of, code_of_size, is_window, window_in, window_of, announcement, announcement_of}
+use Rattle.uug_script.specs.Fields.{limit_of_word, limit_within, mode_of_word, hex_bytes, first_byte, byte_of, code_of_size, is_window, window_in, window_of, announcement, announcement_of}
 use Rattle.uug_script.specs.LineSays.{WritesNumber, Announces, WritesMode, WritesBytes, dash, pairs}
 use Rattle.uug_talk.proofs.NumberLemmas.{numeral_parses}
 use Rattle.uug_script.proofs.FieldLemmas.{announced_as, code_of_its_size, size_of_its_code}
@@ -190,6 +191,27 @@ announces window size w a e f =
       size_is = sym size_is.1 ∙ parts.2;
       plain = (parts.3, parts.4);
     }
+
+-- ---- limits
+
+pub limit_written : (word : List ℕ) (n : ℕ) → WritesNumber FILE_LIMIT_MAX word n → 0 < n → limit_of_word word ≡ Some n
+limit_written word n h p =
+    let some : nat_le 1 n ≡ true = grind (arith, nat_tests, p) in
+    rw (number_written FILE_LIMIT_MAX word n h, some) refl
+
+pub writes_limit : (word : List ℕ) (n : ℕ) → limit_of_word word ≡ Some n → WritesNumber FILE_LIMIT_MAX word n × (0 < n)
+writes_limit word n e = by_number (number_of FILE_LIMIT_MAX word) refl e where
+  by_test : (k : ℕ) → number_of FILE_LIMIT_MAX word ≡ Some k → (b : Bool) → nat_le 1 k ≡ b → (if b then Some k else None) ≡ Some n
+      → WritesNumber FILE_LIMIT_MAX word n × (0 < n)
+  by_test k t true u f =
+      let same : k ≡ n = cc in
+      let some : 0 < k = grind (arith, nat_tests, u) in
+      (writes_number FILE_LIMIT_MAX word n (t ∙ ap Some same), subst (λ z. 0 < z) same some)
+  by_test k t false u f = absurd cc
+
+  by_number : (o : Option ℕ) → number_of FILE_LIMIT_MAX word ≡ o → limit_within o ≡ Some n → WritesNumber FILE_LIMIT_MAX word n × (0 < n)
+  by_number None t f = absurd cc
+  by_number (Some k) t f = by_test k t (nat_le 1 k) refl f
 
 -- ---- modes
 

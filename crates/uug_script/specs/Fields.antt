@@ -9,6 +9,7 @@ use Rattle.uug_link.specs.declared.limits.TheConstants.{MESSAGE_MAX, WINDOW_MAX}
 use Rattle.uug_talk.specs.Mode.{mode_read}
 use Rattle.uug_talk.specs.Chained.{◌>>=◌}
 use Rattle.uug_talk.specs.Number.{number_of}
+use Rattle.uug_talk.specs.declared.gather.TheConstants.{FILE_LIMIT_MAX}
 use Rattle.uug_script.specs.declared.fields.TheConstants.{MODE_DIGITS}
 use Rattle.uug_conversation.specs.declared.side.Side.{Side}
 use Rattle.uug_conversation.specs.declared.side.Side.TheVariants.{Caller, Called}
@@ -63,6 +64,14 @@ window_in (Some window) = if is_window window then Some window else None
 
 abbrev pub window_of : List ℕ → Option ℕ
 window_of word = window_in (number_of WINDOW_MAX word)
+
+-- the greatest file of an end has a byte at least
+abbrev pub limit_within : Option ℕ → Option ℕ
+limit_within None = None
+limit_within (Some limit) = if nat_le 1 limit then Some limit else None
+
+abbrev pub limit_of_word : List ℕ → Option ℕ
+limit_of_word word = limit_within (number_of FILE_LIMIT_MAX word)
 
 -- the announcement of this window and size, by an end that is not quiet on repeats and whose commands are not short
 abbrev pub announcement : ℕ → ℕ → Option Announced

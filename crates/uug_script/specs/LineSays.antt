@@ -8,6 +8,7 @@ use Rattle.uug_link.specs.declared.limits.TheConstants.{SIZE_CODES}
 use Rattle.uug_conversation.specs.Holdings.{kept_file}
 use Rattle.uug_conversation.specs.declared.job.Job.TheVariants.{Send, Request}
 use Rattle.uug_talk.specs.declared.call.TheConstants.{NUMBER_MAX}
+use Rattle.uug_talk.specs.declared.gather.TheConstants.{FILE_LIMIT_MAX}
 use Rattle.uug_talk.specs.Mode.{IsModeWord, octal_value}
 use Rattle.uug_talk.specs.Name.{IsName}
 use Rattle.uug_talk.specs.Order.{AreNames}
@@ -18,7 +19,7 @@ use Rattle.uug_talk.specs.declared.lines.TheConstants.{LINE_MAX}
 use Rattle.uug_script.specs.declared.line.TheConstants.{BYTES_MAX, TURNS_MAX}
 use Rattle.uug_conversation.specs.declared.side.Side.{Side}
 use Rattle.uug_session.specs.PhaseWords.{side_word}
-use Rattle.uug_script.specs.Meaning.{LineMeaning, nothing, of_end, event, flow, place, file, job, deny, later, immovable, number, quiet, short, lenient, digest, resume}
+use Rattle.uug_script.specs.Meaning.{LineMeaning, nothing, of_end, event, flow, place, file, job, deny, later, immovable, number, quiet, short, lenient, digest, resume, limit}
 
 -- the word writes the number in decimal digits, with no sign, and the number is at most this one
 abbrev pub WritesNumber : ℕ → List ℕ → ℕ → Type 0
@@ -85,6 +86,9 @@ pub data LineSays : List (List ℕ) → LineMeaning → Type 0 where
   digest_line : {side : Side} → LineSays (codes "digest" ∷ side_word side ∷ []) (of_end side digest)
   -- resume SIDE
   resume_line : {side : Side} → LineSays (codes "resume" ∷ side_word side ∷ []) (of_end side resume)
+  -- limit SIDE N
+  limit_line : {side : Side} {word : List ℕ} {n : ℕ} → WritesNumber FILE_LIMIT_MAX word n → 0 < n
+      → LineSays (codes "limit" ∷ side_word side ∷ word ∷ []) (of_end side (limit n))
   -- pass SIDE N, drop SIDE N
   pass_line : {side : Side} {word : List ℕ} {n : ℕ} → WritesNumber BYTES_MAX word n
       → LineSays (codes "pass" ∷ side_word side ∷ word ∷ []) (event (Pass side n))

@@ -8,6 +8,7 @@ use Rattle.uug_script.specs.Complaints.{Wrong, shown}
 use Rattle.uug_script.specs.declared.complaint.Complaint.{Complaint}
 use Rattle.uug_script.specs.Fields.{hex_bytes}
 use Rattle.uug_line.specs.declared.event.Event.{Event}
+use Rattle.uug_conversation.specs.declared.file_limit.FileLimit.{FileLimit}
 use Rattle.uug_script.specs.declared.line.EndStatement.{EndStatement}
 use Rattle.uug_script.specs.declared.line.EndStatement.TheVariants as end_line
 use Rattle.uug_script.specs.declared.line.Statement.{Statement}
@@ -39,6 +40,8 @@ pub data EndMeaning : Type 0 where
   digest : EndMeaning
   -- it does so, and resumes files that were cut off
   resume : EndMeaning
+  -- the greatest file that it gives or takes has so many bytes
+  limit : ℕ → EndMeaning
 
 pub data LineMeaning : Type 0 where
   nothing : LineMeaning
@@ -56,6 +59,10 @@ announced_by (Some a) = Some (announced a)
 abbrev pub mode_bits : Option Mode → Option ℕ
 mode_bits None = None
 mode_bits (Some m) = Some m.bits
+
+abbrev pub limit_bytes : Option FileLimit → Option ℕ
+limit_bytes None = None
+limit_bytes (Some l) = Some l.bytes
 
 abbrev pub file_meaning : List ℕ → ℕ → Option (List ℕ) → Option EndMeaning
 file_meaning name mode None = None
@@ -78,6 +85,7 @@ end_meaning end_line.Short = Some short
 end_meaning end_line.Lenient = Some lenient
 end_meaning end_line.Digest = Some digest
 end_meaning end_line.Resume = Some resume
+end_meaning (end_line.Limit l) = Some (limit l.bytes)
 
 abbrev pub line_meaning : Statement → Option LineMeaning
 line_meaning line.Nothing = Some nothing

@@ -15,10 +15,10 @@ use Rattle.uug_conversation.specs.declared.side.Side.TheVariants.{Caller, Called
 use Rattle.uug_script.specs.declared.field.Field.{Field}
 use Rattle.uug_script.specs.declared.field.Field.TheVariants as fields
 use Rattle.uug_script.specs.Complaints.{Wrong, too_long, unknown, too_many, field_at, ◌>>=◌}
-use Rattle.uug_script.specs.Fields.{side_of, window_of, announcement_of, mode_of_word, hex_bytes, byte_of}
+use Rattle.uug_script.specs.Fields.{side_of, window_of, announcement_of, mode_of_word, hex_bytes, byte_of, limit_of_word}
 use Rattle.uug_talk.specs.Name.{name_of}
 use Rattle.uug_talk.specs.Lines.{is_comment}
-use Rattle.uug_script.specs.Meaning.{LineMeaning, nothing, of_end, event, flow, place, file, job, deny, later, immovable, number, quiet, short, lenient, digest, resume}
+use Rattle.uug_script.specs.Meaning.{LineMeaning, nothing, of_end, event, flow, place, file, job, deny, later, immovable, number, quiet, short, lenient, digest, resume, limit}
 use Rattle.uug_conversation.specs.Holdings.{kept_file}
 
 -- ---- what can stand in front, and the words behind it
@@ -47,6 +47,9 @@ hex_at ws = field_at fields.Bytes hex_bytes ws
 
 abbrev pub number_at : Field → (most : ℕ) → List (List ℕ) → Front ℕ
 number_at field most ws = field_at field (number_of most) ws
+
+abbrev pub limit_at : List (List ℕ) → Front ℕ
+limit_at ws = field_at fields.Limit limit_of_word ws
 
 abbrev pub byte_at : List (List ℕ) → Front ℕ
 byte_at ws = field_at fields.Byte byte_of ws
@@ -136,6 +139,10 @@ digest_of ws = one_side ws >>= (λ s. Ok (of_end s digest))
 abbrev pub resume_of : List (List ℕ) → Result LineMeaning Wrong
 resume_of ws = one_side ws >>= (λ s. Ok (of_end s resume))
 
+-- SIDE N, where N is a limit
+abbrev pub limit_line_of : List (List ℕ) → Result LineMeaning Wrong
+limit_line_of ws = side_at ws >>= (λ s. limit_at s.1 >>= (λ n. ends n.1 >>= (λ _. Ok (of_end s.0 (limit n.0)))))
+
 abbrev pub pass_of : List (List ℕ) → Result LineMeaning Wrong
 pass_of ws = side_and_number fields.Count BYTES_MAX ws >>= (λ p. Ok (event (Pass p.0 p.1)))
 
@@ -181,7 +188,8 @@ line_by first ws =
     (if bytes_eq first (codes "short") then short_of ws else
     (if bytes_eq first (codes "lenient") then lenient_of ws else
     (if bytes_eq first (codes "digest") then digest_of ws else
-    (if bytes_eq first (codes "resume") then resume_of ws else event_by first ws)))))))))))))
+    (if bytes_eq first (codes "resume") then resume_of ws else
+    (if bytes_eq first (codes "limit") then limit_line_of ws else event_by first ws))))))))))))))
 
 -- a line with no word, and a comment, say nothing
 abbrev pub line_of_words : List (List ℕ) → Result LineMeaning Wrong

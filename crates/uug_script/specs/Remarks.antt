@@ -6,7 +6,7 @@ use Rattle.std.specs.List.{list_all}
 use Rattle.std.specs.Result.{result_err}
 use Rattle.uug_talk.specs.Lines.{lines}
 use Rattle.uug_script.specs.declared.field.Field.{Field}
-use Rattle.uug_script.specs.declared.field.Field.TheVariants.{Side, Name, Window, Size, Mode, Bytes, Count, Turns, Number, Byte}
+use Rattle.uug_script.specs.declared.field.Field.TheVariants.{Side, Name, Window, Size, Mode, Bytes, Count, Turns, Number, Byte, Limit}
 use Rattle.uug_script.specs.declared.remark.TheConstants.{SHOWN_MAX}
 use Rattle.uug_script.specs.Complaints.{Wrong, too_long, unknown, wrong, missing, too_many}
 use Rattle.uug_script.specs.ReadLine.{line_of}
@@ -23,6 +23,7 @@ noun Count = codes "number"
 noun Turns = codes "number"
 noun Number = codes "number"
 noun Byte = codes "byte"
+noun Limit = codes "limit"
 
 -- what it has to be
 abbrev pub wanted : Field → List ℕ
@@ -36,6 +37,7 @@ wanted Count = codes "0 to 1000000000"
 wanted Turns = codes "0 to 100000"
 wanted Number = codes "0 to 4294967295"
 wanted Byte = codes "2 hexadecimal digits"
+wanted Limit = codes "1 to 268435456"
 
 -- a word is told where it is short and all its characters can be seen
 abbrev pub is_told : List ℕ → Bool
@@ -53,12 +55,12 @@ complaint_text (too_many word) = codes "unexpected word" ++ told word
 
 -- a bad line with which nothing is wrong by itself says again what was said before
 abbrev pub bad_line_text : Option Wrong → List ℕ
-bad_line_text None = codes "the end is set up, numbered, quiet, short, lenient, telling digests or resuming already, or has 1024 jobs"
+bad_line_text None = codes "the end is set up, numbered, quiet, short, lenient, telling digests, resuming or limited already, or has 1024 jobs"
 bad_line_text (Some complaint) = complaint_text complaint
 
--- there is no bad line where an end is not placed
+-- there is no bad line where an end is not placed, or gives a file that is too large for the other
 abbrev pub remark_of : Option (List ℕ) → List ℕ
-remark_of None = codes "caller or called is missing"
+remark_of None = codes "caller or called is missing, or gives a file that is too large for the other"
 remark_of (Some line) = bad_line_text (result_err (line_of line))
 
 -- the line of this number, counted from 1

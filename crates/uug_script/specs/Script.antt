@@ -1,8 +1,8 @@
 -- What the lines of a script say together (this project's profile).
-use Rattle.std.specs.Prelude.{◌==◌, ℕ, zero, suc, List, [], ◌∷◌, ◌++◌, length, Bool, true, false, Option, Some, None, if◌then◌else◌}
+use Rattle.std.specs.Prelude.{◌==◌, ◌&&◌, ℕ, zero, suc, List, [], ◌∷◌, ◌++◌, length, Bool, true, false, Option, Some, None, if◌then◌else◌}
 use Rattle.uug_link.specs.Announced.{Announced, quiet_as, short_as}
 use Rattle.uug_conversation.specs.Jobs.{Lists, at_start, pending, added as job_added}
-use Rattle.uug_conversation.specs.MemoryHoldings.{MemoryHoldings, no_holdings}
+use Rattle.uug_conversation.specs.MemoryHoldings.{MemoryHoldings, gives_within, no_holdings}
 use Rattle.uug_conversation.specs.declared.queue.TheConstants.{JOBS_MAX}
 use Rattle.uug_line.specs.declared.event.Event.{Event}
 use Rattle.uug_line.specs.declared.event.Event.TheVariants.{Pass}
@@ -10,7 +10,7 @@ use Rattle.uug_script.specs.declared.line.TheConstants.{BYTES_MAX}
 use Rattle.uug_conversation.specs.declared.side.Side.TheVariants.{Caller, Called}
 use Rattle.uug_talk.specs.Chained.{◌>>=◌}
 use Rattle.uug_conversation.specs.Partial.{Partial}
-use Rattle.uug_script.specs.Meaning.{EndMeaning, place, file, job, deny, later, immovable, number, quiet, short, lenient, digest, resume, LineMeaning, nothing, of_end, event, flow}
+use Rattle.uug_script.specs.Meaning.{EndMeaning, place, file, job, deny, later, immovable, number, quiet, short, lenient, digest, resume, limit, LineMeaning, nothing, of_end, event, flow}
 
 -- an end's name, and what it announces; that it is quiet on repeats, and that its commands are short, is said apart
 pub record Place : Type 0 where
@@ -30,6 +30,8 @@ pub record EndSaid : Type 0 where
   pub quiet : Bool
   -- whether its commands are short
   pub short : Bool
+  -- whether the limit of its files was said
+  pub limited : Bool
 
 pub record Said : Type 0 where
   pub caller : EndSaid
@@ -37,7 +39,7 @@ pub record Said : Type 0 where
   pub events : List Event
 
 abbrev pub nothing_of_end : EndSaid
-nothing_of_end = record { place = None; queue = at_start [] [] []; held = no_holdings; number = None; quiet = false; short = false }
+nothing_of_end = record { place = None; queue = at_start [] [] []; held = no_holdings; number = None; quiet = false; short = false; limited = false }
 
 abbrev pub nothing_said : Said
 nothing_said = record { caller = nothing_of_end; called = nothing_of_end; events = [] }
@@ -77,6 +79,11 @@ abbrev pub made_resuming : Option (List Partial) → EndSaid → Option EndSaid
 made_resuming (Some ps) end = None
 made_resuming None end = Some (record end { held = record end.held { digests = true; partials = Some [] } })
 
+-- the limit of its files is said once; its spool keeps it
+abbrev pub made_limited : ℕ → Bool → EndSaid → Option EndSaid
+made_limited n true end = None
+made_limited n false end = Some (record end { held = record end.held { limit = n }; limited = true })
+
 abbrev pub place_at : List ℕ → Announced → Place
 place_at name a = record { name = name; announced = a }
 
@@ -95,6 +102,7 @@ end_added short end = shortened end.short end
 end_added lenient end = made_lenient end.held.lenient end
 end_added digest end = made_telling end.held.digests end
 end_added resume end = made_resuming end.held.partials end
+end_added (limit n) end = made_limited n end.limited end
 
 -- all bytes for the called end come to it, and then all for the caller, so many times
 abbrev pub flow_events : ℕ → List Event
@@ -129,6 +137,10 @@ pub record ScriptSays : Type 0 where
   pub called : EndSays
   pub events : List Event
 
+-- no file that one end gives is too large for the other
+abbrev pub are_suited : (caller called : EndSays) → Bool
+are_suited caller called = gives_within called.held.limit caller.held && gives_within caller.held.limit called.held
+
 -- the end has to be placed
 abbrev pub end_completed : Option Place → EndSaid → Option EndSays
 end_completed None end = None
@@ -138,4 +150,4 @@ end_completed (Some p) end =
 abbrev pub completed : Said → Option ScriptSays
 completed s =
     end_completed s.caller.place s.caller >>= (λ caller. end_completed s.called.place s.called >>= (λ called.
-    Some (record { caller = caller; called = called; events = s.events })))
+    if are_suited caller called then Some (record { caller = caller; called = called; events = s.events }) else None))

@@ -51,6 +51,7 @@ said_of_end d = record {
   number = d.number;
   quiet = d.quiet;
   short = d.short;
+  limited = d.limited;
 }
 
 abbrev pub said_by : {A : Type 0} → Draft A → Said

@@ -1,11 +1,11 @@
 //! The statements of a script up to the present line.
 ghost use Rattle.std.specs.Prelude.{◌≡◌, [], ◌∷◌, ◌++◌, OnOk, IfOk, IfErr, Some};
 ghost use Rattle.uug_script.specs.Fields.{hex_bytes};
-ghost use Rattle.uug_script.specs.Meaning.{place as placed_line, job as job_line, number as number_line, quiet as quiet_line, short as short_line, lenient as lenient_line, digest as digest_line, resume as resume_line};
+ghost use Rattle.uug_script.specs.Meaning.{place as placed_line, job as job_line, number as number_line, quiet as quiet_line, short as short_line, lenient as lenient_line, digest as digest_line, resume as resume_line, limit as limit_line};
 ghost use Rattle.uug_link.specs.Announced.{announced};
 ghost use Rattle.uug_script.specs.Code.Refusals.{Refuses};
-ghost use Rattle.uug_script.specs.Script.{end_added, flow_events, completed, end_completed, nothing_of_end, nothing_said};
-ghost use Rattle.uug_script.specs.ScriptOf.{file_added, end_line_added, line_added, text_added, said_of_end, said_by, place_by, end_said_by, script_said_by};
+ghost use Rattle.uug_script.specs.Script.{are_suited, end_added, flow_events, completed, end_completed, nothing_of_end, nothing_said};
+ghost use Rattle.uug_script.specs.ScriptOf.{file_added, end_line_added, line_added, text_added, said_of_end, said_by, place_by, end_said, end_said_by, script_said_by};
 
 use crate::fault::LineFault;
 use crate::fields::spells;
@@ -16,7 +16,7 @@ use hex::FromHexError;
 use std::alloc::{AllocError, Allocator};
 use uug_line::{EndSetup, Event, Setup, Side};
 use uug_link::Announce;
-use uug_session::{Job, MemorySpool, Queue, QueueFault, Spool};
+use uug_session::{FileLimit, Job, MemorySpool, Queue, QueueFault, Spool};
 use uug_talk::Name;
 
 /// The name of an end, and its announcement.
@@ -38,6 +38,8 @@ pub(crate) struct EndDraft<A: Allocator> {
     quiet: bool,
     /// True if its commands are short.
     short: bool,
+    /// True if the limit of its files was given.
+    limited: bool,
 }
 
 /// The statements of a script.
@@ -74,6 +76,7 @@ impl<A: Allocator + Copy> EndDraft<A> {
             number: None,
             quiet: false,
             short: false,
+            limited: false,
         }
     }
 
@@ -170,6 +173,20 @@ impl<A: Allocator + Copy> EndDraft<A> {
         Ok(())
     }
 
+    fn set_limit(&mut self, limit: FileLimit) -> Result<(), LineFault>
+        ensures ok { OnOk result
+            (end_added (limit_line limit.bytes) (said_of_end self.old) ≡ Some (said_of_end self.new)) }
+        ensures fault { IfErr result (λ fault.
+            Refuses fault (end_added (limit_line limit.bytes) (said_of_end self.old))) }
+    {
+        if self.limited {
+            return Err(LineFault::Bad);
+        }
+        self.spool.set_limit(limit);
+        self.limited = true;
+        Ok(())
+    }
+
     fn add_file(&mut self, alloc: A, name: Name, mode: Mode, hex: &[u8]) -> Result<(), LineFault>
         ensures ok { OnOk result
             (file_added name mode.bits hex.now (said_of_end self.old)
@@ -215,6 +232,7 @@ impl<A: Allocator + Copy> EndDraft<A> {
             EndStatement::Lenient => self.set_lenient(),
             EndStatement::Digest => self.set_digests(),
             EndStatement::Resume => self.set_resumes(),
+            EndStatement::Limit(limit) => self.set_limit(*limit),
         }
     }
 
@@ -229,6 +247,7 @@ impl<A: Allocator + Copy> EndDraft<A> {
             number,
             quiet,
             short,
+            ..
         } = self;
         let EndPlace { name, announce } = place?;
         Some(EndSetup {
@@ -306,7 +325,7 @@ impl<A: Allocator + Copy> Draft<A> {
         }
     }
 
-    /// Returns the script, or `None` if an end is not placed.
+    /// Returns the script, or `None` if an end is not placed, or gives a file that is too large for the other.
     pub(crate) fn complete(self) -> Option<Script<A>>
         ensures { script_said_by result ≡ completed (said_by self) }
     {
@@ -319,6 +338,18 @@ impl<A: Allocator + Copy> Draft<A> {
             caller: caller.complete()?,
             called: called.complete()?,
         };
+        if !are_suited(&setup) {
+            return None;
+        }
         Some(Script { setup, events })
     }
+}
+
+/// Returns whether no file that one end gives is too large for the other.
+fn are_suited<A: Allocator + Copy>(setup: &Setup<A>) -> bool
+    ensures { result ≡ are_suited (end_said setup.now.caller) (end_said setup.now.called) }
+{
+    let Setup { caller, called } = setup;
+    caller.spool.gives_within(called.spool.limit())
+        && called.spool.gives_within(caller.spool.limit())
 }

@@ -25,6 +25,8 @@ pub(crate) enum Field {
     Number,
     /// A byte in hexadecimal digits.
     Byte,
+    /// The bytes of the greatest file.
+    Limit,
 }
 
 impl Field {
@@ -41,6 +43,7 @@ impl Field {
             Field::Bytes => "hex",
             Field::Count | Field::Turns | Field::Number => "number",
             Field::Byte => "byte",
+            Field::Limit => "limit",
         }
     }
 
@@ -59,6 +62,7 @@ impl Field {
             Field::Turns => "0 to 100000",
             Field::Number => "0 to 4294967295",
             Field::Byte => "2 hexadecimal digits",
+            Field::Limit => "1 to 268435456",
         }
     }
 }

@@ -1,15 +1,16 @@
 //! Reads single words of a line.
 ghost use Rattle.std.specs.Prelude.{◌≡◌, ◌≤◌, IfSome};
 ghost use Rattle.std.specs.Str.{bytes_eq};
-ghost use Rattle.uug_script.specs.Fields.{side_of, mode_of_word, byte_of, window_of, announcement_of};
+ghost use Rattle.uug_script.specs.Fields.{side_of, mode_of_word, byte_of, window_of, announcement_of, limit_of_word};
 ghost use Rattle.uug_talk.specs.Name.{name_of};
-ghost use Rattle.uug_script.specs.Meaning.{announced_by, mode_bits};
+ghost use Rattle.uug_script.specs.Meaning.{announced_by, mode_bits, limit_bytes};
 
 use crate::mode::Mode;
 use hex::FromHex;
 use uug_line::Side;
 use uug_link::{Announce, MESSAGE_MAX, WINDOW_MAX};
-use uug_talk::{Name, read_mode, read_number};
+use uug_session::FileLimit;
+use uug_talk::{FILE_LIMIT_MAX, Name, read_mode, read_number};
 
 /// The most octal digits of a mode in a script.
 pub(crate) const MODE_DIGITS: usize = 4;
@@ -69,6 +70,13 @@ pub(crate) fn read_window(word: &[u8]) -> Option<u8>
         return None;
     }
     Some(window as u8)
+}
+
+/// Reads the limit of an end's files, 1 to `FILE_LIMIT_MAX`. `None` if the word is none.
+pub(crate) fn read_limit(word: &[u8]) -> Option<FileLimit>
+    ensures { limit_bytes result ≡ limit_of_word word.now }
+{
+    FileLimit::new(read_number(word, FILE_LIMIT_MAX as u32)? as usize)
 }
 
 /// Makes the announcement of a window and of the packet size in a word, if they are valid.

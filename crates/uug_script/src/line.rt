@@ -4,19 +4,19 @@ ghost use Rattle.std.specs.Result.{result_err, result_ok};
 ghost use Rattle.uug_talk.specs.Words.{words};
 ghost use Rattle.uug_script.specs.Complaints.{shown};
 ghost use Rattle.uug_script.specs.Meaning.{complaint_in, known, meaning_of, read_as};
-ghost use Rattle.uug_script.specs.ReadLine.{line_of, line_of_words, place_of, file_of, send_of, request_of, side_and_name, side_and_number, side_and_byte, one_side, call_of, flow_of, deny_of, later_of, immovable_of, number_line_of, quiet_of, short_of, lenient_of, digest_of, resume_of, pass_of, drop_of, flip_of, insert_of, timeout_of, hang_up_of, event_by, line_by};
+ghost use Rattle.uug_script.specs.ReadLine.{line_of, line_of_words, place_of, file_of, send_of, request_of, side_and_name, side_and_number, side_and_byte, one_side, call_of, flow_of, deny_of, later_of, immovable_of, number_line_of, quiet_of, short_of, lenient_of, digest_of, resume_of, limit_line_of, pass_of, drop_of, flip_of, insert_of, timeout_of, hang_up_of, event_by, line_by};
 
 use crate::complaint::Complaint;
 use crate::field::Field;
 use crate::fields::spells;
 use crate::mode::Mode;
 use crate::taking::{
-    announce_in, mode_in, name_in, read_copy, take_byte, take_end, take_hex, take_number,
+    announce_in, limit_in, mode_in, name_in, read_copy, take_byte, take_end, take_hex, take_number,
     take_side, take_window, take_word,
 };
 use uug_line::{Event, Side};
 use uug_link::Announce;
-use uug_session::Job;
+use uug_session::{FileLimit, Job};
 use uug_talk::{LINE_MAX, NUMBER_MAX, Name, split_word};
 
 /// The most bytes that one event passes or drops.
@@ -26,7 +26,7 @@ pub const BYTES_MAX: u32 = 1_000_000_000;
 pub const TURNS_MAX: u32 = 100_000;
 
 /// The statement of a line.
-#[derive(Clone, Copy, Debug)]
+#[derive(Clone, Copy)]
 pub(crate) enum Statement<'a> {
     /// A line without a word, or a comment.
     Nothing,
@@ -39,7 +39,7 @@ pub(crate) enum Statement<'a> {
 }
 
 /// A statement about an end's set-up.
-#[derive(Clone, Copy, Debug)]
+#[derive(Clone, Copy)]
 pub(crate) enum EndStatement<'a> {
     /// The name of the end, and its announcement.
     Place(Name, Announce),
@@ -65,6 +65,8 @@ pub(crate) enum EndStatement<'a> {
     Digest,
     /// The end does so, and resumes files that were cut off.
     Resume,
+    /// The bytes of the greatest file that the end sends or takes.
+    Limit(FileLimit),
 }
 
 /// Reads `caller NAME WINDOW SIZE`, or the same of the called end.
@@ -268,6 +270,17 @@ fn read_resume(text: &[u8]) -> Result<Statement<'_>, Complaint<'_>>
     Ok(Statement::End(side, EndStatement::Resume))
 }
 
+/// Reads `limit SIDE N`.
+fn read_limit_line(text: &[u8]) -> Result<Statement<'_>, Complaint<'_>>
+    ensures { read_as result ≡ known (limit_line_of (words text.now)) }
+{
+    let (side, rest) = take_side(text)?;
+    let (word, rest) = take_word(Field::Limit, rest)?;
+    let limit = limit_in(word)?;
+    take_end(rest)?;
+    Ok(Statement::End(side, EndStatement::Limit(limit)))
+}
+
 /// Reads `pass SIDE N`.
 fn read_pass(text: &[u8]) -> Result<Statement<'_>, Complaint<'_>>
     ensures { read_as result ≡ known (pass_of (words text.now)) }
@@ -348,6 +361,8 @@ fn read_by<'a>(first: &'a [u8], rest: &'a [u8]) -> Result<Statement<'a>, Complai
         read_digest(rest)
     } else if spells(first, b"resume") {
         read_resume(rest)
+    } else if spells(first, b"limit") {
+        read_limit_line(rest)
     } else {
         read_event(first, rest)
     }

@@ -115,7 +115,7 @@ fn line_at(script: &[u8], number: usize) -> Option<&[u8]>
 }
 
 /// Returns a text for the first error in the first bad line of a script, whose number is counted from 1. The number
-/// after the last line is that of an end that is not set up.
+/// after the last line is that of an end that is not set up, or gives a file that is too large for the other.
 pub fn script_remark<A: Allocator>(
     alloc: A,
     script: &[u8],
@@ -125,12 +125,12 @@ pub fn script_remark<A: Allocator>(
 {
     let mut text = String::new(alloc);
     let Some(line) = line_at(script, number) else {
-        text.push_str("caller or called is missing")?;
+        text.push_str("caller or called is missing, or gives a file that is too large for the other")?;
         return Ok(text);
     };
     match &read_line(line) {
         Ok(_) => text.push_str(
-            "the end is set up, numbered, quiet, short, lenient, telling digests or resuming already, or has 1024 jobs",
+            "the end is set up, numbered, quiet, short, lenient, telling digests, resuming or limited already, or has 1024 jobs",
         )?,
         Err(complaint) => add_complaint(&mut text, complaint)?,
     }

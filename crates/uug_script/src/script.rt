@@ -18,7 +18,7 @@ pub struct Script<A: Allocator> {
 }
 
 /// Reads a script. Returns the number of the first bad line as the error, or that of the line after the last one if an
-/// end is not placed.
+/// end is not placed, or gives a file that is too large for the other.
 pub fn read_script<A: Allocator + Copy>(alloc: A, text: &[u8]) -> Result<Script<A>, ScriptFault>
     // What is read is what the text says.
     ensures script { IfOk result (λ script. IsScript text.now (script_said script)) }

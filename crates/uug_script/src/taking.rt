@@ -7,17 +7,19 @@ ghost use Rattle.uug_talk.specs.Name.{name_of};
 ghost use Rattle.uug_talk.specs.Words.{words};
 ghost use Rattle.uug_link.specs.Announced.{announced};
 ghost use Rattle.uug_script.specs.Complaints.{missing, shown, taken, wrong};
-ghost use Rattle.uug_script.specs.Fields.{announcement_of, bytes_of, hex_bytes, mode_of_word};
+ghost use Rattle.uug_script.specs.Fields.{announcement_of, bytes_of, hex_bytes, limit_of_word, mode_of_word};
 ghost use Rattle.uug_script.specs.ReadLine.{byte_at, copy_of, ends, hex_at, number_at, side_at, window_at};
 
 use crate::complaint::Complaint;
 use crate::field::Field;
 use crate::fields::{
-    read_announce, read_byte, read_name, read_short_mode, read_side, read_window, spells,
+    read_announce, read_byte, read_limit, read_name, read_short_mode, read_side, read_window,
+    spells,
 };
 use crate::mode::Mode;
 use uug_line::Side;
 use uug_link::Announce;
+use uug_session::FileLimit;
 use uug_talk::{Name, read_number, split_word};
 
 /// Takes a side.
@@ -78,6 +80,15 @@ pub(crate) fn announce_in(window: u8, word: &[u8]) -> Result<Announce, Complaint
     ensures wrong { IfErr result (λ fault. shown fault ≡ wrong Field.Size word.now) }
 {
     read_announce(window, word).ok_or(Complaint::Wrong(Field::Size, word))
+}
+
+/// Reads the word as the limit of an end's files.
+pub(crate) fn limit_in(word: &[u8]) -> Result<FileLimit, Complaint<'_>>
+    ensures limit { MatchResult result (λ limit. limit_of_word word.now ≡ Some limit.bytes)
+        (λ fault. limit_of_word word.now ≡ None) }
+    ensures wrong { IfErr result (λ fault. shown fault ≡ wrong Field.Limit word.now) }
+{
+    read_limit(word).ok_or(Complaint::Wrong(Field::Limit, word))
 }
 
 /// Reads the word as a mode.

@@ -121,10 +121,10 @@ fails h l before = subst (λ s. KeepsIn h s (goes_on h (moved_once fail l) befor
 
 -- ---- commands
 
-after_send : (h : Holdings) (v : Verdict) (front source target : List ℕ) (mode : ℕ) (told : Option FileDigest) (l : Lists) → KeepsIn h l.struck (on_send v front source target mode told l)
-after_send h Yes front source target mode told l = quiet h l.struck
-after_send h Never front source target mode told l = quiet h l.struck
-after_send h Later front source target mode told l = quiet h l.struck
+after_send : (h : Holdings) (limit : ℕ) (v : Verdict) (front source target : List ℕ) (mode : ℕ) (told : Option FileDigest) (l : Lists) → KeepsIn h l.struck (on_send limit v front source target mode told l)
+after_send h limit Yes front source target mode told l = quiet h l.struck
+after_send h limit Never front source target mode told l = quiet h l.struck
+after_send h limit Later front source target mode told l = quiet h l.struck
 
 after_request : (h : Holdings) (digests : Bool) (file : Option File) (delayed : Bool) (l : Lists) → KeepsIn h l.struck (on_request digests file delayed l)
 after_request h digests None false l = quiet h l.struck
@@ -141,7 +141,7 @@ after_unread h _ _ l = quiet h l.struck
 
 after_order : (h : Holdings) (letter : Option ℕ) (told : Option FileDigest) (r : Result Order BadText) (l : Lists)
     → KeepsIn h l.struck (on_order h letter told r l)
-after_order h letter told (Ok (order.Send source target user temp mode)) l = after_send h (send_verdict h (h.landing source target) told)
+after_order h letter told (Ok (order.Send source target user temp mode)) l = after_send h h.limit (send_verdict h (h.landing source target) told)
     (front_of h (fetched_by source temp) told) (fetched_by source temp) (h.landing source target) mode told l
 after_order h letter told (Ok (order.Request source target user)) l = after_request h h.digests (to_give h source) (h.delayed source) l
 after_order h letter told (Ok order.HangUp) l = after_hang_up h (choice h l.ahead).next l (moved (choice h l.ahead).failing l) (chosen h l)
@@ -262,12 +262,12 @@ after_file_of h (job.Request source target user ∷ jobs) p s f mode told bytes 
 after_file_of h _ p s f mode told bytes = quiet h s
 
 after_file : (h : Holdings) (a : Awaits) (bytes : List ℕ) (l : Lists) → KeepsIn h l.struck (on_file h a bytes l)
-after_file h (awaits.SentFile source target mode told) bytes l =
+after_file h (awaits.SentFile source target mode told limit) bytes l =
     after_kept h (file_verdict h target told (front_of h source told ++ bytes))
     (record { name = target; mode = mode; bytes = front_of h source told ++ bytes }) l
-after_file h (awaits.AskedFile mode told) bytes l = after_file_of h l.ahead l.passed l.struck l.failed mode told bytes
-after_file h awaits.DroppedSentFile bytes l = quiet h l.struck
-after_file h awaits.DroppedAskedFile bytes l = fails h l (the_answer answer.DoneNever ∷ [])
+after_file h (awaits.AskedFile mode told limit) bytes l = after_file_of h l.ahead l.passed l.struck l.failed mode told bytes
+after_file h (awaits.DroppedSentFile limit) bytes l = quiet h l.struck
+after_file h (awaits.DroppedAskedFile limit) bytes l = fails h l (the_answer answer.DoneNever ∷ [])
 after_file h _ bytes l = quiet h l.struck
 
 -- ---- messages

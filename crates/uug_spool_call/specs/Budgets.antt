@@ -10,6 +10,7 @@ abbrev pub budget_after : Budget → (size : ℕ) → Budget
 budget_after b size = record {
   bytes = b.bytes - size;
   jobs = b.jobs - 1;
+  limit = b.limit;
   is_first = false;
   is_full = b.is_full || not (budget_fits b size);
 }

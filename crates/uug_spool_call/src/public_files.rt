@@ -12,7 +12,7 @@ use uug_failure::RunFault;
 use uug_session::{Side, Stored};
 use uug_spool::{Room, spot_of};
 use uug_spool_disk::{PublicListing, SpoolPaths, is_known, list_public, read_public};
-use uug_talk::{FILE_MAX, Name};
+use uug_talk::{FILE_LIMIT_MAX, Name};
 
 /// The most names of the public folder that are looked at.
 const PUBLIC_NAMES_MAX: usize = 1024;
@@ -99,7 +99,7 @@ fn add_file<A: Allocator + Copy, R: Files<File = File>>(
     if !is_given(name) {
         return Ok(());
     }
-    let most = FILE_MAX.min(usize::try_from(*room).unwrap_or(FILE_MAX));
+    let most = FILE_LIMIT_MAX.min(usize::try_from(*room).unwrap_or(FILE_LIMIT_MAX));
     let Some(bytes) = read_given(ungiven, alloc, rt, paths, name, most)? else {
         return Ok(());
     };

@@ -196,7 +196,6 @@ where
     ensures no_other { IfErr result IsFolderFault }
 {
     refuse_links(alloc, rt, paths)?;
-    let most = u64::from(call.most);
     let mut ungiven = Vec::new(alloc);
     let listing = look_at_public(&mut ungiven, alloc, rt, paths)?;
     let PublicListing {
@@ -214,7 +213,7 @@ where
         is_unknown,
     };
     let Arrivals { came, aside } = finish_arrivals(alloc, rt, paths, &mut public)?;
-    let mut work = read_work(alloc, rt, paths, &place.me, most)?;
+    let mut work = read_work(alloc, rt, paths, &place.me, call.allowance)?;
     work.aside = aside;
     add_public(
         &mut work.files,
@@ -224,7 +223,7 @@ where
         call.side,
         paths,
         files.as_slice(),
-        most,
+        call.allowance.bytes,
     )?;
     public.delayed = names_of(alloc, ungiven.as_slice())?;
     work.ungiven = ungiven;

@@ -4,6 +4,7 @@ ghost use Rattle.std.specs.Prelude.{◌≡◌, IfOk, MatchOption, None, Some, st
 ghost use Rattle.uug_spool_call.specs.PublicNames.{folder_of, public_beside, public_path, without_slash};
 
 use std::alloc::{AllocError, Allocator};
+use uug_folder::Allowance;
 use uug_mailbox::split_last;
 use uug_session::Side;
 use uug_spool_disk::SpoolPaths;
@@ -11,7 +12,7 @@ use uug_talk::Name;
 use uug_transfer::Thinning;
 
 /// The task of a call over a spool.
-#[derive(Clone, Copy, Debug, PartialEq, Eq)]
+#[derive(Clone, Copy)]
 pub struct SpoolCall<'a> {
     /// The side of this end: it calls, or is called.
     pub side: Side,
@@ -33,8 +34,8 @@ pub struct SpoolCall<'a> {
     pub is_resuming: bool,
     /// The packets that it leaves out of those it emits.
     pub thinning: Thinning,
-    /// The most bytes of all files of the jobs that it offers in a session.
-    pub most: u32,
+    /// How much of its files it reads for a session.
+    pub allowance: Allowance,
     /// True if it says on standard error what it puts off.
     pub is_loud: bool,
 }

@@ -18,8 +18,9 @@ use crate::work::{Unread, Work};
 use std::alloc::{AllocError, Allocator};
 use std::fs::File;
 use std::rt::Files;
+use uug_disk::PartialNotes;
 use uug_failure::SystemFailure;
-use uug_mailbox::{Came, Execution, MailSpool, PublicFolder, SpoolFolder, WorkStore, queue_of};
+use uug_mailbox::{Came, Execution, MailSettings, MailSpool, PublicFolder, SpoolFolder, WorkStore, queue_of};
 use uug_session::{Partials, Place, Spool, Stored};
 use uug_spool_disk::{SpoolDisk, SpoolPaths};
 use uug_talk::Name;
@@ -27,7 +28,8 @@ use uug_task::begin_end;
 use uug_transfer::{BufferedNode, FaultInjector};
 
 /// The files of an end over a spool.
-pub(crate) type SpoolFiles<'a, 'p, R, A> = MailSpool<SpoolDisk<'a, 'p, R, A>, A>;
+pub(crate) type SpoolFiles<'a, 'p, R, A> =
+    MailSpool<SpoolDisk<'a, 'p, R, A>, PartialNotes<'a, R, A>, A>;
 
 /// An end over a spool.
 #[derive(Drop)]
@@ -72,7 +74,7 @@ impl<'a, 'p, R: Files<File = File>, A: Allocator + Copy> SpoolEnd<'a, 'p, R, A> 
         ensures holdings { IfOk result (λ end.
             ⟦<SpoolFiles<'a, 'p, R, A> as Spool>⟧.holdings (spool_in end.buffered)
             ≡ mail_holdings call.now.is_lenient call.now.tells_digests
-            (shown_public public) work.partials (map kept_of work.files.items)) }
+            call.now.allowance.limit.bytes (shown_public public) work.partials (map kept_of work.files.items)) }
         ensures kept { IfOk result (λ end.
             ⟦<SpoolFiles<'a, 'p, R, A> as Spool>⟧.kept (spool_in end.buffered) ≡ []) }
         ensures came { IfOk result (λ end. came_of (spool_in end.buffered).folder ≡ came.items) }
@@ -95,6 +97,16 @@ impl<'a, 'p, R: Files<File = File>, A: Allocator + Copy> SpoolEnd<'a, 'p, R, A> 
                 return Err(AllocError);
             }
         };
+        let notes = match notes_of(alloc, rt, paths) {
+            Ok(notes) => notes,
+            Err(AllocError) => {
+                drop(public);
+                drop(came);
+                drop(work);
+                drop(queue);
+                return Err(AllocError);
+            }
+        };
         let Work {
             names,
             lines,
@@ -107,7 +119,8 @@ impl<'a, 'p, R: Files<File = File>, A: Allocator + Copy> SpoolEnd<'a, 'p, R, A> 
             partials,
             ..
         } = work;
-        let spool = files_over(alloc, rt, call, paths, came, files, public, partials);
+        let folder = SpoolFolder::new(SpoolDisk::new(alloc, rt, paths), came);
+        let spool = files_over(alloc, call, folder, files, public, partials, notes);
         let injector = FaultInjector::without_faults(call.thinning);
         match begin_end(alloc, call.side, place, queue, spool, injector) {
             Ok(buffered) => Ok(SpoolEnd {
@@ -141,32 +154,36 @@ impl<'a, 'p, R: Files<File = File>, A: Allocator + Copy> SpoolEnd<'a, 'p, R, A> 
     }
 }
 
+/// Returns the notebook of the folder in which the end holds files that were cut off.
+fn notes_of<'a, R: Files<File = File>, A: Allocator + Copy>(
+    alloc: A,
+    rt: &'a R,
+    paths: &SpoolPaths<A>,
+) -> Result<PartialNotes<'a, R, A>, AllocError> {
+    let path = paths.partial(alloc)?;
+    Ok(PartialNotes::new(alloc, rt, path))
+}
+
 /// The files that an end gives, over the folders in which it puts those that come.
 fn files_over<'a, 'p, R: Files<File = File>, A: Allocator + Copy>(
     alloc: A,
-    rt: &'a R,
     call: &SpoolCall<'_>,
-    paths: &'p SpoolPaths<A>,
-    came: Vec<Came<A>, A>,
+    folder: SpoolFolder<SpoolDisk<'a, 'p, R, A>, A>,
     files: Vec<Stored<A>, A>,
     public: PublicFolder<A>,
     partials: Option<Partials<A>>,
+    notes: PartialNotes<'a, R, A>,
 ) -> SpoolFiles<'a, 'p, R, A>
     ensures holdings { ⟦<SpoolFiles<'a, 'p, R, A> as Spool>⟧.holdings result
         ≡ mail_holdings call.now.is_lenient call.now.tells_digests
-        (shown_public public) partials (map kept_of files.items) }
+        call.now.allowance.limit.bytes (shown_public public) partials (map kept_of files.items) }
     ensures kept { ⟦<SpoolFiles<'a, 'p, R, A> as Spool>⟧.kept result ≡ [] }
-    ensures came { came_of result.folder ≡ came.items }
-    ensures marks { marks_of result.folder ≡ no_marks }
+    ensures folder { result.folder ≡ folder.entry }
 {
-    let folder = SpoolFolder::new(SpoolDisk::new(alloc, rt, paths), came);
-    MailSpool::new(
-        alloc,
-        files,
-        public,
-        folder,
-        partials,
-        call.is_lenient,
-        call.tells_digests,
-    )
+    let settings = MailSettings {
+        is_lenient: call.is_lenient,
+        tells_digests: call.tells_digests,
+        limit: call.allowance.limit,
+    };
+    MailSpool::new(alloc, files, public, folder, partials, notes, settings)
 }

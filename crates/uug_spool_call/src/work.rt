@@ -19,16 +19,17 @@ use std::fs::File;
 use std::rt::Files;
 use uug_conversation::has_name;
 use uug_failure::{Cause, RunFault};
+use uug_folder::Allowance;
 use uug_mailbox::{
     CommandText, Execution, OpenLine, add_file, held_lines, read_execution, read_offer, text_name,
 };
-use uug_session::{JOBS_MAX, Job, Partials, Stored};
+use uug_session::{FileLimit, JOBS_MAX, Job, Partials, Stored};
 use uug_spool::{
     Command, Fields, Room, SentFile, Spot, data_spot, execution_text, grade_of, has_option,
     read_command, work_order,
 };
 use uug_spool_disk::{SpoolPaths, list_room, read_source, read_spot, read_whole};
-use uug_talk::{FILE_MAX, NAME_MAX, Name, split_line};
+use uug_talk::{NAME_MAX, Name, split_line};
 
 /// The most bytes of a C. file.
 const COMMANDS_MAX: usize = 1_048_576;
@@ -50,6 +51,8 @@ struct Budget {
     bytes: u64,
     /// Limits the jobs.
     jobs: usize,
+    /// Limits the greatest file.
+    limit: FileLimit,
     /// Tells whether nothing is offered yet.
     is_first: bool,
     /// Tells whether nothing more is.
@@ -57,13 +60,20 @@ struct Budget {
 }
 
 impl Budget {
-    /// Returns the budget of a session whose files have at most so many bytes together.
-    fn of(bytes: u64) -> Self
-        ensures { result ≡ record { bytes = bytes; jobs = JOBS_MAX; is_first = true; is_full = false } }
+    /// Returns the budget of a session that reads so much of its files.
+    fn of(allowance: Allowance) -> Self
+        ensures { result ≡ record {
+          bytes = allowance.bytes;
+          jobs = JOBS_MAX;
+          limit = allowance.limit;
+          is_first = true;
+          is_full = false;
+        } }
     {
         Budget {
-            bytes,
+            bytes: allowance.bytes,
             jobs: JOBS_MAX,
+            limit: allowance.limit,
             is_first: true,
             is_full: false,
         }
@@ -131,14 +141,14 @@ pub(crate) fn read_work<A: Allocator + Copy, R: Files<File = File> + Alloc + Clo
     rt: &R,
     paths: &SpoolPaths<A>,
     me: &Name,
-    most: u64,
+    allowance: Allowance,
 ) -> Result<Work<A>, RunFault>
     ensures { IfErr result IsFolderFault }
 {
     let names = work_names(alloc, rt, paths)?;
     let there = data_names(alloc, rt, paths)?;
     let mut work = Work::none(alloc);
-    let mut budget = Budget::of(most);
+    let mut budget = Budget::of(allowance);
     for name in names.as_slice() {
         if budget.is_full {
             break;
@@ -538,9 +548,9 @@ fn add_sent<A: Allocator + Copy, R: Files>(
         return Ok(false);
     };
     let found = if !is_copy {
-        Ok(read_source(alloc, rt, paths, fields.source, FILE_MAX)?)
+        Ok(read_source(alloc, rt, paths, fields.source, budget.limit.bytes)?)
     } else if has_name(there, name.as_bytes()) {
-        read_spot(alloc, rt, paths, &data_spot(&name), FILE_MAX)
+        read_spot(alloc, rt, paths, &data_spot(&name), budget.limit.bytes)
     } else {
         Ok(None)
     };

@@ -3,8 +3,9 @@
 use crate::assertions::{assert_same_at, name};
 use std::alloc::Global;
 use std::process::Abort;
-use uug_mailbox::{MailSpool, PublicFolder, SpoolFolder};
-use uug_session::{KeepFault, Partials, Spool};
+use uug_folder::NoNotebook;
+use uug_mailbox::{MailSettings, MailSpool, PublicFolder, SpoolFolder};
+use uug_session::{FileLimit, KeepFault, Partials, Spool};
 use uug_spool::MemoryDisk;
 
 /// A source, a target, and the name of the file's place in the public folder.
@@ -34,7 +35,7 @@ fn public(rt: &impl Abort, alloc: Global) -> PublicFolder<Global> {
     }
 }
 
-pub type Files = MailSpool<MemoryDisk<Global>, Global>;
+pub type Files = MailSpool<MemoryDisk<Global>, NoNotebook, Global>;
 
 /// Returns a spool that holds this of files that were cut off.
 pub fn files(rt: &impl Abort, alloc: Global, partials: Option<Partials<Global>>) -> Files {
@@ -45,8 +46,12 @@ pub fn files(rt: &impl Abort, alloc: Global, partials: Option<Partials<Global>>)
         public(rt, alloc),
         folder,
         partials,
-        true,
-        false,
+        NoNotebook,
+        MailSettings {
+            is_lenient: true,
+            tells_digests: false,
+            limit: FileLimit::standard(),
+        },
     )
 }
 

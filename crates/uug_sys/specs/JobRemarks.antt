@@ -31,7 +31,7 @@ target_of (Request source target user) = target
 
 -- of the file of this name in `send` of this folder, which is too large or not there
 abbrev pub path_lack : (dir name : List ℕ) → (is_large : Bool) → List ℕ
-path_lack dir name true = dir ++ (codes "/send/" ++ (name ++ codes " is over the limit of 1048576 bytes"))
+path_lack dir name true = dir ++ (codes "/send/" ++ (name ++ codes " is larger than --file-limit"))
 path_lack dir name false = codes "no file " ++ (dir ++ (codes "/send/" ++ name))
 
 abbrev pub local_lack : (dir : List ℕ) → (large : List (List ℕ)) → Option (List ℕ) → List ℕ

@@ -8,7 +8,7 @@ use Rattle.uug_spool_call.specs.declared.spool_call.SpoolCall.{SpoolCall}
 use Rattle.uug_stream.specs.declared.fault.ToolFault.{ToolFault}
 use Rattle.uug_stream.specs.declared.fault.ToolFault.TheVariants.{Device}
 use Rattle.uug_sys.specs.SpoolLocks.{is_in_use}
-use Rattle.uug_task.specs.Tasks.{thinning_with}
+use Rattle.uug_task.specs.Tasks.{IsTask, thinning_with}
 use Rattle.uug_task.specs.declared.task.CallTask.{CallTask}
 
 -- a call is told what its task says
@@ -23,7 +23,8 @@ pub record IsCallOf (task : CallTask) (call : SpoolCall) : Type 0 where
   pub tells_digests : call.tells_digests ≡ task.tells_digests
   pub is_resuming : call.is_resuming ≡ task.is_resuming
   pub thinning : call.thinning ≡ thinning_with task.is_every_ack
-  pub most : call.most ≡ task.most
+  pub bytes : call.allowance.bytes ≡ task.most
+  pub limit : IsTask task → call.allowance.limit.bytes ≡ task.file_limit
   pub is_loud : call.is_loud ≡ task.is_loud
 
 -- ---- where there is no line

@@ -569,7 +569,7 @@ where
     let phase = node.phase();
     // A remark for which there is no memory is left out.
     let queue = node.queue();
-    let large = large_files(alloc, rt, task.dir, queue.failed()).unwrap_or(Vec::new(alloc));
+    let large = large_files(alloc, rt, task, queue.failed()).unwrap_or(Vec::new(alloc));
     let large = large.as_slice();
     let _ = remark_failed(alloc, remark, task.dir, large, node.spool(), queue.failed());
     let _ = remark_put_off(alloc, remark, phase, task.tells_digests, queue.pending());

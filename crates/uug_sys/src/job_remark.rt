@@ -217,7 +217,7 @@ fn path_lack<A: Allocator + Copy>(
 {
     let name = name.as_str();
     if is_large {
-        format!(in alloc; "{dir}/send/{name} is over the limit of 1048576 bytes")
+        format!(in alloc; "{dir}/send/{name} is larger than --file-limit")
     } else {
         format!(in alloc; "no file {dir}/send/{name}")
     }

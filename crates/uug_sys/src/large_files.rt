@@ -5,20 +5,21 @@ use std::fs;
 use std::rt::Files;
 use uug_folder::local_source;
 use uug_session::Job;
-use uug_talk::{FILE_MAX, Name};
+use uug_talk::Name;
+use uug_task::CallTask;
 
-/// Returns the names of the files of these jobs that are in `send` of this folder now, and over the limit.
+/// Returns the names of the files of these jobs that are in `send` of the folder of the task now, and over its limit.
 pub(crate) fn large_files<A: Allocator + Copy, R: Files>(
     alloc: A,
     rt: &R,
-    dir: &str,
+    task: &CallTask<'_>,
     jobs: &[Job],
 ) -> Result<Vec<Name, A>, AllocError> {
     let mut names = Vec::new(alloc);
     for job in jobs {
         if let Job::Send { source, .. } = job {
             if let Some(name) = local_source(source) {
-                if is_large(alloc, rt, dir, &name)? {
+                if is_large(alloc, rt, task, &name)? {
                     names.push(name)?;
                 }
             }
@@ -31,13 +32,14 @@ pub(crate) fn large_files<A: Allocator + Copy, R: Files>(
 fn is_large<A: Allocator + Copy, R: Files>(
     alloc: A,
     rt: &R,
-    dir: &str,
+    task: &CallTask<'_>,
     name: &Name,
 ) -> Result<bool, AllocError> {
+    let dir = task.dir;
     let name = name.as_str();
     let path = format!(in alloc; "{dir}/send/{name}")?;
     match fs::metadata(rt, path.as_str()) {
-        Ok(found) => Ok(found.is_file() && found.len() > FILE_MAX as u64),
+        Ok(found) => Ok(found.is_file() && found.len() > u64::from(task.file_limit)),
         Err(_) => Ok(false),
     }
 }

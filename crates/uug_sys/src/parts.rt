@@ -3,15 +3,16 @@ ghost use Rattle.std.specs.Prelude.{◌≡◌, ◌<◌, ◌≤◌, IfErr, IfOk, 
 ghost use Rattle.uug_conversation.specs.Jobs.{pending};
 ghost use Rattle.uug_failure.specs.Faults.{IsFolderFault, IsReadingFault};
 ghost use Rattle.uug_folder.specs.JobsText.{IsFrontOf};
+ghost use Rattle.uug_task.specs.Tasks.{IsTask};
 
 use crate::numbers::Numbers;
-use crate::resumed::read_held;
+use crate::resumed::{partial_path, read_held};
 use std::alloc::{AllocError, Allocator};
 use std::fs::File;
 use std::rt::Files;
 use std::time::Clock;
 use uug_disk::{
-    DirLock, Given, OpenJobs, SystemFolder, SystemJobs, SystemNumber, SystemText, open_jobs,
+    DirLock, Given, OpenJobs, PartialNotes, SystemFolder, SystemJobs, SystemNumber, SystemText, open_jobs,
     read_given, see_jobs,
 };
 use uug_failure::{EndText, RunFault, SystemFailure};
@@ -23,7 +24,8 @@ use uug_task::{CallTask, EndParts};
 use uug_transfer::TransferEnd;
 
 /// The files of an end in a folder of the system.
-type SystemSpool<'a, R, A> = LocalNames<SystemFolder<'a, R, A>, A>;
+type SystemSpool<'a, R, A> =
+    LocalNames<SystemFolder<'a, R, A>, PartialNotes<'a, R, A>, A>;
 
 /// An end over a folder of the system.
 pub(crate) type SystemEnd<'a, R, A> = TransferEnd<
@@ -42,7 +44,7 @@ pub(crate) type SystemParts<'a, R, A> = EndParts<
 >;
 
 /// Returns the first failed call of the system on the folder of an end: in `got`, else on its jobs or its number.
-pub(crate) fn failure_of<R: Files, A: Allocator + Copy>(
+pub(crate) fn failure_of<R: Files<File = File>, A: Allocator + Copy>(
     end: &SystemEnd<'_, R, A>,
 ) -> Option<SystemFailure>
     ensures jobs { 0 < end.now.jobs.file.file.faults.count → IsSome result }
@@ -111,7 +113,7 @@ fn see_given<A: Allocator + Copy, R: Files<File = File> + Eprint + Alloc + Clone
     ensures no_other { IfErr result IsFolderFault }
 {
     match see_jobs(alloc, rt, lock.dir(), jobs) {
-        Ok(()) => read_given(alloc, rt, lock, jobs, u64::from(task.most)),
+        Ok(()) => read_given(alloc, rt, lock, jobs, task.allowance()),
         Err(fault) => Err(fault),
     }
 }
@@ -119,7 +121,7 @@ fn see_given<A: Allocator + Copy, R: Files<File = File> + Eprint + Alloc + Clone
 /// Makes the parts of an end over the folder of the task, with these files to give, and the first of these jobs to
 /// offer.
 #[tactic(auto, using(crate::proofs::FrontLemmas::first_are_front))]
-fn make_parts<'a, A: Allocator + Copy, R: Files + Alloc + Clone + Drop>(
+fn make_parts<'a, A: Allocator + Copy, R: Files<File = File> + Alloc + Clone + Drop>(
     alloc: A,
     rt: &'a R,
     task: &CallTask<'a>,
@@ -134,6 +136,8 @@ fn make_parts<'a, A: Allocator + Copy, R: Files + Alloc + Clone + Drop>(
     ensures queue { IfOk result (λ parts. IsFrontOf parts.jobs.before.items parts.queue) }
     ensures lenient { IfOk result (λ parts. parts.spool.lenient ≡ task.now.is_lenient) }
     ensures digests { IfOk result (λ parts. parts.spool.digests ≡ task.now.tells_digests) }
+    ensures limit { IfOk result (λ parts.
+        IsTask task.now → parts.spool.limit.bytes ≡ task.now.file_limit) }
     ensures files { IfOk result (λ parts. parts.spool.files.files ≡ given.files.items) }
     ensures delayed { IfOk result (λ parts. parts.spool.delayed ≡ given.delayed.items) }
     ensures number { IfOk result (λ parts. parts.number.file.faults.count ≡ 0) }
@@ -161,7 +165,7 @@ fn make_parts<'a, A: Allocator + Copy, R: Files + Alloc + Clone + Drop>(
 }
 
 /// Returns the spool over the folder of the task, with these files to give, and others that it may give later.
-fn make_spool<'a, A: Allocator + Copy, R: Files + Alloc + Clone + Drop>(
+fn make_spool<'a, A: Allocator + Copy, R: Files<File = File> + Alloc + Clone + Drop>(
     alloc: A,
     rt: &'a R,
     task: &CallTask<'a>,
@@ -170,12 +174,16 @@ fn make_spool<'a, A: Allocator + Copy, R: Files + Alloc + Clone + Drop>(
 ) -> Result<SystemSpool<'a, R, A>, AllocError>
     ensures lenient { IfOk result (λ spool. spool.lenient ≡ task.now.is_lenient) }
     ensures digests { IfOk result (λ spool. spool.digests ≡ task.now.tells_digests) }
+    ensures limit { IfOk result (λ spool.
+        IsTask task.now → spool.limit.bytes ≡ task.now.file_limit) }
     ensures files { IfOk result (λ spool. spool.files.files ≡ files.items) }
     ensures delayed { IfOk result (λ spool. spool.delayed ≡ delayed.items) }
 {
     let folder = SystemFolder::looking(alloc, rt, task.end_dir())?;
+    let path = partial_path(alloc, task.dir)?;
+    let notes = PartialNotes::new(alloc, rt, path);
     let files = FolderSpool::new(alloc, files, folder);
-    let mut spool = LocalNames::new(alloc, files);
+    let mut spool = LocalNames::new(alloc, files, notes, task.allowance().limit);
     spool.set_delayed(delayed);
     spool.set_lenient(task.is_lenient);
     spool.set_digests(task.tells_digests);

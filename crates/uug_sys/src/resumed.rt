@@ -26,7 +26,7 @@ where
         return Ok(None);
     }
     let path = partial_path(alloc, task.dir)?;
-    let held = read_partials(alloc, rt, path.as_str(), u64::from(task.most))?;
+    let held = read_partials(alloc, rt, path.as_str(), task.allowance().held())?;
     Ok(Some(held))
 }
 
@@ -48,6 +48,6 @@ where
 }
 
 /// Returns the path of the folder in which an end holds them.
-fn partial_path<A: Allocator>(alloc: A, dir: &str) -> Result<String<A>, AllocError> {
+pub(crate) fn partial_path<A: Allocator>(alloc: A, dir: &str) -> Result<String<A>, AllocError> {
     format!(in alloc; "{dir}/partial")
 }

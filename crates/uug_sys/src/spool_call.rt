@@ -621,7 +621,7 @@ fn said_of<'a>(task: &CallTask<'a>) -> SpoolCall<'a>
         tells_digests: task.tells_digests,
         is_resuming: task.is_resuming,
         thinning: task.thinning(),
-        most: task.most,
+        allowance: task.allowance(),
         is_loud: task.is_loud,
     }
 }

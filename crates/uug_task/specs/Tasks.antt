@@ -3,7 +3,7 @@ use Rattle.std.specs.Prelude.{◌≡◌, ◌==◌, ◌≢◌, ◌<◌, ◌≤◌
 use Rattle.uug_link.specs.Announced.{Announced, announced}
 use Rattle.uug_link.specs.Terms.{IsSize, IsWindow, size_of_code}
 use Rattle.uug_talk.specs.Name.{IsName}
-use Rattle.uug_conversation.specs.Holdings.{Holdings, Kept}
+use Rattle.uug_conversation.specs.Holdings.{Holdings, IsLimit, Kept}
 use Rattle.uug_conversation.specs.Jobs.{Lists}
 use Rattle.uug_conversation.specs.declared.side.Side.{Side}
 use Rattle.uug_conversation.specs.declared.side.Side.TheVariants as sides
@@ -34,8 +34,7 @@ may_have sessions side line = sessions == 1
 abbrev pub has_place : (is_spool : Bool) → (peer : List ℕ) → Bool
 has_place is_spool peer = not is_spool || is_system_name peer
 
--- a task that may be run: its numbers are in their ranges, so that the largest file may go, its line is one, and its names are
--- names
+-- a task that may be run: its numbers are in their ranges, its line is one, and its names are names
 pub record IsTask (task : CallTask) : Type 0 where
   pub seconds : (0 < task.seconds) × (task.seconds ≤ SECONDS_MAX)
   pub speed : IfSome task.speed IsSpeed
@@ -44,6 +43,7 @@ pub record IsTask (task : CallTask) : Type 0 where
   pub window : IsWindow task.window
   pub size : IsSize task.size
   pub most : MOST_MIN ≤ task.most
+  pub file_limit : IsLimit task.file_limit
   pub line : line_of task.line.now ≢ None
   pub turns : IfSome (line_of task.line.now) (λ line. IsTrue (may_have task.sessions task.side line))
   pub me : IsName task.me.now

@@ -5,9 +5,10 @@ ghost use Rattle.uug_transfer.specs.LineNames.{line_of, shown, standard};
 
 use std::time::Duration;
 use uug_failure::EndDir;
+use uug_folder::Allowance;
 use uug_link::Announce;
 use uug_port::{Pace, SPEED_MAX, SPEED_MIN, packets};
-use uug_session::{Place, Side};
+use uug_session::{FileLimit, Place, Side};
 use uug_spool::is_system_name;
 use uug_talk::Name;
 use uug_transfer::{LineName, PatienceLimits, Thinning, read_line_name};
@@ -15,7 +16,7 @@ use uug_transfer::{LineName, PatienceLimits, Thinning, read_line_name};
 /// The maximum seconds that a line waits.
 pub const SECONDS_MAX: u32 = 600;
 
-/// The minimum for the bytes of files that an end offers in a session, if it has as many. Each file that may go fits.
+/// The minimum for the bytes of files that an end offers in a session, if it has as many.
 pub const MOST_MIN: u32 = 1_048_576;
 
 /// The maximum seconds that an end waits to be called.
@@ -76,6 +77,8 @@ pub struct CallTask<'a> {
     pub log: Option<&'a str>,
     /// The maximum total size of the files of the jobs that it offers in a session, in bytes.
     pub most: u32,
+    /// How many bytes the greatest file has that it gives or takes.
+    pub file_limit: u32,
     /// Set if its folder is a spool of Taylor UUCP.
     pub is_spool: bool,
     /// The public folder of a spool, if one is named.
@@ -117,6 +120,21 @@ impl<'a> CallTask<'a> {
         ensures { IsTrue result ↔ IsTask self.now }
     {
         read_terms(self).is_some()
+    }
+
+    /// Returns how much of its files its end reads for a session.
+    pub fn allowance(&self) -> Allowance
+        ensures bytes { result.bytes ≡ self.now.most }
+        ensures limit { IsTask self.now → result.limit.bytes ≡ self.now.file_limit }
+    {
+        let limit = match FileLimit::new(self.file_limit as usize) {
+            Some(limit) => limit,
+            None => FileLimit::standard(),
+        };
+        Allowance {
+            bytes: u64::from(self.most),
+            limit,
+        }
     }
 
     /// Returns what its end leaves out of what it emits.
@@ -195,6 +213,7 @@ pub fn read_terms<'a>(task: &CallTask<'a>) -> Option<Terms<'a>>
         || !is_within(task.wait, 1, WAIT_MAX)
         || !is_within(Some(task.sessions), 1, SESSIONS_MAX)
         || task.most < MOST_MIN
+        || FileLimit::new(task.file_limit as usize).is_none()
     {
         return None;
     }

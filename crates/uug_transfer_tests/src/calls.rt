@@ -10,6 +10,7 @@ mod keeping;
 mod memory_folder;
 mod memory_jobs;
 mod memory_text;
+mod notes;
 mod numbers;
 mod resumed;
 mod scenes;

@@ -161,6 +161,7 @@ pub record IsEndIn (entries : Entries) (task : CallTask) : Type 0 where
   pub report : IsWordIn entries (codes "report") task.report
   pub log : IsWordIn entries (codes "log") task.log
   pub most : task.most ≡ number_or_zero entries (codes "most")
+  pub file_limit : task.file_limit ≡ number_or_zero entries (codes "file-limit")
   pub is_spool : task.is_spool ≡ is_given entries (codes "spool")
   pub is_fail_status : task.is_fail_status ≡ is_given entries (codes "fail-status")
   pub public : IsWordIn entries (codes "public") task.public

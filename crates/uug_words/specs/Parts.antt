@@ -1,6 +1,7 @@
 -- The first part of a task that is wrong (this project's profile).
 use Rattle.std.specs.Prelude.{◌≢◌, ◌<◌, ◌≤◌, None, IfSome, IsTrue, ⊤}
 use Rattle.uug_link.specs.Terms.{IsSize, IsWindow}
+use Rattle.uug_conversation.specs.Holdings.{IsLimit}
 use Rattle.uug_port.specs.Timers.{IsSpeed}
 use Rattle.uug_task.specs.Tasks.{has_place, may_have}
 use Rattle.uug_task.specs.declared.task.CallTask.{CallTask}
@@ -8,7 +9,7 @@ use Rattle.uug_task.specs.declared.task.TheConstants.{MOST_MIN, SECONDS_MAX, SES
 use Rattle.uug_talk.specs.Name.{IsName}
 use Rattle.uug_transfer.specs.LineNames.{line_of}
 use Rattle.uug_words.specs.declared.part.Part.{Part}
-use Rattle.uug_words.specs.declared.part.Part.TheVariants.{Seconds, Speed, Wait, Sessions, Window, Size, Most, Line, Me, Peer, Place, Turns}
+use Rattle.uug_words.specs.declared.part.Part.TheVariants.{Seconds, Speed, Wait, Sessions, Window, Size, Most, FileLimit, Line, Me, Peer, Place, Turns}
 
 -- this part is as a task has to have it that may be run
 abbrev pub IsRight : CallTask → Part → Type 0
@@ -19,6 +20,7 @@ IsRight task Sessions = (0 < task.sessions) × (task.sessions ≤ SESSIONS_MAX)
 IsRight task Window = IsWindow task.window
 IsRight task Size = IsSize task.size
 IsRight task Most = MOST_MIN ≤ task.most
+IsRight task FileLimit = IsLimit task.file_limit
 IsRight task Line = line_of task.line.now ≢ None
 IsRight task Me = IsName task.me.now
 IsRight task Peer = IsName task.peer.now
@@ -29,7 +31,7 @@ abbrev pub RightTimes : CallTask → Type 0
 RightTimes task = IsRight task Seconds × IsRight task Speed × IsRight task Wait × IsRight task Sessions
 
 abbrev pub RightNumbers : CallTask → Type 0
-RightNumbers task = RightTimes task × IsRight task Window × IsRight task Size × IsRight task Most
+RightNumbers task = RightTimes task × IsRight task Window × IsRight task Size × IsRight task Most × IsRight task FileLimit
 
 -- all parts in front of it are right
 abbrev pub RightBefore : CallTask → Part → Type 0
@@ -40,6 +42,7 @@ RightBefore task Sessions = IsRight task Seconds × IsRight task Speed × IsRigh
 RightBefore task Window = RightTimes task
 RightBefore task Size = RightTimes task × IsRight task Window
 RightBefore task Most = RightTimes task × IsRight task Window × IsRight task Size
+RightBefore task FileLimit = RightTimes task × IsRight task Window × IsRight task Size × IsRight task Most
 RightBefore task Line = RightNumbers task
 RightBefore task Me = RightNumbers task × IsRight task Line
 RightBefore task Peer = RightNumbers task × IsRight task Line × IsRight task Me

@@ -112,6 +112,7 @@ file_rules =
     ∷ folder_rule (codes "locks") (codes "/var/lock")
     ∷ word_rule (codes "report") ∷ word_rule (codes "log")
     ∷ number_rule (codes "most") (codes "67108864")
+    ∷ number_rule (codes "file-limit") (codes "67108864")
     ∷ flag_rule (codes "spool") ∷ word_rule (codes "public")
     ∷ word_rule (codes "stats")
     ∷ verbose_rule ∷ []

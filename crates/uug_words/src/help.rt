@@ -185,6 +185,8 @@ pub const LOCKS: &str = "The folder of the lock files of terminal devices";
 pub const MOST: &str =
     "How many bytes the files that it offers in a session have together at most; what is left waits for the next";
 
+pub const FILE_LIMIT: &str = "How many bytes the greatest file has that it gives or takes";
+
 pub const SPOOL: &str = "DIR is a spool of Taylor UUCP, and this end is there in uucico's place";
 
 pub const PUBLIC: &str = "With --spool: the public folder; without it uucppublic beside DIR";

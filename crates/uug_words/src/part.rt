@@ -6,12 +6,9 @@ ghost use Rattle.uug_words.specs.Parts.{IsFirstWrong, IsRight};
 
 use uug_link::{Announce, WINDOW_MAX};
 use uug_port::{SPEED_MAX, SPEED_MIN};
-use uug_talk::{FILE_MAX, Name};
-use uug_task::{CallTask, SECONDS_MAX, SESSIONS_MAX, WAIT_MAX, has_place, may_have};
+use uug_talk::{FILE_LIMIT_MAX, Name};
+use uug_task::{CallTask, MOST_MIN, SECONDS_MAX, SESSIONS_MAX, WAIT_MAX, has_place, may_have};
 use uug_transfer::read_line_name;
-
-/// The minimum for the bytes of files that an end offers in a session, if it has as many. Each file that may go fits.
-const MOST_MIN: u32 = FILE_MAX as u32;
 
 /// A part of the task of one end.
 #[derive(Clone, Copy, Debug, PartialEq, Eq)]
@@ -30,6 +27,8 @@ pub enum Part {
     Size,
     /// The bytes of the files that it offers.
     Most,
+    /// The bytes of the greatest file that it gives or takes.
+    FileLimit,
     /// The name of its line.
     Line,
     /// Its name.
@@ -67,6 +66,9 @@ pub fn wrong_part(task: &CallTask<'_>) -> Option<Part>
     if !is_right(task, Part::Most) {
         return Some(Part::Most);
     }
+    if !is_right(task, Part::FileLimit) {
+        return Some(Part::FileLimit);
+    }
     if !is_right(task, Part::Line) {
         return Some(Part::Line);
     }
@@ -97,6 +99,7 @@ fn is_right(task: &CallTask<'_>, part: Part) -> bool
         Part::Window => is_within(Some(task.window), 1, u32::from(WINDOW_MAX)),
         Part::Size => is_size(task.size),
         Part::Most => task.most >= MOST_MIN,
+        Part::FileLimit => is_within(Some(task.file_limit), 1, FILE_LIMIT_MAX as u32),
         Part::Line => read_line_name(task.line).is_some(),
         Part::Me => Name::new(task.me.as_bytes()).is_ok(),
         Part::Peer => Name::new(task.peer.as_bytes()).is_ok(),

@@ -18,6 +18,9 @@ const SECONDS: &str = "10";
 /// The default maximum for the bytes of files that an end offers in a session.
 const MOST: &str = "67108864";
 
+/// The default for the bytes of the greatest file that an end gives or takes.
+const FILE_LIMIT: &str = "67108864";
+
 /// The default number of sessions of a called end.
 const SESSIONS: &str = "1";
 
@@ -241,6 +244,7 @@ fn with_files<'a>(alloc: Global, command: Command<'a>) -> Result<Command<'a>, Al
         .arg(named(alloc, "report", "FILE", help::REPORT))?
         .arg(named(alloc, "log", "FILE", help::LOG))?
         .arg(number(alloc, "most", "BYTES", help::MOST, MOST))?
+        .arg(number(alloc, "file-limit", "BYTES", help::FILE_LIMIT, FILE_LIMIT))?
         .arg(flag(alloc, "spool", help::SPOOL))?
         .arg(named(alloc, "public", "FOLDER", help::PUBLIC))?
         .arg(named(alloc, "stats", "FILE", help::STATS))?

@@ -18,6 +18,6 @@ given_in_range : (h : Holdings) → AreModes h → (source : Option (List ℕ)) 
 given_in_range h modes None = tt
 given_in_range h modes (Some name) = in_range (h.file name) (modes name)
 
-pub local_modes : (lenient digests : Bool) (delayed : List (List ℕ)) (partials : Option (List Partial)) (h : Holdings) → AreModes h
-    → AreModes (local_holdings lenient digests delayed partials h)
-local_modes lenient digests delayed partials h modes name file found = subst IsInRange found (given_in_range h modes (local_source name))
+pub local_modes : (lenient digests : Bool) (limit : ℕ) (delayed : List (List ℕ)) (partials : Option (List Partial)) (h : Holdings) → AreModes h
+    → AreModes (local_holdings lenient digests limit delayed partials h)
+local_modes lenient digests limit delayed partials h modes name file found = subst IsInRange found (given_in_range h modes (local_source name))

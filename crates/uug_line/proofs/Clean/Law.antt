@@ -180,7 +180,7 @@ module _ (setup : SetupValue) where
 
   announcements : (events : List Event) → AreOfTypes setup events → (side : Side) → IsAnnouncement (at side setup).own
   announcements events types side =
-      record { window = (types.sound side).window; size_code = (types.of_bytes side).size_code }
+      record { window = (types.sound.each side).window; size_code = (types.of_bytes side).size_code }
 
   pub owns : (events : List Event) → AreOfTypes setup events → (side : Side) →
       (end_at side (world setup events)).end.state.link.own ≡ (at side setup).own

@@ -7,7 +7,7 @@ use Rattle.uug_packet.specs.Packet.{PacketValue}
 use Rattle.uug_session.specs.declared.greeting.Greeting.{Greeting}
 use Rattle.uug_session.specs.EndStep.{hailing, first_link}
 use Rattle.uug_conversation.specs.Jobs.{at_start, pending}
-use Rattle.uug_conversation.specs.Party.{HoldFronts, Party, IsSound}
+use Rattle.uug_conversation.specs.Party.{Party, IsSound, Suit}
 use Rattle.uug_conversation.specs.DialogueState.{DialogueState, end_keeper, unopened}
 use Rattle.uug_session.specs.Told.{talk_behind}
 use Rattle.uug_conversation.specs.Turns.{other}
@@ -107,7 +107,7 @@ pub record EndsJoined (setup : SetupValue) (brought : AtBoth Belongings) (side :
 -- the windows are windows; what the ends bring to a session is to be offered from the first job on, and is sound
 pub record IsSoundSession (setup : SetupValue) (brought : AtBoth Belongings) : Type 0 where
   pub window : (side : Side) → IsWindow (at side setup).own.window
-  pub fronts : HoldFronts (party setup brought Caller) (party setup brought Called)
+  pub fronts : Suit (party setup brought Caller) (party setup brought Called)
   pub party : (side : Side) → IsSound (party setup brought side)
   pub renewed : (side : Side) → (at side brought).lists
       ≡ at_start (pending (at side brought).lists) (at side brought).lists.struck (at side brought).lists.failed

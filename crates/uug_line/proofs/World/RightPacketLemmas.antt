@@ -39,7 +39,7 @@ module _ (setup : SetupValue) (of_bytes : IsSetupOfBytes setup) where
   names_bytes side = all_bytes (at side setup).name (of_bytes side).name
 
   announces : IsSoundSetup setup → (side : Side) → IsAnnouncement (at side setup).own
-  announces sound side = record { window = (sound side).window; size_code = (of_bytes side).size_code }
+  announces sound side = record { window = (sound.each side).window; size_code = (of_bytes side).size_code }
 
   module _ (brought : AtBoth Belongings) (sound : IsSoundSession setup brought) where
     said_bytes : (me : Side)

@@ -31,7 +31,7 @@ by_in_range : {A : Type 0} (files : List (Stored A)) (name : List ℕ) (found : 
 by_in_range files name None h = at_in_range files (local_source name)
 by_in_range files name (Some file) h = h
 
-pub mail_modes : {A : Type 0} (lenient digests : Bool) (public : Public) (partials : Option (List Partial)) (files : List (Stored A))
-    → AreModes (mail_holdings lenient digests public partials (map kept_of files))
-mail_modes lenient digests public partials files name file found =
+pub mail_modes : {A : Type 0} (lenient digests : Bool) (limit : ℕ) (public : Public) (partials : Option (List Partial)) (files : List (Stored A))
+    → AreModes (mail_holdings lenient digests limit public partials (map kept_of files))
+mail_modes lenient digests limit public partials files name file found =
     subst IsInRange found (by_in_range files name (first_named (map kept_of files) name) (found_in_range files name))

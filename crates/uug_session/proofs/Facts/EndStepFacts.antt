@@ -5,6 +5,7 @@ use Rattle.uug_link.specs.State.{State, called_state, caller_state}
 use Rattle.uug_link.specs.Terms.{smallest_code}
 use Rattle.uug_link.specs.declared.phase.Phase.TheVariants as phases
 use Rattle.uug_packet.specs.Packet.{ControlValue, control, carry, close, rr, rj}
+use Rattle.uug_talk.specs.declared.gather.TheConstants.{FILE_MAX}
 use Rattle.uug_conversation.specs.declared.awaits.Awaits.{Awaits}
 use Rattle.uug_conversation.specs.declared.awaits.Awaits.TheVariants as awaits
 use Rattle.uug_session.specs.declared.end.End.TheVariants as ends
@@ -126,12 +127,12 @@ line_is_lost_after_that = record { out = refl; stands = refl }
 
 -- ---- the spool's device
 
-pub device_fails : Leads (after no_exception Called (link_of Called) (dialogue (awaits.SentFile q y 420 None) [] []) (device_fails_at []))
+pub device_fails : Leads (after no_exception Called (link_of Called) (dialogue (awaits.SentFile q y 420 None FILE_MAX) [] []) (device_fails_at []))
     (puts (rr 1) ∷ puts close ∷ []) (ended ends.SpoolFault)
 device_fails = record { out = refl; stands = refl }
 
 -- the spool is not asked where the file can't be put in its place, or where no file ends
-pub device_is_not_asked : Leads (after (fixed y) Called (link_of Called) (dialogue (awaits.SentFile q y 420 None) [] []) (device_fails_at []))
+pub device_is_not_asked : Leads (after (fixed y) Called (link_of Called) (dialogue (awaits.SentFile q y 420 None FILE_MAX) [] []) (device_fails_at []))
     (puts (rr 1) ∷ says (text (codes "CN5")) ∷ []) linked
 unfolding smallest_code
 device_is_not_asked = record { out = refl; stands = refl }

@@ -2,6 +2,7 @@
 
 ghost use Rattle.std.specs.Prelude.{[], map};
 ghost use Rattle.uug_conversation.specs.MemoryHoldings.{holdings_of, kept_of, no_holdings};
+ghost use Rattle.uug_conversation.specs.Code.StandardLimit.{standard_limit};
 ghost use Rattle.uug_conversation.specs.Code.StoredModes.{modes_in_range};
 
 use super::line::{Event, Hand, Line};
@@ -12,7 +13,7 @@ use std::alloc::{Allocator, Global};
 use std::process::Abort;
 use uug_digest::FileDigest;
 use uug_session::{End, FileView, KeepFault, Node, Queue, Spool, Stored, Verdict};
-use uug_talk::Name;
+use uug_talk::{FILE_MAX, Name};
 
 /// A spool with no file to give. It takes every file, and keeps it under its own name, wherever it is sent. Its device
 /// fails at the first file.
@@ -79,6 +80,8 @@ impl<A: Allocator + Copy> Spool for FaultySpool<A> {
         }
     }
 
+    fn note(&mut self, _source: &Name, _told: &FileDigest, _bytes: &[u8]) {}
+
     fn let_go(&mut self, _told: &FileDigest) {}
 
     fn is_lenient(&self) -> bool {
@@ -89,11 +92,17 @@ impl<A: Allocator + Copy> Spool for FaultySpool<A> {
         false
     }
 
+    fn limit(&self) -> usize {
+        FILE_MAX
+    }
+
     fn faults(&self) -> u64 {
         self.faults
     }
 
     ghost modes = { λ s. modes_in_range {A = Unit {0}} [] };
+
+    ghost limits = { λ s. standard_limit };
 }
 
 type FaultyNode = Node<FaultySpool<Global>, Global>;

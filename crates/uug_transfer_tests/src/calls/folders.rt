@@ -10,7 +10,8 @@ use std::process;
 use std::process::Abort;
 use std::rt::Files;
 use uug_disk::{SystemFolder, lock_dir, read_given, see_writable};
-use uug_folder::{Folder, read_jobs};
+use uug_folder::{Allowance, Folder, read_jobs};
+use uug_session::FileLimit;
 use uug_talk::Name;
 
 /// A folder, the jobs of its end, and how many bytes its files may have; then how many files are given, whether one of
@@ -124,7 +125,11 @@ fn given_at(
 ) -> uug_disk::Given<Global> {
     let queue = read_jobs(rt.alloc(), jobs.as_bytes()).expect(rt, "jobs");
     let lock = lock_dir(rt.alloc(), rt, first(dir)).expect(rt, "a lock");
-    let given = read_given(rt.alloc(), rt, &lock, queue.pending(), most);
+    let allowance = Allowance {
+        bytes: most,
+        limit: FileLimit::standard(),
+    };
+    let given = read_given(rt.alloc(), rt, &lock, queue.pending(), allowance);
     drop(lock);
     given.expect(rt, "files")
 }

@@ -6,11 +6,11 @@ use crate::calls::assertions::assert_same;
 use std::alloc::{AllocError, Global};
 use std::process::Abort;
 use uug_digest::FileDigest;
-use uug_folder::{FolderSpool, LocalNames};
-use uug_session::{PartialFile, Partials, Spool};
+use uug_folder::{FolderSpool, LocalNames, NoNotebook};
+use uug_session::{FileLimit, PartialFile, Partials, Spool};
 use uug_talk::Name;
 
-type Files = LocalNames<MemoryFolder, Global>;
+type Files = LocalNames<MemoryFolder, NoNotebook, Global>;
 
 /// The bytes of the file that have come.
 const FRONT: &[u8] = b"a f";
@@ -25,7 +25,8 @@ fn source(rt: &impl Abort) -> Name {
 
 fn files(alloc: Global) -> Files {
     let folder = MemoryFolder::new(alloc, NEVER);
-    LocalNames::new(alloc, FolderSpool::new(alloc, Vec::new(alloc), folder))
+    let files = FolderSpool::new(alloc, Vec::new(alloc), folder);
+    LocalNames::new(alloc, files, NoNotebook, FileLimit::standard())
 }
 
 fn partials(alloc: Global, source: Name) -> Result<Partials<Global>, AllocError> {

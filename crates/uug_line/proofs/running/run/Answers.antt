@@ -30,7 +30,7 @@ pub into_report-requires : goal.into_report-requires
 into_report-requires g c =
     let setup = setup_of c.args.setup in
     let events = c.args.events.now in
-    let types = c.look_at_setup.ensures in
+    let types = c.look_at_setup.ensures c.if-not-look_at_setup.false in
     let verdict = c.in-Ok.verdict in
     let parts = run_value c.go_through.new.self in
     let ended = c.in-Ok.ensures.ends setup (first_run by_themselves setup) c.in_ok-run.ensures in
@@ -47,7 +47,7 @@ pub returns : goal.returns
 returns g c =
     let setup = setup_of c.args.setup in
     let events = c.args.events.now in
-    let types = c.look_at_setup.ensures in
+    let types = c.look_at_setup.ensures c.if-not-look_at_setup.false in
     let sound = types.sound in
     let verdict = c.in-Ok.verdict in
     let parts = run_value c.go_through.new.self in

@@ -13,6 +13,7 @@ returns g c = record {
   sound = record {
     window = subst IsWindow c.window.ensures.value c.window.ensures.within;
     modes = modes_in_range c.args.end.now.spool.files.items;
+    limit = record { some = c.args.end.now.spool.limit.some; fits = c.args.end.now.spool.limit.fits };
     names = subst (All HasNames) c.pending.ensures.jobs c.pending.ensures.names;
     holds_none = none_again c.args.end.now.spool.partials;
   };

@@ -13,7 +13,7 @@ returns-clause-called_ran g c =
 
 pub returns-clause-gone_jobs : goal.returns-clause-gone_jobs
 returns-clause-gone_jobs g c = gone_done c.the_file_of_a_job_that_is_gone_was_kept.ensures _ _ _ _ _ _
-    c.in-Ok.ensures.sound c.in-Ok-begin.ensures.sound refl refl
+    c.in-Ok.ensures.sound c.in-Ok-begin.ensures.sound refl refl refl
     (none_struck _ _ c.args.parts.caller_read) (none_struck _ _ c.args.parts.called_read)
     (runs_on _ _ _ _ _ _ _ _ c.in-Ok.ensures.holdings c.in-Ok.ensures.ran c.run_ends-answer.ensures.caller_led)
     (runs_on _ _ _ _ _ _ _ _ c.in-Ok-begin.ensures.holdings c.in-Ok-begin.ensures.ran c.run_ends-answer.ensures.called_led)

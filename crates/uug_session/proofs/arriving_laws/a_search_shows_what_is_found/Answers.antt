@@ -15,4 +15,4 @@ returns-clause-none c = nothing_found
 
 pub returns-clause-rests : goal.returns-clause-rests
 returns-clause-rests c =
-    searched_rests (record { file = λ name. None; delayed = λ name. false; verdict = λ name. verdicts.Yes; immovable = λ name. false; landing = λ source target. target; partials = None; lenient = false; digests = false })
+    searched_rests (record { file = λ name. None; delayed = λ name. false; verdict = λ name. verdicts.Yes; immovable = λ name. false; landing = λ source target. target; partials = None; lenient = false; digests = false; limit = 0 })

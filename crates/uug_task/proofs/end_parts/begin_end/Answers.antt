@@ -5,6 +5,7 @@ pub returns-clause-sound : goal.returns-clause-sound
 returns-clause-sound g c = record {
   window = c.note_types.ensures.window;
   modes = g.met.S.Spool.modes c.args.spool;
+  limit = g.met.S.Spool.limits c.args.spool;
   names = c.note_types.ensures.names;
   ahead = refl;
 }

@@ -9,7 +9,8 @@ returns c before is =
     let report = adds_behind locks c.in_ok-arg-3.ensures c.named.ensures in
     let log = adds_behind report c.in_ok-arg-4.ensures c.named-2.ensures in
     let most = adds_behind log c.in_ok-arg-5.ensures c.number.ensures in
-    let spool = adds_behind most c.in_ok-arg-6.ensures c.flag-2.ensures in
-    let public = adds_behind spool c.in_ok-arg-7.ensures c.named-3.ensures in
-    let stats = adds_behind public c.in_ok-arg-8.ensures c.named-4.ensures in
-    IfOk-weaker c.arg-9.result _ _ (λ made step. (adds_behind stats step c.verbose.ensures).is) c.arg-9.ensures
+    let limit = adds_behind most c.in_ok-arg-6.ensures c.number-2.ensures in
+    let spool = adds_behind limit c.in_ok-arg-7.ensures c.flag-2.ensures in
+    let public = adds_behind spool c.in_ok-arg-8.ensures c.named-3.ensures in
+    let stats = adds_behind public c.in_ok-arg-9.ensures c.named-4.ensures in
+    IfOk-weaker c.arg-10.result _ _ (λ made step. (adds_behind stats step c.verbose.ensures).is) c.arg-10.ensures

@@ -9,6 +9,6 @@ use Rattle.uug_spool_call.proofs.spool_end.SpoolEnd.begin.Goals as goal
 pub returns-in-Ok-begin_end-clause-ran : goal.returns-in-Ok-begin_end-clause-ran
 returns-in-Ok-begin_end-clause-ran g c =
     began_soundly _ _ _ _ _
-    (ap (λ (s : MailSpool _ _). mail_holdings s.lenient s.digests (shown_public s.public) s.partials (map kept_of s.given.items))
+    (ap (λ (s : MailSpool _ _ _). mail_holdings s.settings.is_lenient s.settings.tells_digests s.settings.limit.bytes (shown_public s.public) s.partials (map kept_of s.given.items))
     (sym c.in-Ok-begin_end.ensures.spool))
     c.in-Ok-begin_end.ensures.sound c.in-Ok-begin_end.ensures.ran
