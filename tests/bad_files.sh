@@ -95,7 +95,7 @@ prepare() {
         mkdir "$work/$at/got/f"
         echo "request y f u" >>"$work/$at/jobs"
         wants_failed="$(side "$at") failed request y f u"
-        wants_told="uucpair: request y f u: not given by the other end, or not to be put in its place here"
+        wants_told="uucpair: request y f u: not given by the other end: no such file in its send, or one that may not go; or not to be put in its place here"
         ;;
     long)
         name=$(printf 'n%.0s' {1..100})

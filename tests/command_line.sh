@@ -13,6 +13,7 @@ line_feed='
 '
 usage="uucpair: bad usage${line_feed}uucpair: "
 device="uucpair: device fault$line_feed"
+uncalled="heard nothing (is the other end calling? a terminal has to be raw: stty raw -echo)"
 
 # row NAME STATUS SAID PRINTED WORD..: runs the program with the words on standard input, by the function that `by` names,
 # if it does. What it says on standard error is SAID, to the last byte, or where `begins` is set begins with it: the parser's
@@ -504,7 +505,7 @@ row "a call of a stranger who knows the names" 1 "uucpair: this end keeps no num
     call "unix:$socket" "$a" --me a --peer b </dev/null
 wait "$answerer" || true
 holds "what the end says that a stranger called" "$work/answered" \
-    "uucpair: the number of this end is 2${line_feed}uucpair: heard nothing${line_feed}called gaveup pending 0 struck 0 failed 0$line_feed"
+    "uucpair: the number of this end is 2${line_feed}uucpair: $uncalled${line_feed}called gaveup pending 0 struck 0 failed 0$line_feed"
 holds "the called end's number after a stranger" "$b/number" "2$line_feed"
 echo 17 >"$a/number"
 answer_in_the_background --wait 4
@@ -512,7 +513,7 @@ row "a call with another number" 1 "uucpair: the number of this end is 17$line_f
     call "unix:$socket" "$a" --me a --peer b </dev/null
 wait "$answerer" || true
 holds "what the called end says of both numbers" "$work/answered" \
-    "uucpair: the number of this end is 2, that of the other end 17${line_feed}uucpair: heard nothing${line_feed}called gaveup pending 0 struck 0 failed 0$line_feed"
+    "uucpair: the number of this end is 2, that of the other end 17${line_feed}uucpair: $uncalled${line_feed}called gaveup pending 0 struck 0 failed 0$line_feed"
 folders "send x y u"
 printf 'seven\n' >"$a/number"
 row "a call with a bad number file" 2 "uucpair: bad number file${line_feed}uucpair: $a/number: not a number$line_feed" "" \
@@ -523,10 +524,11 @@ folders "send x y u"
 row "a call where nobody listens" 3 "${device}uucpair: unix:$socket: no such file or directory$line_feed" "" \
     call "unix:$socket" "$a" --me a --peer b </dev/null
 # EPERM: a regular file can't be waited for
-row "a call over what is no device" 3 "${device}uucpair: $a/jobs: not a terminal$line_feed" "" call "$a/jobs" "$a" --me a --peer b </dev/null
+row "a call over what is no device" 3 \
+    "${device}uucpair: $a/jobs: not a terminal (LINE is a terminal device, tcp:HOST:PORT, unix:PATH or -)$line_feed" "" call "$a/jobs" "$a" --me a --peer b </dev/null
 holds "the job that is left after no call" "$a/jobs" "send x y u$line_feed"
 
-by=at_a_terminal row "an answer at a terminal" 1 "uucpair: waiting on unix:$socket${line_feed}uucpair: heard nothing$line_feed" \
+by=at_a_terminal row "an answer at a terminal" 1 "uucpair: waiting on unix:$socket${line_feed}uucpair: $uncalled$line_feed" \
     "called gaveup pending 0 struck 0 failed 0$line_feed" answer "unix:$socket" "$b" --me b --peer a --wait 1 --timeout 1
 # announces NAME SIZE [OPTION]..: the end that is called announces packets of this size, to a caller of whom the greeting and
 # the start of the link come at once: INITA 7, INITB 64 and INITC 7.

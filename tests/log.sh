@@ -52,7 +52,7 @@ answer_at --log far.log
 call_at --log near.log
 end_of "$answerer" 20
 fault=
-[ "$(cat near.err)" = "uucpair: request none none me: not given by the other end, or not to be put in its place here
+[ "$(cat near.err)" = "uucpair: request none none me: not given by the other end: no such file in its send, or one that may not go; or not to be put in its place here
 uucpair: send none ~/n me: no file near/send/none" ] || fault="the caller said $(cat near.err);"
 logged "a caller" near.log "uucpair far - Calling system far (port unix:line)
 uucpair far - Sending x (15 bytes)
@@ -108,7 +108,7 @@ end_of "$answerer" 20
 logged "a stranger at the called end, and then nobody" far.log "uucpair - - Incoming call (login - port unix:line)
 uucpair near - ERROR: refused: heard \"Sother\", expected \"near\"
 uucpair near - Call complete (0 seconds 0 bytes 0 bps)
-uucpair near - ERROR: gaveup: heard nothing"
+uucpair near - ERROR: gaveup: heard nothing (is the other end calling? a terminal has to be raw: stty raw -echo)"
 logged "the stranger" near.log "uucpair far - Calling system far (port unix:line)
 uucpair far - ERROR: refused: the other end refused: \"RYou are unknown to me\" (it does not know the name of this end)
 uucpair far - Call complete (0 seconds 0 bytes 0 bps)"

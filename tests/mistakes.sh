@@ -86,7 +86,20 @@ mistake "no such host" 3 "${fault}tcp:nobody.invalid:540: unknown host" "${call[
 call_of /dev/ttyNONE a
 mistake "no such device" 3 "${fault}/dev/ttyNONE: no such file or directory" "${call[@]}"
 call_of a unix:line
-mistake "line and folder exchanged" 3 "${fault}unix:line: no such file or directory" "${call[@]}"
+exchanged="(LINE and DIR look exchanged: give LINE first)"
+mistake "line and folder exchanged" 3 "${fault}unix:line: no such file or directory $exchanged" "${call[@]}"
+call_of a /dev/ttyNONE
+mistake "a device and a folder exchanged" 3 "${fault}/dev/ttyNONE: no such file or directory $exchanged" "${call[@]}"
+call_of a /dev/null
+mistake "a device that is there and a folder exchanged" 3 "${fault}/dev/null: not a directory $exchanged" "${call[@]}"
+call_of a -
+mistake "standard input and a folder exchanged" 3 "${fault}-: no such file or directory $exchanged" "${call[@]}"
+mistake "a port and a folder exchanged" 3 "${fault}tcp:4000: no such file or directory $exchanged" \
+    answer a tcp:4000 --me alpha --peer beta
+mistake "a port and a spool exchanged" 3 "${fault}tcp:4000: no such file or directory $exchanged" \
+    answer a tcp:4000 --me alpha --spool --locks .
+call_of unix:line none
+mistake "a folder that is not there" 3 "${fault}none: no such file or directory" "${call[@]}"
 : >"$work/taken"
 mistake "a place of a socket that is taken" 3 "${fault}unix:taken: address in use" answer unix:taken a --me alpha --peer beta
 mistake "the same of a pair" 3 "${fault}taken: address in use" pair taken a b -v
@@ -104,15 +117,22 @@ chmod 0 "$work/device"
 call_of ./device a
 mistake "no right to a device" 3 "${fault}./device: permission denied" "${call[@]}"
 chmod 666 "$work/device"
-mistake "a file that is no device" 3 "${fault}./device: not a terminal" "${call[@]}"
+forms="(LINE is a terminal device, tcp:HOST:PORT, unix:PATH or -)"
+mistake "a file that is no device" 3 "${fault}./device: not a terminal $forms" "${call[@]}"
 call_of /dev/null a
-mistake "a device that is no terminal" 3 "${fault}/dev/null: not a terminal" "${call[@]}"
+mistake "a device that is no terminal" 3 "${fault}/dev/null: not a terminal $forms" "${call[@]}"
+call_of b a
+mistake "a folder for the line" 3 "${fault}b: is a directory $forms" "${call[@]}"
+
+raw="a terminal has to be raw: stty raw -echo"
+uncalled="heard nothing (is the other end calling? $raw)"
+unanswered="heard nothing (is the other end answering? $raw)"
 
 # waiting LINE SAID: who waits there is told so at the start.
 waiting() {
     (cd "$work" && "${as_user[@]}" timeout 60 "$program" answer "$1" a --me alpha --peer beta --wait 1 --timeout 1) \
         >"$work/printed" 2>"$work/said" </dev/null || true
-    if [ "$(cat "$work/said")" = "${2:+uucpair: $2$'\n'}uucpair: heard nothing" ]; then
+    if [ "$(cat "$work/said")" = "${2:+uucpair: $2$'\n'}uucpair: $uncalled" ]; then
         passed=$((passed + 1))
     else
         failed=$((failed + 1))
@@ -134,7 +154,8 @@ mistake "no folder" 3 "${fault}none: no such file or directory" answer unix:s no
 mistake "a file for a folder" 3 "${fault}a/jobs: not a directory" answer unix:s a/jobs --me alpha --peer beta
 rmdir "$work/a/got"
 call_of unix:none a
-mistake "no folder for what comes" 3 "${fault}a/got: no such file or directory" "${call[@]}"
+mistake "no folder for what comes" 3 \
+    "${fault}a/got: no such file or directory (make it; only a spool, with --spool, has none)" "${call[@]}"
 mkdir "$work/a/got"
 chmod 0 "$work/a/jobs"
 mistake "no right to the jobs" 3 "${fault}a/jobs: permission denied" "${call[@]}"
@@ -205,7 +226,9 @@ failing "a file that is too large" "a/send/large is larger than --file-limit" "s
 failing "a path for a file" "a source is a name: NAME or ~/NAME" "send send/x ~/y me"
 failing "a target below a folder" "refused by the other end: in a folder a target is a name, NAME or ~/NAME" "send x ~/dir/y me"
 failing "a target here that is hidden" "a target is a name: NAME or ~/NAME, without a dot in front" "request y .y me"
-failing "no such file at the other end" "not given by the other end, or not to be put in its place here" "request none ~/y me"
+failing "no such file at the other end" \
+    "not given by the other end: no such file in its send, or one that may not go; or not to be put in its place here" \
+    "request none ~/y me"
 
 # counted STATUS WORD..: a call of which a job fails ends so.
 counted() {
@@ -317,11 +340,41 @@ speaker '\r\nlogin: '
 unhappy "a getty" gaveup 'heard 9 bytes and no text: "\x0d\x0alogin: "' "${alpha[@]}"
 folders "send x ~/y me"
 speaker ''
-unhappy "nobody who says anything" gaveup 'heard nothing' "${alpha[@]}"
+unhappy "nobody who says anything" gaveup "$unanswered" "${alpha[@]}"
+folders "send x ~/y me"
+speaker '\x10Shere=beta\0'
+unhappy "an end that can't hear" gaveup "heard \"Shere=beta\", and then no answer ($raw, at the other end too)" "${alpha[@]}"
+folders "send x ~/y me"
+speaker '\r'
+unhappy "another end that calls" gaveup \
+    'heard 1 bytes and no text: "\x0d" (line ends alone: both ends call, or a terminal is not raw: stty raw -echo)' "${alpha[@]}"
 folders "send x ~/y me"
 refusing "a stranger who calls" 'heard "Sgamma", expected "alpha"' \
     unhappy "a name that the other end does not know" refused \
     'the other end refused: "RYou are unknown to me" (it does not know the name of this end)' --me gamma --peer beta
+
+# saying TEXT: who calls says this, and then nothing more.
+saying() {
+    python3 -c 'import socket, sys
+stream = socket.socket(socket.AF_UNIX)
+stream.connect(sys.argv[1])
+stream.sendall(sys.argv[2].encode().decode("unicode_escape").encode("latin-1"))
+stream.shutdown(socket.SHUT_WR)
+while stream.recv(4096):
+    pass' "$work/line" "$1"
+}
+
+folders
+refusing "another end that answers" \
+    'heard "Shere=alpha", expected "alpha" (one end has to call, and both answer; or a terminal echoes: stty raw -echo)' \
+    saying '\x10Shere=alpha\0'
+folders
+refusing "a terminal that echoes" \
+    'heard 15 bytes and no text: "\x0d^PShere=beta^@" (a terminal echoes: stty raw -echo, at the other end too)' \
+    saying '\r^PShere=beta^@'
+folders
+refusing "a terminal that is not raw" \
+    'heard 1 bytes and no text: "\x0a" (line ends alone: both ends call, or a terminal is not raw: stty raw -echo)' saying '\n'
 
 folders "send x ~/y me"
 speaker '\x10Shere=beta\0'
@@ -398,7 +451,7 @@ spooled "a spool's call of an end that is busy" 'refused: the other end refused:
     '\x10Shere=beta\0' '\x10RLCK\0'
 spooled "a spool's call of an end without the protocol" 'noprotocol: no protocol g: heard "Pxyz"' \
     '\x10Shere=beta\0' '\x10ROK\0\x10Pxyz\0'
-spooled "a spool's call of one who says nothing" 'gaveup: heard nothing' ''
+spooled "a spool's call of one who says nothing" "gaveup: $unanswered" ''
 spooled "a spool's call of a getty" 'gaveup: heard 9 bytes and no text: "\x0d\x0alogin: "' '\r\nlogin: '
 
 folders
@@ -451,10 +504,25 @@ folders
 mistake "no file to list" 3 "${fault}can't read none"$'\n'"none: no such file or directory" scan -v none
 mistake "a folder to play" 3 "${fault}can't read a"$'\n'"a: is a directory" play -v a
 mistake "nothing to queue in" 3 "${fault}none: no such file or directory" queue none
+queue="uucpair queue DIR"
+mistake "an order without its file" 2 "${usage}FILE is missing: $queue send FILE" queue a send
+mistake "a request without its file" 2 "${usage}FILE is missing: $queue request FILE" queue a request
+mistake "a word that is no order to queue" 2 \
+    "${usage}\"get\" is neither send nor request: $queue send FILE, or $queue request FILE" queue a get x
+mistake "the order in front of the folder" 2 "${usage}DIR goes first: $queue send FILE" queue send a x
 mistake "no file to queue" 3 "${fault}can't read none"$'\n'"none: no such file or directory" queue a send none
 truncate -s 268435457 "$work/large"
 chmod 644 "$work/large"
 mistake "a file to queue that is too large" 3 "over a limit"$'\n'"large: too large" queue a send large
+
+folders "send x y me" "get x y me"
+for words in a "a send a/send/x" "a request x" "a --cancel 1"; do
+    # shellcheck disable=SC2086  # the words are several
+    mistake "bad jobs: queue $words" 2 "$jobs 2"$'\n''a/jobs: line 2: "get" is neither send nor request' queue $words
+done
+mapfile -t many < <(for ((i = 0; i < 1024; i++)); do echo "send x y me"; done)
+folders "${many[@]}"
+mistake "a job too many" 2 "$jobs 1025"$'\n'"a/jobs: 1024 jobs wait, the most that may: call, or cancel one" queue a send a/send/x
 
 # Two jobs with one target.
 folders

@@ -31,7 +31,7 @@ holds() {
 }
 
 forms() {
-    local d=$work/d long i
+    local d=$work/d long i bad
     mkdir -p "$d/send" "$work/files"
     echo one >"$work/files/x"
     echo two >"$work/x"
@@ -70,10 +70,10 @@ forms() {
     row "a pipe" 3 "" "can't read $work/pipe"$'\n'"uucpair: $work/pipe: not a regular file" "$d" send "$work/pipe"
     row "a hidden file" 2 "" "without a space or a dot in front" "$d" send "$work/.hidden"
     row "a file with a space" 2 "" "without a space or a dot in front" "$d" send "$work/a b"
-    row "no file is named" 2 "" "without a space or a dot in front" "$d" send
+    row "no file is named" 2 "" "FILE is missing: uucpair queue DIR send FILE" "$d" send
     row "a bad target" 2 "" "without a space" "$d" send "$work/x" 'a b'
     row "a bad user" 2 "" "without a space" "$d" send "$work/x" --user 'a b'
-    row "another order" 2 "" "what is queued is send or request" "$d" fetch x
+    row "another order" 2 "" "\"fetch\" is neither send nor request: uucpair queue DIR send FILE, or uucpair queue DIR request FILE" "$d" fetch x
     row "a folder that is not there" 3 "" "device fault"$'\n'"uucpair: $work/gone: no such file or directory" "$work/gone"
     row "a folder that is not there" 3 "" "device fault"$'\n'"uucpair: $work/gone: no such file or directory" "$work/gone" request q
     mkdir "$work/bare"
@@ -85,12 +85,13 @@ forms() {
     row "a name that a job has" 0 "queued send x.1 x me" "" "$work/e" send "$work/x" --user me
     holds "a line feed" "$work/e/jobs" $'send x y u\nsend x.1 x me'
     printf 'send x y u\nbad\n' >"$work/e/jobs"
-    row "bad jobs" 2 "" "bad jobs at line 2" "$work/e" send "$work/x"
-    row "the list of bad jobs" 2 "" "bad jobs at line 2" "$work/e"
-    row "a cancel in bad jobs" 2 "" "bad jobs at line 2" "$work/e" --cancel 1
+    bad="bad jobs at line 2"$'\n'"uucpair: $work/e/jobs: line 2: \"bad\" is neither send nor request"
+    row "bad jobs" 2 "" "$bad" "$work/e" send "$work/x"
+    row "the list of bad jobs" 2 "" "$bad" "$work/e"
+    row "a cancel in bad jobs" 2 "" "$bad" "$work/e" --cancel 1
     holds "bad jobs stay" "$work/e/jobs" $'send x y u\nbad'
     for ((i = 0; i < 1024; i++)); do echo "request q q u"; done >"$work/e/jobs"
-    row "a job too many" 2 "" "bad jobs at line 1025" "$work/e" send "$work/x"
+    row "a job too many" 2 "" "bad jobs at line 1025"$'\n'"uucpair: $work/e/jobs: 1024 jobs wait, the most that may: call, or cancel one" "$work/e" send "$work/x"
     # The copy before is gone with its job.
     [ -z "$(ls -A "$work/e/send")" ] || {
         failed=$((failed + 1))

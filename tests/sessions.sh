@@ -188,7 +188,7 @@ for name in w x y; do
     pause 2
     call_with "unix:$work/line" "$name" text
 done
-ends 1 "$done_line"$'\n'"$done_line"$'\n'"$done_line"$'\n'"$nobody" "uucpair: heard nothing"
+ends 1 "$done_line"$'\n'"$done_line"$'\n'"$done_line"$'\n'"$nobody" "uucpair: heard nothing (is the other end calling? a terminal has to be raw: stty raw -echo)"
 took=$((SECONDS - begun))
 [ "$took" -ge 8 ] && [ "$took" -le 12 ] || fault="$fault it took $took s;"
 [ ! -e "$work/line" ] || fault="$fault the socket is left;"

@@ -122,13 +122,13 @@ END
 scene
 said=$(count_bytes "$program" call "$work/near" --me near --peer far --timeout 1 --locks "$work/locks")
 fault=
-[ "$said" = "1 b'$(printf '\\r%.0s' 1 2 3 4 5 6 7 8)' b'uucpair: heard nothing\\n'" ] || fault="$said"
+[ "$said" = "1 b'$(printf '\\r%.0s' 1 2 3 4 5 6 7 8)' b'uucpair: heard nothing (is the other end answering? a terminal has to be raw: stty raw -echo)\\n'" ] || fault="$said"
 same "caller gaveup pending 1 struck 0 failed 0"$'\n' "$work/near.out" || fault="$fault printed $(cat "$work/near.out")"
 report "a call at which nobody is" "$fault"
 
 said=$(count_bytes "$program" answer "$work/far" --me far --peer near --wait 2 --timeout 1 --locks "$work/locks")
 fault=
-[ "$said" = "1 b'' b'uucpair: heard nothing\\n'" ] || fault="$said"
+[ "$said" = "1 b'' b'uucpair: heard nothing (is the other end calling? a terminal has to be raw: stty raw -echo)\\n'" ] || fault="$said"
 report "an end that nobody calls says nothing" "$fault"
 
 echo "$passed passed, $failed failed"

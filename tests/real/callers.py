@@ -5,6 +5,7 @@ import socket
 from lines import Cable, door_at
 from suite import Ends, filler, free_port, listens_at, names_in, report, said, scene, text_of, wait_until, write
 
+UNCALLED = "heard nothing (is the other end calling? a terminal has to be raw: stty raw -echo)"
 UNKNOWN = said('the other end refused: "RYou are unknown to me" (it does not know the name of this end)')
 
 
@@ -72,10 +73,10 @@ def a_port_scan_before_the_caller(one):
 def who_is_called_by_nobody(one):
     ends = Ends(one)
     ended = one.run(ends.words("answer", one.line, "--wait", "1", "--log", "log"), 20)
-    one.row("it ends in time", ended.all(), (1, report("called", "gaveup"), said("heard nothing")))
+    one.row("it ends in time", ended.all(), (1, report("called", "gaveup"), said(UNCALLED)))
     one.row("the socket is gone", os.path.lexists(one.path(one.line[5:])), False)
     ended = one.run(ends.words("answer", one.line, "--sessions", "5", "--wait", "1"), 20)
-    one.row("the same of one that has five sessions", ended.all(), (1, report("called", "gaveup"), said("heard nothing")))
+    one.row("the same of one that has five sessions", ended.all(), (1, report("called", "gaveup"), said(UNCALLED)))
 
 
 @scene()

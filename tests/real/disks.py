@@ -62,7 +62,7 @@ def folders_that_are_not_there(one):
     move = lambda name: (lambda ends, at: os.rename(ends.at(at, name), one.path("aside")), lambda ends,
             at: os.rename(one.path("aside"), ends.at(at, name)))
     for at in ("alpha", "beta"):
-        broken(one, "no got", at, *move("got"), "{at}/got: no such file or directory")
+        broken(one, "no got", at, *move("got"), "{at}/got: no such file or directory (make it; only a spool, with --spool, has none)")
         for end in ("alpha", "beta"):
             shutil.rmtree(one.path(end))
         broken(one, "no send", at, *move("send"), "{at}/send: no such file or directory")

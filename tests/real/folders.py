@@ -10,7 +10,8 @@ from datetime import datetime, timedelta, timezone
 
 from suite import Ends, FRONT, filler, free_port, masked, names_in, report, said, scene, text_of, wait_until, write
 
-NOT_GIVEN = "not given by the other end, or not to be put in its place here"
+NOT_GIVEN = ("not given by the other end: no such file in its send, or one that may not go; "
+             "or not to be put in its place here")
 
 
 def prepare(one, numbered=7):
@@ -112,13 +113,14 @@ def over_pipes(one):
 
 
 class Terminals:
-    """Two terminals that are raw, and what is written to either comes to the other."""
+    """Two terminals that are raw, but for the `cooked` one, and what is written to either comes to the other."""
 
-    def __init__(self):
+    def __init__(self, cooked=None):
         pairs = [pty.openpty() for _ in range(2)]
         self.masters, self.slaves = [pair[0] for pair in pairs], [pair[1] for pair in pairs]
-        for slave in self.slaves:
-            tty.setraw(slave)
+        for number, slave in enumerate(self.slaves):
+            if number != cooked:
+                tty.setraw(slave)
         self.names = [os.ttyname(slave) for slave in self.slaves]
         self.is_over = False
         self.mover = threading.Thread(target=self.move, daemon=True)
@@ -151,6 +153,30 @@ def over_terminals(one):
     judge(one, ends, caller, called.end(), (near, far))
     one.row("no lock file is left", names_in(one.path("locks")), [])
     terminals.close()
+
+
+@scene()
+def terminals_over_which_no_session_begins(one):
+    """Where both ends answer or call, or a terminal is not raw, each end says what to do."""
+    Ends(one)
+    os.mkdir(one.path("locks"))
+    ends_alone = "(line ends alone: both ends call, or a terminal is not raw: stty raw -echo)"
+    both = "(one end has to call, and both answer; or a terminal echoes: stty raw -echo)"
+    raw = "a terminal has to be raw: stty raw -echo"
+    for what, verbs, cooked, hints in (
+        ("both answer", ("answer", "answer"), None, (both, both)),
+        ("both call", ("call", "call"), None, (ends_alone, ends_alone)),
+        ("who answers is not raw", ("call", "answer"), 1, (f"and then no answer ({raw}, at the other end too)", ends_alone)),
+        ("who calls is not raw", ("call", "answer"), 0,
+         (f"(is the other end answering? {raw})", "(a terminal echoes: stty raw -echo, at the other end too)")),
+    ):
+        terminals = Terminals(cooked)
+        ends = [one.start([verb, name, me, "--me", me, "--peer", peer, "--locks", "locks", "--timeout", "1"])
+                for verb, name, me, peer in zip(verbs, terminals.names, ("alpha", "beta"), ("beta", "alpha"))]
+        for name, ended, hint in zip(("alpha", "beta"), [end.end(40) for end in ends], hints):
+            one.holds(f"{what}: what {name} says", ended.status == 1 and ended.err.startswith("uucpair: heard ")
+                      and ended.err.endswith(hint + "\n"), ended.err)
+        terminals.close()
 
 
 @scene()

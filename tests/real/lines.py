@@ -253,7 +253,7 @@ def a_line_that_is_silent(one):
         begun = time.monotonic()
         caller = ends.call("unix:mute", "--timeout", "1")
         took = time.monotonic() - begun
-    one.row("it gives up", caller.all(), (1, report("caller", "gaveup", pending=4), said("heard nothing")))
+    one.row("it gives up", caller.all(), (1, report("caller", "gaveup", pending=4), said("heard nothing (is the other end answering? a terminal has to be raw: stty raw -echo)")))
     one.holds("after eight seconds or so", 7 <= took < 20, took)
     one.row("its jobs stay", wrong(ends), [])
 

@@ -375,7 +375,7 @@ def a_job_that_is_cancelled(one):
     write(ends.at("alpha", "jobs"), "send x x me\nsend x\n")
     ended = cancel(one, "1")
     one.row("bad jobs", (ended.all(), text_of(ends.at("alpha", "jobs"))),
-            ((2, "", said("bad jobs at line 2")), "send x x me\nsend x\n"))
+            ((2, "", said("bad jobs at line 2", "alpha/jobs: line 2: TARGET and USER are missing")), "send x x me\nsend x\n"))
     one.row("no folder", one.run(["queue", "none", "--cancel", "1"]).all(),
             (3, "", said("device fault", "none: no such file or directory")))
     one.row("with an order", one.run(["queue", "alpha", "send", "files/a", "--cancel", "1"]).all(),
@@ -531,5 +531,5 @@ def who_queues(one):
             (3, "", said("device fault", "none: no such file or directory")))
     write(one.path("alpha/jobs"), "send x\n")
     ended = one.run(["queue", "alpha", "request", "q"])
-    one.row("bad jobs", (ended.status, ended.out, ended.err.splitlines()[0], text_of(one.path("alpha/jobs"))),
-            (2, "", "uucpair: bad jobs at line 1", "send x\n"))
+    one.row("bad jobs", (ended.all(), text_of(one.path("alpha/jobs"))),
+            ((2, "", said("bad jobs at line 1", "alpha/jobs: line 1: TARGET and USER are missing")), "send x\n"))

@@ -22,8 +22,11 @@ use uug_pending::{CancelFault, CancelTask, cancel_run, rival_remark};
 use uug_port::{StandardStreams, SystemInput, SystemOutput};
 use uug_stop::{Stop, end_of, with_reason};
 use uug_stream::{Output, ToolFault, write_all};
+use uug_sys::jobs_remark_at;
 use uug_task::CallTask;
-use uug_words::{Task, VERSION, has_no_host, hint_words, task_of, waiting_words};
+use uug_words::{
+    Task, VERSION, full_remark, has_no_host, hint_words, order_remark, task_of, waiting_words,
+};
 
 /// The remark on an order beside a job to cancel.
 const QUEUED_OR_CANCELLED: &str = "a job is queued or cancelled, not both";
@@ -54,9 +57,17 @@ where
     ensures no_other { IfErr result IsQueueFault }
     ensures named { result ≡ Err ToolFault.Device → IsSome why.new }
 {
+    let lack = order_remark(rt.alloc(), queue)?;
+    if !lack.is_empty() {
+        *remark = lack;
+        return Err(ToolFault::Usage);
+    }
     let rival = match queue_run(rt.alloc(), rt, queue, output, remark, why) {
         Ok(rival) => rival,
-        Err(fault) => return Err(fault),
+        Err(fault) => {
+            remark_fault(rt, queue.dir, fault, remark);
+            return Err(fault);
+        }
     };
     if let Some(target) = rival {
         // A remark for which there is no memory is left out.
@@ -65,6 +76,24 @@ where
         }
     }
     Ok(0)
+}
+
+/// Writes what is wrong with a line of the jobs in this folder, if that is the fault. If none is bad they are as many as
+/// may wait. What can't be said is left out.
+fn remark_fault<R: Files + AllocGlobal>(rt: &R, dir: &str, fault: ToolFault, remark: &mut String) {
+    let ToolFault::Jobs(line) = fault else {
+        return;
+    };
+    let Ok(said) = jobs_remark_at(rt.alloc(), rt, dir, line) else {
+        return;
+    };
+    if !said.is_empty() {
+        *remark = said;
+        return;
+    }
+    if let Ok(said) = full_remark(rt.alloc(), dir) {
+        *remark = said;
+    }
 }
 
 /// Cancels a job, and returns the program's status.
@@ -91,7 +120,11 @@ where
             remark.push_str(QUEUED_OR_CANCELLED)?;
             Err(ToolFault::Usage)
         }
-        Err(CancelFault::Run(fault)) => Err(fault.tell(why)),
+        Err(CancelFault::Run(fault)) => {
+            let fault = fault.tell(why);
+            remark_fault(rt, cancel.dir, fault, remark);
+            Err(fault)
+        }
     }
 }
 

@@ -11,9 +11,14 @@ record AreSaid : Type 0 where
   stranger : heard_remark Called Refused (codes "a") (text (codes "Sc")) ≡ codes "uucpair: heard \"Sc\", expected \"a\"" ++ 10 ∷ []
   unknown : heard_remark Called Refused [] (text (codes "Sc")) ≡ codes "uucpair: heard \"Sc\", but the spool has no folder for that system" ++ 10 ∷ []
   getty : heard_remark Caller GaveUp (codes "b") (noise 7 (codes "login:" ++ 13 ∷ [])) ≡ codes "uucpair: heard 7 bytes and no text: \"login:\\x0d\"" ++ 10 ∷ []
-  mute : heard_remark Caller GaveUp (codes "b") nothing ≡ codes "uucpair: heard nothing" ++ 10 ∷ []
+  both_call : heard_remark Caller GaveUp (codes "b") (noise 2 (13 ∷ 10 ∷ [])) ≡ codes "uucpair: heard 2 bytes and no text: \"\\x0d\\x0a\" (line ends alone: both ends call, or a terminal is not raw: stty raw -echo)" ++ 10 ∷ []
+  echo : heard_remark Called GaveUp (codes "a") (noise 5 (13 ∷ codes "^PSh")) ≡ codes "uucpair: heard 5 bytes and no text: \"\\x0d^PSh\" (a terminal echoes: stty raw -echo, at the other end too)" ++ 10 ∷ []
+  both_answer : heard_remark Called Refused (codes "a") (text (codes "Shere=a")) ≡ codes "uucpair: heard \"Shere=a\", expected \"a\" (one end has to call, and both answer; or a terminal echoes: stty raw -echo)" ++ 10 ∷ []
+  mute : heard_remark Caller GaveUp (codes "b") nothing ≡ codes "uucpair: heard nothing (is the other end answering? a terminal has to be raw: stty raw -echo)" ++ 10 ∷ []
+  uncalled : heard_remark Called GaveUp (codes "b") nothing ≡ codes "uucpair: heard nothing (is the other end calling? a terminal has to be raw: stty raw -echo)" ++ 10 ∷ []
+  deaf : heard_remark Caller GaveUp (codes "b") (text (codes "Shere=b")) ≡ codes "uucpair: heard \"Shere=b\", and then no answer (a terminal has to be raw: stty raw -echo, at the other end too)" ++ 10 ∷ []
   done : heard_remark Caller Done (codes "b") (text (codes "Pg")) ≡ []
 
 said : AreSaid
 unfolding digits
-said = record { other = refl; busy = refl; stranger = refl; unknown = refl; getty = refl; mute = refl; done = refl }
+said = record { other = refl; busy = refl; stranger = refl; unknown = refl; getty = refl; both_call = refl; echo = refl; both_answer = refl; mute = refl; uncalled = refl; deaf = refl; done = refl }

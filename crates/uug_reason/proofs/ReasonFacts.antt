@@ -15,6 +15,14 @@ pair_places = places [] (codes "s") (codes "a") (codes "b")
 abbrev end_places : Places
 end_places = places [] (codes "tcp:127.0.0.1:5999") (27 ∷ codes "a") (27 ∷ codes "a")
 
+-- one end whose line and folder are exchanged
+abbrev exchanged_places : Places
+exchanged_places = places [] (codes "a") (codes "tcp:4000") (codes "tcp:4000")
+
+-- one end in a folder below that of the devices
+abbrev shared_places : Places
+shared_places = places [] (codes "unix:s") (codes "/dev/shm/a") (codes "/dev/shm/a")
+
 -- what is written is called so
 abbrev output_places : Places
 output_places = places (codes "standard output") [] [] []
@@ -28,6 +36,10 @@ record AreSaid : Type 0 where
   got : reason_line pair_places (record { end = 1; resource = on.Got (codes "y"); cause = causes.Refused kinds.StorageFull (Some (pos 28)) }) ≡ codes "uucpair: b/got/y: no space left" ++ 10 ∷ []
   files : reason_line pair_places (record { end = 1; resource = on.Send; cause = causes.TooMuch }) ≡ codes "uucpair: b/send: over the limit of 256 files" ++ 10 ∷ []
   spool : reason_line pair_places (record { end = 0; resource = on.Dir; cause = causes.IsSpool }) ≡ codes "uucpair: a: it is a spool of Taylor UUCP: give --spool" ++ 10 ∷ []
+  exchanged : reason_line exchanged_places (record { end = 0; resource = on.Dir; cause = causes.Refused kinds.NotFound (Some (pos 2)) }) ≡ codes "uucpair: tcp:4000: no such file or directory (LINE and DIR look exchanged: give LINE first)" ++ 10 ∷ []
+  shared : reason_line shared_places (record { end = 0; resource = on.Dir; cause = causes.Refused kinds.NotFound (Some (pos 2)) }) ≡ codes "uucpair: /dev/shm/a: no such file or directory" ++ 10 ∷ []
+  lacks : reason_line pair_places (record { end = 0; resource = on.GotFolder; cause = causes.Refused kinds.NotFound (Some (pos 2)) }) ≡ codes "uucpair: a/got: no such file or directory (make it; only a spool, with --spool, has none)" ++ 10 ∷ []
+  plain : reason_line end_places (record { end = 0; resource = on.Line; cause = causes.NoTerminal }) ≡ codes "uucpair: tcp:127.0.0.1:5999: not a terminal (LINE is a terminal device, tcp:HOST:PORT, unix:PATH or -)" ++ 10 ∷ []
   socket : reason_line pair_places (record { end = 0; resource = on.Line; cause = causes.Refused kinds.AddrInUse (Some (pos 98)) }) ≡ codes "uucpair: s: address in use" ++ 10 ∷ []
   pipe : reason_line output_places (record { end = 1; resource = on.Output; cause = causes.NotAFile }) ≡ codes "uucpair: standard output: a named pipe may have no reader: name a file, /dev/stdout or /dev/stderr" ++ 10 ∷ []
   told : reason_line pair_places (record { end = 0; resource = on.Text Jobs; cause = causes.NotAFile }) ≡ codes "uucpair: a/jobs: not a regular file" ++ 10 ∷ []
@@ -35,4 +47,4 @@ record AreSaid : Type 0 where
 
 said : AreSaid
 unfolding digits
-said = record { line = refl; host = refl; numbered = refl; escaped = refl; given = refl; got = refl; files = refl; spool = refl; socket = refl; pipe = refl; told = refl; output = refl }
+said = record { line = refl; host = refl; numbered = refl; escaped = refl; given = refl; got = refl; files = refl; spool = refl; exchanged = refl; shared = refl; lacks = refl; plain = refl; socket = refl; pipe = refl; told = refl; output = refl }

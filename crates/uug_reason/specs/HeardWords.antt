@@ -1,6 +1,7 @@
 -- What was heard of the other end where a session ended badly, in words (this project's profile).
 use Rattle.std.specs.Fmt.{decimal}
-use Rattle.std.specs.Prelude.{◌==◌, ◌||◌, ℕ, List, [], ◌∷◌, ◌++◌, codes, length, if◌then◌else◌}
+use Rattle.std.specs.List.{position_or_len, starts_with}
+use Rattle.std.specs.Prelude.{◌==◌, ◌&&◌, ◌||◌, ℕ, Bool, not, List, [], ◌∷◌, ◌++◌, codes, drop, length, nat_eq, if◌then◌else◌}
 use Rattle.std.specs.Str.{bytes_eq}
 use Rattle.uug_conversation.specs.declared.side.Side.{Side}
 use Rattle.uug_conversation.specs.declared.side.Side.TheVariants.{Caller, Called}
@@ -42,16 +43,45 @@ hint_words said =
 abbrev pub refusal_words : (said hint : List ℕ) → List ℕ
 refusal_words said hint = codes "the other end refused: " ++ (quoted said ++ hint)
 
+-- A caller speaks as an end does that is called: both are, or what this end said has come back.
+abbrev pub answering_hint : (said : List ℕ) → List ℕ
+answering_hint said =
+    if starts_with nat_eq said (codes "Shere")
+    then codes " (one end has to call, and both answer; or a terminal echoes: stty raw -echo)" else []
+
 -- the other end has refused the call, or this end did
 abbrev pub refused_words : Side → (said peer : List ℕ) → List ℕ
 refused_words Caller said peer = refusal_words said (hint_words said)
-refused_words Called said peer = other_words said peer
+refused_words Called said peer = other_words said peer ++ answering_hint said
+
+abbrev pub is_no_line_end : ℕ → Bool
+is_no_line_end b = not (b == 13 || b == 10)
+
+-- how many line ends stand in front
+abbrev pub line_ends : List ℕ → ℕ
+line_ends bytes = position_or_len is_no_line_end bytes
+
+-- Behind line ends nothing stands, or what a terminal echoes: it shows the byte in front of a text as `^P`.
+abbrev pub behind_hint : (ends : ℕ) → (rest : List ℕ) → List ℕ
+behind_hint ends rest =
+    if not (ends == 0) && (length rest == 0)
+    then codes " (line ends alone: both ends call, or a terminal is not raw: stty raw -echo)" else
+    (if starts_with nat_eq rest (codes "^P")
+    then codes " (a terminal echoes: stty raw -echo, at the other end too)" else [])
+
+abbrev pub noise_hint : (bytes : List ℕ) → List ℕ
+noise_hint bytes = behind_hint (line_ends bytes) (drop (line_ends bytes) bytes)
 
 abbrev pub noise_words : (count : ℕ) → (bytes : List ℕ) → List ℕ
-noise_words count bytes = codes "heard " ++ (decimal count ++ (codes " bytes and no text: " ++ quoted bytes))
+noise_words count bytes = codes "heard " ++ (decimal count ++ (codes " bytes and no text: " ++ (quoted bytes ++ noise_hint bytes)))
 
-abbrev pub nothing_words : List ℕ
-nothing_words = codes "heard nothing"
+abbrev pub nothing_words : Side → List ℕ
+nothing_words Caller = codes "heard nothing (is the other end answering? a terminal has to be raw: stty raw -echo)"
+nothing_words Called = codes "heard nothing (is the other end calling? a terminal has to be raw: stty raw -echo)"
+
+-- a text was heard, and no answer to what was said then
+abbrev pub unanswered_words : (said : List ℕ) → List ℕ
+unanswered_words said = codes "heard " ++ (quoted said ++ codes ", and then no answer (a terminal has to be raw: stty raw -echo, at the other end too)")
 
 -- none of these protocols of the other end is g
 abbrev pub protocols_words : (said : List ℕ) → List ℕ
@@ -64,7 +94,8 @@ end_words side Refused peer (text said) = refused_words side said peer
 end_words side NoProtocol peer (text said) = protocols_words said
 end_words side GaveUp peer (noise count bytes) = noise_words count bytes
 end_words side HungUp peer (noise count bytes) = noise_words count bytes
-end_words side GaveUp peer nothing = nothing_words
+end_words side GaveUp peer nothing = nothing_words side
+end_words side GaveUp peer (text said) = unanswered_words said
 end_words side end peer heard = []
 
 -- as a line, unless nothing is to be said

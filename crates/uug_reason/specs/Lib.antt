@@ -1,4 +1,5 @@
 pub mod KindWords
+pub mod ReasonHints
 pub mod Reasons
 pub mod JobsWords
 pub mod HeardWords

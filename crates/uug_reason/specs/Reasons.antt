@@ -9,6 +9,7 @@ use Rattle.uug_failure.specs.declared.failure.Resource.{Resource}
 use Rattle.uug_failure.specs.declared.failure.Resource.TheVariants.{Input, Output, Line, Text, Send, Given, GotFolder, Got}
 use Rattle.uug_failure.specs.declared.failure.SystemFailure.{SystemFailure}
 use Rattle.uug_reason.specs.KindWords.{kind_words}
+use Rattle.uug_reason.specs.ReasonHints.{hint_words}
 use Rattle.uug_scan.specs.Detailed.{escaped}
 use Rattle.uug_talk.specs.Lines.{ended}
 
@@ -87,7 +88,8 @@ cause_words resource NoSpool = codes "it has jobs or send, and is no spool: leav
 cause_words resource NoStream = codes "standard input or output is no socket, pipe or terminal"
 cause_words resource NoTerminal = codes "not a terminal"
 
--- ---- both, as a line
+-- ---- both, and what to do about a known mistake, as a line
 abbrev pub reason_line : Places → SystemFailure → List ℕ
 reason_line p failure = codes "uucpair: "
-    ++ (place_words p failure.end failure.resource ++ (codes ": " ++ ended (cause_words failure.resource failure.cause)))
+    ++ (place_words p failure.end failure.resource ++ (codes ": " ++ (cause_words failure.resource failure.cause
+    ++ ended (hint_words p.line p.first failure.resource failure.cause))))

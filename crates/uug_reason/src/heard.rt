@@ -1,6 +1,7 @@
 //! The words for what was heard from the other end, if a session ended badly.
-ghost use Rattle.std.specs.Prelude.{◌≡◌, ◌++◌, IfOk, OnOk, string_bytes};
-ghost use Rattle.uug_reason.specs.HeardWords.{end_words, expected_words, heard_remark, hint_words, line_with, noise_words, nothing_words, other_words, protocols_words, refusal_words, refused_words, shown};
+ghost use Rattle.std.specs.Prelude.{◌≡◌, ◌≤◌, ◌++◌, IfOk, OnOk, length, string_bytes};
+ghost use Rattle.std.specs.List.{position_or_len};
+ghost use Rattle.uug_reason.specs.HeardWords.{answering_hint, end_words, expected_words, heard_remark, hint_words, is_no_line_end, line_ends, line_with, noise_hint, noise_words, nothing_words, other_words, protocols_words, refusal_words, refused_words, shown, unanswered_words};
 
 use crate::jobs::add_quoted;
 use std::alloc::{AllocError, Allocator};
@@ -63,7 +64,8 @@ fn add_end<A: Allocator>(
         (End::NoProtocol, Heard::Text(said)) => add_protocols(text, said),
         (End::GaveUp, Heard::Noise(count, bytes)) => add_noise(text, count, bytes),
         (End::HungUp, Heard::Noise(count, bytes)) => add_noise(text, count, bytes),
-        (End::GaveUp, Heard::Nothing) => add_nothing(text),
+        (End::GaveUp, Heard::Nothing) => text.push_str(nothing_words(side)),
+        (End::GaveUp, Heard::Text(said)) => add_unanswered(text, said),
         _ => Ok(()),
     }
 }
@@ -102,7 +104,21 @@ fn add_refused<A: Allocator>(
 {
     match side {
         Side::Caller => add_refusal(text, said, hint_words(said)),
-        Side::Called => add_other(text, said, peer),
+        Side::Called => {
+            add_other(text, said, peer)?;
+            text.push_str(answering_hint(said))
+        }
+    }
+}
+
+/// Returns what to do about a caller who speaks as an end does that is called.
+fn answering_hint(said: &[u8]) -> &'static str
+    ensures { result.now ≡ answering_hint said.now }
+{
+    if said.starts_with(b"Shere") {
+        " (one end has to call, and both answer; or a terminal echoes: stty raw -echo)"
+    } else {
+        ""
     }
 }
 
@@ -129,11 +145,30 @@ fn add_protocols<A: Allocator>(text: &mut String<A>, said: &[u8]) -> Result<(), 
     add_quoted(text, said)
 }
 
-/// Appends that no byte was heard.
-fn add_nothing<A: Allocator>(text: &mut String<A>) -> Result<(), AllocError>
-    ensures { OnOk result (string_bytes text.new ≡ string_bytes text.old ++ nothing_words) }
+/// Returns that no byte was heard, and what to look at.
+fn nothing_words(side: Side) -> &'static str
+    ensures { result.now ≡ nothing_words side }
 {
-    text.push_str("heard nothing")
+    match side {
+        Side::Caller => {
+            "heard nothing (is the other end answering? a terminal has to be raw: stty raw -echo)"
+        }
+        Side::Called => {
+            "heard nothing (is the other end calling? a terminal has to be raw: stty raw -echo)"
+        }
+    }
+}
+
+/// Appends that this was heard, and no answer to what this end said then.
+fn add_unanswered<A: Allocator>(text: &mut String<A>, said: &[u8]) -> Result<(), AllocError>
+    ensures { OnOk result
+        (string_bytes text.new ≡ string_bytes text.old ++ unanswered_words said.now) }
+{
+    text.push_str("heard ")?;
+    add_quoted(text, said)?;
+    text.push_str(
+        ", and then no answer (a terminal has to be raw: stty raw -echo, at the other end too)",
+    )
 }
 
 /// Returns what a known refusal means.
@@ -157,5 +192,32 @@ fn add_noise<A: Allocator>(text: &mut String<A>, count: u64, bytes: &[u8]) -> Re
         (string_bytes text.new ≡ string_bytes text.old ++ noise_words count bytes.now) }
 {
     write!(text, "heard {count} bytes and no text: ")?;
-    add_quoted(text, bytes)
+    add_quoted(text, bytes)?;
+    text.push_str(noise_hint(bytes))
+}
+
+/// Returns what to do about bytes that are line ends alone, or that a terminal has echoed: it shows the byte in front of
+/// a text as `^P`.
+fn noise_hint(bytes: &[u8]) -> &'static str
+    ensures { result.now ≡ noise_hint bytes.now }
+{
+    let (ends, rest) = bytes.split_at(line_ends(bytes));
+    if !ends.is_empty() && rest.is_empty() {
+        " (line ends alone: both ends call, or a terminal is not raw: stty raw -echo)"
+    } else if rest.starts_with(b"^P") {
+        " (a terminal echoes: stty raw -echo, at the other end too)"
+    } else {
+        ""
+    }
+}
+
+/// Returns the number of line ends in front.
+fn line_ends(bytes: &[u8]) -> usize
+    ensures value { result ≡ line_ends bytes.now }
+    ensures fits { result ≤ length bytes.now }
+{
+    bytes
+        .iter()
+        .take_while(|b| **b == b'\r' || **b == b'\n')
+        .count()
 }

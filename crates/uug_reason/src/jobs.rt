@@ -178,7 +178,7 @@ fn add_no_name<A: Allocator>(text: &mut String<A>, word: &[u8]) -> Result<(), Al
 }
 
 /// Appends a word in quotes, or its first bytes. What can't be seen of it is escaped.
-pub(crate) fn add_quoted<A: Allocator>(text: &mut String<A>, word: &[u8]) -> Result<(), AllocError>
+pub fn add_quoted<A: Allocator>(text: &mut String<A>, word: &[u8]) -> Result<(), AllocError>
     ensures { OnOk result (string_bytes text.new ≡ string_bytes text.old ++ quoted word.now) }
 {
     text.push_str("\"")?;

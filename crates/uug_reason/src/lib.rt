@@ -5,11 +5,12 @@
 mod cause;
 mod escape;
 mod heard;
+mod hint;
 mod jobs;
 mod kind;
 mod reason;
 
 pub use escape::add_escaped;
 pub use heard::{Heard, heard_remark};
-pub use jobs::jobs_remark;
+pub use jobs::{add_quoted, jobs_remark};
 pub use reason::reason_line;

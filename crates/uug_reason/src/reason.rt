@@ -5,11 +5,13 @@ ghost use Rattle.uug_scan.specs.Detailed.{escaped};
 
 use crate::cause::add_cause;
 use crate::escape::add_escaped;
+use crate::hint::hint_words;
 use std::alloc::{AllocError, Allocator};
 use uug_failure::{EndText, Resource, SystemFailure};
 
-/// Returns the line for standard error that says on what a call of the system failed, and why. `stream` names what is
-/// read or written, `line` the line or the socket, and `first` and `second` the folders of the ends.
+/// Returns the line for standard error that says on what a call of the system failed, why, and what to do if the cause
+/// is a known mistake. `stream` names what is read or written, `line` the line or the socket, and `first` and `second`
+/// the folders of the ends.
 pub fn reason_line<A: Allocator>(
     alloc: A,
     stream: &str,
@@ -33,6 +35,7 @@ pub fn reason_line<A: Allocator>(
     )?;
     text.push_str(": ")?;
     add_cause(&mut text, failure.resource, failure.cause)?;
+    text.push_str(hint_words(line, first, failure.resource, failure.cause))?;
     text.push_str("\n")?;
     Ok(text)
 }

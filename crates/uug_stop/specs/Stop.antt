@@ -224,18 +224,20 @@ NamesCopiedBy false path why stop = NamesFile path why stop
 abbrev pub NamesCopied : (path : List ℕ) → (why : Option SystemFailure) → Stop → Type 0
 NamesCopied path why stop = NamesCopiedBy (is_too_much why) path why stop
 
--- Of what was to be queued the file is named that can't be copied, and it is said what is wrong with the order, and on what a call
--- of the system failed, and why, where it is known.
+-- Of what was to be queued the file is named that can't be copied, and it is said what is wrong with the order or with a line of
+-- jobs, and on what a call of the system failed, and why, where it is known.
 abbrev pub StopsOnQueue : (dir file : List ℕ) → (why : Option SystemFailure) → ToolFault → (remark : List ℕ) → Stop → Type 0
 StopsOnQueue dir file why Read remark stop = NamesCopied file why stop
 StopsOnQueue dir file why Usage remark stop = HasRemark Usage remark stop
+StopsOnQueue dir file why (Jobs line) remark stop = HasLine (Jobs line) remark stop
 StopsOnQueue dir file (Some failure) Device remark stop = SaysReason (reason_line (places [] [] dir dir) failure) stop
 StopsOnQueue dir file why fault remark stop = stop ≡ Fault fault
 
--- Of a job that was to be cancelled it is said what is wrong with the usage. The folder is named that another run holds, and it is
--- said on what another call of the system failed, and why.
+-- Of a job that was to be cancelled it is said what is wrong with the usage or with a line of jobs. The folder is named that another
+-- run holds, and it is said on what another call of the system failed, and why.
 abbrev pub StopsOnCancel : (dir : List ℕ) → (why : Option SystemFailure) → ToolFault → (remark : List ℕ) → Stop → Type 0
 StopsOnCancel dir why Usage remark stop = HasRemark Usage remark stop
+StopsOnCancel dir why (Jobs line) remark stop = HasLine (Jobs line) remark stop
 StopsOnCancel dir (Some failure) Device remark stop = StopsOnCause (places [] [] dir dir) failure failure.cause stop
 StopsOnCancel dir why fault remark stop = stop ≡ Fault fault
 

@@ -155,7 +155,7 @@ fn output_named<'a>(call: &CallTask<'a>, number: usize) -> &'a str
 }
 
 /// Returns why nothing was queued or listed. It names the file that can't be copied, and says what is wrong with the
-/// order. It says on what a call of the system failed, and why, if that is known.
+/// order, or with a line of jobs. It says on what a call of the system failed, and why, if that is known.
 pub(crate) fn stop_of_queue(
     alloc: Global,
     dir: &str,
@@ -169,6 +169,7 @@ pub(crate) fn stop_of_queue(
     match (fault, why) {
         (ToolFault::Read, _) => names_copied(alloc, file.unwrap_or(""), why),
         (ToolFault::Usage, _) => Stop::Remarked(fault, remark),
+        (ToolFault::Jobs(_), _) => Stop::Told(fault, remark),
         (ToolFault::Device, Some(failure)) => {
             says_reason(reason_line(alloc, "", "", dir, dir, failure))
         }
@@ -176,8 +177,8 @@ pub(crate) fn stop_of_queue(
     }
 }
 
-/// Returns why no job was cancelled. It says what is wrong with the usage, names the folder if another run holds it, and
-/// says on what another call of the system failed, and why, if that is known.
+/// Returns why no job was cancelled. It says what is wrong with the usage, or with a line of jobs, names the folder if
+/// another run holds it, and says on what another call of the system failed, and why, if that is known.
 pub(crate) fn stop_of_cancel(
     alloc: Global,
     dir: &str,
@@ -189,6 +190,7 @@ pub(crate) fn stop_of_cancel(
 {
     match (fault, why) {
         (ToolFault::Usage, _) => Stop::Remarked(fault, remark),
+        (ToolFault::Jobs(_), _) => Stop::Told(fault, remark),
         (ToolFault::Device, Some(failure)) => stop_of_cause(alloc, "", "", dir, dir, failure),
         (fault, _) => Stop::Fault(fault),
     }

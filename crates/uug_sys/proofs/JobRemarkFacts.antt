@@ -19,7 +19,7 @@ record AreSaid : Type 0 where
   missing : job_line a_send (failed_words (codes "a") [] a_send NoFile) ≡ codes "uucpair: send x ~/d/y me: no file a/send/x" ++ 10 ∷ []
   large : job_line a_send (failed_words (codes "a") (codes "x" ∷ []) a_send NoFile)
       ≡ codes "uucpair: send x ~/d/y me: a/send/x is larger than --file-limit" ++ 10 ∷ []
-  asked : job_line a_request (failed_words [] [] a_request NotGiven) ≡ codes "uucpair: request x y me: not given by the other end, or not to be put in its place here" ++ 10 ∷ []
+  asked : job_line a_request (failed_words [] [] a_request NotGiven) ≡ codes "uucpair: request x y me: not given by the other end: no such file in its send, or one that may not go; or not to be put in its place here" ++ 10 ∷ []
   put_off : put_off_remark (Ended Done) false (a_send ∷ []) ≡ codes "uucpair: send x ~/d/y me: put off: the other end takes it later" ++ 10 ∷ []
   not_given : put_off_remark (Ended Done) true (a_request ∷ []) ≡ codes "uucpair: request x y me: put off: the other end gives it later, or another file came than it told of" ++ 10 ∷ []
   broken_off : put_off_remark (Ended HungUp) true (a_send ∷ []) ≡ []

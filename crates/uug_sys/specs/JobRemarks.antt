@@ -52,7 +52,7 @@ abbrev pub failed_words : (dir : List ℕ) → (large : List (List ℕ)) → Job
 failed_words dir large job NoFile = local_lack dir large (local_source (source_of job))
 failed_words dir large job Refused = refused_words (local_source (target_of job))
 failed_words dir large job NotTaken = not_taken_words (local_source (target_of job))
-failed_words dir large job NotGiven = codes "not given by the other end, or not to be put in its place here"
+failed_words dir large job NotGiven = codes "not given by the other end: no such file in its send, or one that may not go; or not to be put in its place here"
 
 -- of each job by what the end's own files give and take
 abbrev pub failed_remark : (dir : List ℕ) → (large : List (List ℕ)) → Holdings → List Job → List ℕ

@@ -168,7 +168,7 @@ fn failed_words<A: Allocator + Copy>(
         }
         WhyFailed::NotGiven => String::from_str(
             alloc,
-            "not given by the other end, or not to be put in its place here",
+            "not given by the other end: no such file in its send, or one that may not go; or not to be put in its place here",
         ),
     }
 }

@@ -116,6 +116,8 @@ impl<'a, R: Eprint + Clock, A: Allocator + Copy> SystemObserver<'a, R, A> {
     fn heard(&self, phase: Phase) -> Result<String<A>, AllocError> {
         match (phase, &self.peer) {
             (Phase::Ended(End::BadTalk), _) => self.last(true),
+            // Past the greeting no text of it says why.
+            (Phase::Ended(End::GaveUp), _) if self.has_met => Ok(String::new(self.alloc)),
             (Phase::Ended(end), Some(peer)) => {
                 let heard = self.hearing.heard();
                 let expected = if self.is_hub { "" } else { peer.as_str() };

@@ -1,7 +1,8 @@
 -- What is said of bad usage, so that a wrong definition does not check.
-use Rattle.std.proofs.Common.{◌≡◌, [], ◌∷◌, ◌++◌, codes, Some, None, refl}
+use Rattle.std.proofs.Common.{◌≡◌, [], ◌∷◌, ◌++◌, codes, false, true, Some, None, refl}
 use Rattle.std.specs.Fmt.{digits}
 use Rattle.std.specs.Path.{rsplit_once}
+use Rattle.uug_words.specs.OrderWords.{full_remark, order_words}
 use Rattle.uug_words.specs.UsageWords.{line_words, name_words, pair_words, peer_words, range_words}
 
 record AreSaid : Type 0 where
@@ -15,8 +16,13 @@ record AreSaid : Type 0 where
   path : line_words (codes "unix:") ≡ codes "unix: has no path"
   empty : line_words [] ≡ codes "the line has no name"
   lost : pair_words (Some 1) (Some 1) ≡ codes "drop-every 1 is not 2 to 1000000"
+  no_file : order_words (codes "a") (codes "send") false ≡ codes "FILE is missing: uucpair queue DIR send FILE"
+  ordered : order_words (codes "a") (codes "send") true ≡ []
+  no_order : order_words (codes "a") (codes "get") false ≡ codes "\"get\" is neither send nor request: uucpair queue DIR send FILE, or uucpair queue DIR request FILE"
+  no_dir : order_words (codes "send") (codes "a") true ≡ codes "DIR goes first: uucpair queue DIR send FILE"
+  full : full_remark (codes "a") ≡ codes "uucpair: a/jobs: 1024 jobs wait, the most that may: call, or cancel one" ++ 10 ∷ []
   changed : pair_words None (Some 1) ≡ codes "flip-every 1 is not 2 to 1000000"
 
 said : AreSaid
 unfolding digits rsplit_once
-said = record { range = refl; name = refl; no_peer = refl; peer = refl; port = refl; alone = refl; host = refl; path = refl; empty = refl; lost = refl; changed = refl }
+said = record { range = refl; name = refl; no_peer = refl; peer = refl; port = refl; alone = refl; host = refl; path = refl; empty = refl; lost = refl; no_file = refl; ordered = refl; no_order = refl; no_dir = refl; full = refl; changed = refl }

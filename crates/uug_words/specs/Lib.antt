@@ -2,5 +2,6 @@ pub mod Asked
 pub mod Tools
 pub mod Parts
 pub mod UsageWords
+pub mod OrderWords
 pub mod Hints
 pub mod WaitingWords

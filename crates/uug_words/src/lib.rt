@@ -4,6 +4,7 @@
 mod command_line;
 mod help;
 mod hint;
+mod order;
 mod part;
 mod tools;
 mod usage;
@@ -11,6 +12,7 @@ mod waiting;
 
 pub use command_line::{PairTask, Task, task_of};
 pub use hint::hint_words;
+pub use order::{full_remark, order_remark};
 pub use part::{Part, wrong_part};
 pub use tools::VERSION;
 pub use usage::{pair_remark, usage_remark};
