@@ -135,7 +135,9 @@ too_long() {
         chmod 666 "$work/$node/pub/long-$node"
         program_of "$node" uucp -r -C "$work/$node/pub/long-$node" "$(other "$node")!~/long-$node"
     done
+    options=(--file-limit 1048576)
     session "$1"
+    options=()
     run_uuxqt beta
     is "what is too long is over" [ "$(queued alpha)$(queued beta)" = 00 ]
     is "it is kept" [ "$(find "$work/beta/spool/.Preserve" -name '*.D.*' -size +1024k | wc -l)" = 2 ]

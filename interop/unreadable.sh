@@ -61,7 +61,7 @@ we_call() {
     set_up
     queue "$1"
     taylor_waits "$work/line"
-    call_taylor "${@:2}"
+    call_taylor --file-limit 1048576 "${@:2}"
     judge "we call, $1" $? "${@:2}"
 }
 
@@ -69,7 +69,7 @@ we_call() {
 taylor_calls() {
     set_up
     queue "$1"
-    wait_for_taylor "$work/line" "${@:2}"
+    wait_for_taylor "$work/line" --file-limit 1048576 "${@:2}"
     taylor_calls_us
     judge "Taylor calls, $1" $? "${@:2}"
 }

@@ -821,12 +821,15 @@ def jobs_that_a_person_kills(one):
     os.remove(nodes.at("alpha", "spool/beta/C./C.N1"))
     before = len(nodes.pub("beta"))
     wait_until(lambda: len(nodes.pub("beta")) > before + 1)
-    one.row("it is gone while the session runs", nodes.there("alpha"), {})
+
+    def lasting():
+        """A part may be there of what is being written, in `.Temp`."""
+        return {name: text for name, text in nodes.there("alpha").items() if not name.startswith(".Temp/")}
+
+    one.row("it is gone while the session runs", lasting(), {})
     caller.kill()
     called.end()
-    # A part may be left of what was being written, in `.Temp`.
-    there = {name: text for name, text in nodes.there("alpha").items() if not name.startswith(".Temp/")}
-    one.row("and stays so where that is stopped", there, {})
+    one.row("and stays so where that is stopped", lasting(), {})
 
 
 @scene("strace")

@@ -65,7 +65,9 @@ where
     let rival = match queue_run(rt.alloc(), rt, queue, output, remark, why) {
         Ok(rival) => rival,
         Err(fault) => {
-            remark_fault(rt, queue.dir, fault, remark);
+            if let Some(said) = fault_remark(rt, queue.dir, fault) {
+                *remark = said;
+            }
             return Err(fault);
         }
     };
@@ -78,21 +80,17 @@ where
     Ok(0)
 }
 
-/// Writes what is wrong with a line of the jobs in this folder, if that is the fault. If none is bad they are as many as
-/// may wait. What can't be said is left out.
-fn remark_fault<R: Files + AllocGlobal>(rt: &R, dir: &str, fault: ToolFault, remark: &mut String) {
+/// Returns what is wrong with a line of the jobs in this folder, if that is the fault. If none is bad they are as many as
+/// may wait. A remark for which there is no memory is left out.
+fn fault_remark<R: Files + AllocGlobal>(rt: &R, dir: &str, fault: ToolFault) -> Option<String> {
     let ToolFault::Jobs(line) = fault else {
-        return;
+        return None;
     };
-    let Ok(said) = jobs_remark_at(rt.alloc(), rt, dir, line) else {
-        return;
-    };
-    if !said.is_empty() {
-        *remark = said;
-        return;
-    }
-    if let Ok(said) = full_remark(rt.alloc(), dir) {
-        *remark = said;
+    let said = jobs_remark_at(rt.alloc(), rt, dir, line).ok()?;
+    if said.is_empty() {
+        full_remark(rt.alloc(), dir).ok()
+    } else {
+        Some(said)
     }
 }
 
@@ -122,7 +120,9 @@ where
         }
         Err(CancelFault::Run(fault)) => {
             let fault = fault.tell(why);
-            remark_fault(rt, cancel.dir, fault, remark);
+            if let Some(said) = fault_remark(rt, cancel.dir, fault) {
+                *remark = said;
+            }
             Err(fault)
         }
     }

@@ -3,7 +3,7 @@ ghost use Rattle.uug_talk.specs.declared.gather.TheConstants.{FILE_LIMIT_MAX, FI
 
 use uug_talk::{FILE_LIMIT_MAX, FILE_MAX};
 
-/// How many bytes the greatest file has that an end sends or takes.
+/// The size of the greatest file that an end sends or takes.
 #[derive(Clone, Copy)]
 pub struct FileLimit {
     /// The bytes, 1 to `FILE_LIMIT_MAX`.

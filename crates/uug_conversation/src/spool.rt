@@ -84,8 +84,8 @@ pub trait Spool {
         ensures kept { kept self.new ≡ kept self.old }
         ensures faults { faults self.new ≡ faults self.old };
 
-    /// Notes that a file with this announced digest is over: it was kept or refused, or doesn't fit. What is held of it
-    /// is of no more use, but stays until the session's end.
+    /// Notes that a file with this announced digest has come whole, before it is kept. What is held of it on a disk is of
+    /// no more use; what is held in memory stays until the session's end.
     fn let_go(&mut self, told: &FileDigest)
         ensures holdings { holdings self.new ≡ holdings self.old }
         ensures kept { kept self.new ≡ kept self.old }
@@ -99,7 +99,7 @@ pub trait Spool {
     fn tells_digests(&self) -> bool
         ensures { result ≡ (holdings self.now).digests };
 
-    /// Returns how many bytes the greatest file has that this end sends or takes.
+    /// Returns the size of the greatest file that this end sends or takes.
     fn limit(&self) -> usize
         ensures limit { result ≡ (holdings self.now).limit }
         ensures some { 0 < result }

@@ -101,22 +101,18 @@ fn keep_sent<A: Allocator, S: Spool>(
         → (S.faults spool.old < S.faults spool.new) ⊎ (S.faults spool.old ≡ u64.MAX) }
     ensures count { S.faults spool.old ≤ S.faults spool.new }
 {
-    match behind_held(spool, source, told, bytes, alloc) {
-        Ok(Some(whole)) => {
-            let verdict = keep(spool, target, mode, told, whole.as_slice())?;
-            let_go(spool, told);
-            Ok(verdict)
-        }
-        Ok(None) => {
-            let verdict = keep(spool, target, mode, told, bytes)?;
-            let_go(spool, told);
-            Ok(verdict)
-        }
-        Err(_) => Err(FileFault::Memory),
+    let Ok(whole) = behind_held(spool, source, told, bytes, alloc) else {
+        return Err(FileFault::Memory);
+    };
+    // What is held on a disk makes room for the file itself.
+    let_go(spool, told);
+    match whole {
+        Some(whole) => keep(spool, target, mode, told, whole.as_slice()),
+        None => keep(spool, target, mode, told, bytes),
     }
 }
 
-/// Tells the spool that a file is over, if its digest was announced.
+/// Tells the spool that a file has come whole, if its digest was announced.
 fn let_go<S: Spool>(spool: &mut S, told: &Option<FileDigest>)
     ensures holdings { S.holdings spool.new ≡ S.holdings spool.old }
     ensures kept { S.kept spool.new ≡ S.kept spool.old }

@@ -21,12 +21,12 @@ use uug_talk::Name;
 /// The maximum number of files that an end gives beside those of its offered jobs.
 pub const OTHERS_MAX: usize = 256;
 
-/// What may be given beside the files of jobs.
+/// The allowance for files beside those of jobs.
 #[derive(Clone, Copy)]
 struct Others {
     /// The number of files of jobs.
     before: usize,
-    /// What is left for other files.
+    /// The allowance that is left.
     left: Allowance,
 }
 
@@ -345,7 +345,15 @@ fn add_entry<A: Allocator + Copy, R: Files + Eprint + Alloc + Clone + Drop>(
         passed.note(Lack::Room, path.as_str());
         return Ok(());
     }
-    match add_given(files, alloc, rt, dir, name, path.as_str(), others.left.limit) {
+    match add_given(
+        files,
+        alloc,
+        rt,
+        dir,
+        name,
+        path.as_str(),
+        others.left.limit,
+    ) {
         Ok(()) if !fits(files, count, &mut others.left.bytes) => {
             passed.note_large(name, path.as_str())?;
             Ok(())

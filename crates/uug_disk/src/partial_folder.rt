@@ -178,9 +178,17 @@ pub fn drop_partials<A: Allocator + Copy, R: Files>(
     }
     for told in over {
         if let Ok(path) = path_of(alloc, path, told) {
-            let _ = fs::remove_file(rt, path.as_str());
+            let _ = remove_held(rt, path.as_str());
         }
     }
+}
+
+/// Removes the regular file at this path. Anything else there is not ours.
+fn remove_held<R: Files>(rt: &R, path: &str) -> io::Result<()> {
+    if fs::symlink_metadata(rt, path)?.is_file() {
+        fs::remove_file(rt, path)?;
+    }
+    Ok(())
 }
 
 /// Returns the path of the file in which one with this digest is held.

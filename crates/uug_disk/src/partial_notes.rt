@@ -1,6 +1,6 @@
-//! What comes of a file in a session, written down as it comes, so that it isn't lost if the end is killed.
+//! Writes down what comes of a file, as it comes, so that it isn't lost if the end is killed.
 
-use crate::partial_folder::{path_of, write_partial};
+use crate::partial_folder::{drop_partials, path_of, write_partial};
 use std::alloc::Allocator;
 use std::fs::{File, OpenFile, OpenOptions};
 use std::io::ErrorKind;
@@ -28,21 +28,20 @@ pub struct PartialNotes<'a, R, A: Allocator> {
     rt: &'a R,
     path: String<A>,
     /// The file that comes, once something of it was to be written down.
-    growing: Option<Growing<A>>,
+    growing: Option<Growing>,
 }
 
 /// A file that comes.
 #[derive(Drop)]
-struct Growing<A: Allocator> {
+struct Growing {
     told: FileDigest,
-    /// None if it can't be written.
-    written: Option<WrittenPart<A>>,
+    /// The part that is written, unless that has failed.
+    written: Option<WrittenPart>,
 }
 
-/// What of a file is written down.
+/// The part of a file that is written down.
 #[derive(Drop)]
-struct WrittenPart<A: Allocator> {
-    path: String<A>,
+struct WrittenPart {
     file: File,
     /// The bytes of this session that are written.
     count: usize,
@@ -68,7 +67,7 @@ impl<'a, R: Files<File = File>, A: Allocator + Copy> PartialNotes<'a, R, A> {
         told: &FileDigest,
         front: &[u8],
         bytes: &[u8],
-    ) -> io::Result<WrittenPart<A>> {
+    ) -> io::Result<WrittenPart> {
         let path = path_of(self.alloc, self.path.as_str(), told)?;
         let count = if front.is_empty() { bytes.len() } else { 0 };
         if front.is_empty() {
@@ -86,9 +85,10 @@ impl<'a, R: Files<File = File>, A: Allocator + Copy> PartialNotes<'a, R, A> {
         if !found.is_file() || found.len() != held {
             return Err(io::Error::from(ErrorKind::InvalidData));
         }
-        let file = OpenOptions::new().append(true).open(self.rt, path.as_str())?;
+        let file = OpenOptions::new()
+            .append(true)
+            .open(self.rt, path.as_str())?;
         Ok(WrittenPart {
-            path,
             file,
             count,
             synced: count,
@@ -105,7 +105,7 @@ fn line_length(source: &Name, told: &FileDigest) -> u64 {
     named.line().as_slice().len() as u64 + 1
 }
 
-impl<A: Allocator> WrittenPart<A> {
+impl WrittenPart {
     /// Appends what has come since, if it is enough.
     fn append(&mut self, bytes: &[u8]) -> io::Result<()> {
         let new = &bytes[self.count.min(bytes.len())..];
@@ -141,29 +141,18 @@ impl<R: Files<File = File>, A: Allocator + Copy> Notebook for PartialNotes<'_, R
     }
 
     fn let_go(&mut self, told: &FileDigest) {
-        if let Some(growing) = &self.growing {
-            if growing.told.hash == told.hash {
-                growing.remove(self.rt);
-                self.growing = None;
-            }
-        }
+        self.growing = None;
+        drop_partials(self.alloc, self.rt, self.path.as_str(), &[*told]);
     }
 }
 
-impl<A: Allocator> Growing<A> {
+impl Growing {
     /// Appends what has come since. Once that has failed nothing more is written.
     fn append(&mut self, bytes: &[u8]) {
         if let Some(written) = &mut self.written {
             if written.append(bytes).is_err() {
                 self.written = None;
             }
-        }
-    }
-
-    /// Removes what is written of it.
-    fn remove<R: Files>(&self, rt: &R) {
-        if let Some(written) = &self.written {
-            let _ = fs::remove_file(rt, written.path.as_str());
         }
     }
 }

@@ -230,7 +230,15 @@ fn add_entry<A: Allocator + Copy, R: Files + Alloc + Clone + Drop>(
     }
     *count += 1;
     let path = entry.path();
-    add_given(files, alloc, rt, dir, name, path.as_str(), FileLimit::standard())
+    add_given(
+        files,
+        alloc,
+        rt,
+        dir,
+        name,
+        path.as_str(),
+        FileLimit::standard(),
+    )
 }
 
 /// Returns the name of an entry's file, if it may be given. An incomplete file may not, nor may the mark of a copy.

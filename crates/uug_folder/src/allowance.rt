@@ -4,13 +4,13 @@ ghost use Rattle.uug_digest.specs.declared.telling.TheConstants.{TELLING_MAX};
 use uug_digest::TELLING_MAX;
 use uug_session::FileLimit;
 
-/// How much of its files an end reads for a session.
+/// The allowance of an end for the files that it reads for a session.
 #[derive(Clone, Copy)]
 pub struct Allowance {
     /// The bytes that the files of its jobs may have together, and those that its other files may have. The first file
     /// may have more.
     pub bytes: u64,
-    /// How many bytes the greatest file has that it gives or takes.
+    /// The size of the greatest file that it gives or takes.
     pub limit: FileLimit,
 }
 
@@ -19,7 +19,6 @@ impl Allowance {
     pub fn held(&self) -> u64
         ensures { result ≡ max self.now.bytes (self.now.limit.bytes + TELLING_MAX + 1) }
     {
-        self.bytes
-            .max((self.limit.bytes + TELLING_MAX + 1) as u64)
+        self.bytes.max((self.limit.bytes + TELLING_MAX + 1) as u64)
     }
 }

@@ -24,9 +24,9 @@ pub struct LocalNames<F: Folder, N: Notebook, A: Allocator> {
     files: FolderSpool<F, A>,
     names: Vec<Name, A>,
     delayed: Vec<Name, A>,
-    /// None if the end doesn't resume files that were cut off.
+    /// The files that were cut off, if the end resumes such files.
     partials: Option<Partials<A>>,
-    /// What comes of a file is written down here, if the end resumes.
+    /// The notebook for what comes of a file, if the end resumes.
     notebook: N,
     lenient: bool,
     digests: bool,

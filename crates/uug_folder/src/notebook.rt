@@ -8,7 +8,7 @@ pub trait Notebook {
     /// and `bytes` in it.
     fn note(&mut self, source: &Name, told: &FileDigest, front: &[u8], bytes: &[u8]);
 
-    /// Notes that the file with this announced digest is over.
+    /// Notes that the file with this announced digest has come whole: what is written down of it is of no more use.
     fn let_go(&mut self, told: &FileDigest);
 }
 

@@ -30,7 +30,7 @@ pub struct MailSettings {
     pub is_lenient: bool,
     /// Set if it announces digests of its files, and compares those that are announced to it.
     pub tells_digests: bool,
-    /// How many bytes the greatest file has that it gives or takes.
+    /// The size of the greatest file that it gives or takes.
     pub limit: FileLimit,
 }
 
@@ -42,7 +42,7 @@ pub struct MailSpool<D, N, A: Allocator> {
     public: PublicFolder<A>,
     /// Holds the first bytes of files that were cut off, if the end resumes such files.
     partials: Option<Partials<A>>,
-    /// What comes of a file is written down here, if the end resumes.
+    /// The notebook for what comes of a file, if the end resumes.
     notebook: N,
     /// The files that were kept, for clauses alone: the bytes are in the spool, and no longer in memory.
     kept: Vec<Snapshot<Stored<A>>, A>,

@@ -133,7 +133,7 @@ const REASONS: &[(&[u8], &str)] = &[
     ),
 ];
 
-/// What is said of a script whose ends can't be run.
+/// The remark on a script whose ends can't be run.
 const MISSING: &str =
     "caller or called is missing, or gives a file that is too large for the other";
 

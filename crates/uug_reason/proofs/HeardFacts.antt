@@ -14,6 +14,7 @@ record AreSaid : Type 0 where
   both_call : heard_remark Caller GaveUp (codes "b") (noise 2 (13 ∷ 10 ∷ [])) ≡ codes "uucpair: heard 2 bytes and no text: \"\\x0d\\x0a\" (line ends alone: both ends call, or a terminal is not raw: stty raw -echo)" ++ 10 ∷ []
   echo : heard_remark Called GaveUp (codes "a") (noise 5 (13 ∷ codes "^PSh")) ≡ codes "uucpair: heard 5 bytes and no text: \"\\x0d^PSh\" (a terminal echoes: stty raw -echo, at the other end too)" ++ 10 ∷ []
   both_answer : heard_remark Called Refused (codes "a") (text (codes "Shere=a")) ≡ codes "uucpair: heard \"Shere=a\", expected \"a\" (one end has to call, and both answer; or a terminal echoes: stty raw -echo)" ++ 10 ∷ []
+  both_refuse : heard_remark Called Refused (codes "a") (text (codes "RLCK")) ≡ codes "uucpair: heard \"RLCK\", expected \"a\" (one end has to call, and both answer; or a terminal echoes: stty raw -echo)" ++ 10 ∷ []
   mute : heard_remark Caller GaveUp (codes "b") nothing ≡ codes "uucpair: heard nothing (is the other end answering? a terminal has to be raw: stty raw -echo)" ++ 10 ∷ []
   uncalled : heard_remark Called GaveUp (codes "b") nothing ≡ codes "uucpair: heard nothing (is the other end calling? a terminal has to be raw: stty raw -echo)" ++ 10 ∷ []
   deaf : heard_remark Caller GaveUp (codes "b") (text (codes "Shere=b")) ≡ codes "uucpair: heard \"Shere=b\", and then no answer (a terminal has to be raw: stty raw -echo, at the other end too)" ++ 10 ∷ []
@@ -21,4 +22,4 @@ record AreSaid : Type 0 where
 
 said : AreSaid
 unfolding digits
-said = record { other = refl; busy = refl; stranger = refl; unknown = refl; getty = refl; both_call = refl; echo = refl; both_answer = refl; mute = refl; uncalled = refl; deaf = refl; done = refl }
+said = record { other = refl; busy = refl; stranger = refl; unknown = refl; getty = refl; both_call = refl; echo = refl; both_answer = refl; both_refuse = refl; mute = refl; uncalled = refl; deaf = refl; done = refl }

@@ -46,7 +46,7 @@ refusal_words said hint = codes "the other end refused: " ++ (quoted said ++ hin
 -- A caller speaks as an end does that is called: both are, or what this end said has come back.
 abbrev pub answering_hint : (said : List ℕ) → List ℕ
 answering_hint said =
-    if starts_with nat_eq said (codes "Shere")
+    if starts_with nat_eq said (codes "Shere") || starts_with nat_eq said (codes "R")
     then codes " (one end has to call, and both answer; or a terminal echoes: stty raw -echo)" else []
 
 -- the other end has refused the call, or this end did

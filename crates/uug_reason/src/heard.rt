@@ -1,7 +1,6 @@
 //! The words for what was heard from the other end, if a session ended badly.
 ghost use Rattle.std.specs.Prelude.{◌≡◌, ◌≤◌, ◌++◌, IfOk, OnOk, length, string_bytes};
-ghost use Rattle.std.specs.List.{position_or_len};
-ghost use Rattle.uug_reason.specs.HeardWords.{answering_hint, end_words, expected_words, heard_remark, hint_words, is_no_line_end, line_ends, line_with, noise_hint, noise_words, nothing_words, other_words, protocols_words, refusal_words, refused_words, shown, unanswered_words};
+ghost use Rattle.uug_reason.specs.HeardWords.{answering_hint, end_words, expected_words, heard_remark, hint_words, line_ends, line_with, noise_hint, noise_words, nothing_words, other_words, protocols_words, refusal_words, refused_words, shown, unanswered_words};
 
 use crate::jobs::add_quoted;
 use std::alloc::{AllocError, Allocator};
@@ -115,7 +114,7 @@ fn add_refused<A: Allocator>(
 fn answering_hint(said: &[u8]) -> &'static str
     ensures { result.now ≡ answering_hint said.now }
 {
-    if said.starts_with(b"Shere") {
+    if said.starts_with(b"Shere") || said.starts_with(b"R") {
         " (one end has to call, and both answer; or a terminal echoes: stty raw -echo)"
     } else {
         ""

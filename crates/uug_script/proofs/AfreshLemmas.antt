@@ -121,7 +121,7 @@ script_begins text script h =
     let b = bind_some (end_completed h.said.called.place h.said.called)
     (λ called. if are_suited a.0 called then Some (record { caller = a.0; called = called; events = h.said.events }) else None) script a.2 in
     let same : ◌≡◌ {A = ScriptSays} (record { caller = a.0; called = b.0; events = h.said.events }) script =
-        is_suited (are_suited a.0 b.0) (record { caller = a.0; called = b.0; events = h.said.events }) script b.2 in
+    is_suited (are_suited a.0 b.0) (record { caller = a.0; called = b.0; events = h.said.events }) script b.2 in
     subst BeginsAfresh same (record {
       caller = end_begins h.said.caller.place h.said.caller a.0 both.caller a.1;
       called = end_begins h.said.called.place h.said.called b.0 both.called b.1;

@@ -125,7 +125,9 @@ pub fn script_remark<A: Allocator>(
 {
     let mut text = String::new(alloc);
     let Some(line) = line_at(script, number) else {
-        text.push_str("caller or called is missing, or gives a file that is too large for the other")?;
+        text.push_str(
+            "caller or called is missing, or gives a file that is too large for the other",
+        )?;
         return Ok(text);
     };
     match &read_line(line) {

@@ -33,6 +33,6 @@ pub use phase_words::{phase_word, side_word};
 pub use place::Place;
 pub use sessions::NotMade;
 pub use uug_conversation::{
-    Awaits, FileLimit, FileView, JOBS_MAX, Job, KeepFault, MemorySpool, PartialFile, Partials, Queue,
-    QueueFault, Side, Spool, Stored, Verdict,
+    Awaits, FileLimit, FileView, JOBS_MAX, Job, KeepFault, MemorySpool, PartialFile, Partials,
+    Queue, QueueFault, Side, Spool, Stored, Verdict,
 };

@@ -34,7 +34,7 @@ pub struct SpoolCall<'a> {
     pub is_resuming: bool,
     /// The packets that it leaves out of those it emits.
     pub thinning: Thinning,
-    /// How much of its files it reads for a session.
+    /// The allowance for the files that it reads for a session.
     pub allowance: Allowance,
     /// True if it says on standard error what it puts off.
     pub is_loud: bool,

@@ -20,7 +20,9 @@ use std::fs::File;
 use std::rt::Files;
 use uug_disk::PartialNotes;
 use uug_failure::SystemFailure;
-use uug_mailbox::{Came, Execution, MailSettings, MailSpool, PublicFolder, SpoolFolder, WorkStore, queue_of};
+use uug_mailbox::{
+    Came, Execution, MailSettings, MailSpool, PublicFolder, SpoolFolder, WorkStore, queue_of,
+};
 use uug_session::{Partials, Place, Spool, Stored};
 use uug_spool_disk::{SpoolDisk, SpoolPaths};
 use uug_talk::Name;
@@ -28,8 +30,11 @@ use uug_task::begin_end;
 use uug_transfer::{BufferedNode, FaultInjector};
 
 /// The files of an end over a spool.
-pub(crate) type SpoolFiles<'a, 'p, R, A> =
-    MailSpool<SpoolDisk<'a, 'p, R, A>, PartialNotes<'a, R, A>, A>;
+pub(crate) type SpoolFiles<'a, 'p, R, A> = MailSpool<
+    SpoolDisk<'a, 'p, R, A>,
+    PartialNotes<'a, R, A>,
+    A,
+>;
 
 /// An end over a spool.
 #[derive(Drop)]

@@ -12,8 +12,8 @@ use std::fs::File;
 use std::rt::Files;
 use std::time::Clock;
 use uug_disk::{
-    DirLock, Given, OpenJobs, PartialNotes, SystemFolder, SystemJobs, SystemNumber, SystemText, open_jobs,
-    read_given, see_jobs,
+    DirLock, Given, OpenJobs, PartialNotes, SystemFolder, SystemJobs, SystemNumber, SystemText,
+    open_jobs, read_given, see_jobs,
 };
 use uug_failure::{EndText, RunFault, SystemFailure};
 use uug_folder::{FolderSpool, JobsFile, LocalNames, first_jobs};
@@ -24,8 +24,7 @@ use uug_task::{CallTask, EndParts};
 use uug_transfer::TransferEnd;
 
 /// The files of an end in a folder of the system.
-type SystemSpool<'a, R, A> =
-    LocalNames<SystemFolder<'a, R, A>, PartialNotes<'a, R, A>, A>;
+type SystemSpool<'a, R, A> = LocalNames<SystemFolder<'a, R, A>, PartialNotes<'a, R, A>, A>;
 
 /// An end over a folder of the system.
 pub(crate) type SystemEnd<'a, R, A> = TransferEnd<

@@ -77,7 +77,7 @@ pub struct CallTask<'a> {
     pub log: Option<&'a str>,
     /// The maximum total size of the files of the jobs that it offers in a session, in bytes.
     pub most: u32,
-    /// How many bytes the greatest file has that it gives or takes.
+    /// The size of the greatest file that it gives or takes, in bytes.
     pub file_limit: u32,
     /// Set if its folder is a spool of Taylor UUCP.
     pub is_spool: bool,

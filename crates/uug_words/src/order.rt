@@ -1,5 +1,5 @@
 //! The words for what is wrong with the order of a job to queue.
-ghost use Rattle.std.specs.Prelude.{◌≡◌, ◌++◌, IfOk, OnOk, is_some, string_bytes};
+ghost use Rattle.std.specs.Prelude.{◌≡◌, ◌++◌, IfOk, OnOk, string_bytes};
 ghost use Rattle.uug_reason.specs.JobsWords.{is_order};
 ghost use Rattle.uug_words.specs.OrderWords.{full_remark, lack_words, no_order_words, order_remark, order_words};
 

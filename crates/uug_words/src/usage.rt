@@ -87,12 +87,7 @@ fn add_part<A: Allocator>(
             "32, 64, 128, 256, 512, 1024, 2048 or 4096",
         ),
         Part::Most => add_range(text, "most", Some(task.most), "1048576 or more"),
-        Part::FileLimit => add_range(
-            text,
-            "file-limit",
-            Some(task.file_limit),
-            "1 to 268435456",
-        ),
+        Part::FileLimit => add_range(text, "file-limit", Some(task.file_limit), "1 to 268435456"),
         Part::Line => add_line(text, task.line),
         Part::Me => add_name(text, task.me),
         Part::Peer => add_peer(text, task.peer),

@@ -403,7 +403,7 @@ const ORDERS: &[(&[Said], &str)] = &[
             (Way::Out, b"SN2\0"),
         ],
         "uucpair: 0 s: peer's send p w\n\
-        uucpair: 0 s: peer's send p w: too large 0 bytes in 0 s\n\
+        uucpair: 0 s: peer's send p w: refused, maybe for its size 0 bytes in 0 s\n\
         uucpair: 0 s: peer's send p w\n\
         uucpair: 0 s: peer's send p w: refused 0 bytes in 0 s\n",
     ),

@@ -1,14 +1,13 @@
-//! What an end writes down of a file while it comes, in a folder of the system.
+//! Tries the notebook of a folder of the system: a file is written down while it comes.
 
 use crate::calls::assertions::{assert_same, assert_same_at};
 use crate::pairs::runs::{folder_path, remove};
 use std::alloc::Global;
-use std::fs;
 use std::fs::File;
-use std::process;
 use std::process::Abort;
 use std::rt::Files;
 use std::time::Clock;
+use std::{fs, process};
 use uug_digest::FileDigest;
 use uug_disk::{PartialNotes, hold_partial, read_partials};
 use uug_folder::Notebook;
@@ -44,9 +43,11 @@ fn notes<'a, R: Files<File = File> + Abort + AllocGlobal>(
 fn assert_held(
     rt: &(impl Files<File = File> + Clock + Abort + AllocGlobal + Clone + Drop),
     dir: &str,
-    count: usize,
+    front: usize,
+    behind: usize,
 ) {
     let held = read_partials(rt.alloc(), rt, dir, 1_000_000).expect(rt, "memory");
+    let count = front.saturating_add(behind);
     assert_same(rt, held.held(&source(rt), &told()).len(), count);
 }
 
@@ -65,26 +66,22 @@ fn note_all(
     dir: &str,
     front: usize,
 ) {
-    let bytes = filled(rt, 200_001);
-    let front = filled(rt, front);
+    let held = filled(rt, front);
     let mut notes = notes(rt, dir);
     for (come, written) in ROWS {
-        notes.note(&source(rt), &told(), &front, &bytes[..*come]);
-        notes.note(&source(rt), &told(), &front, &bytes[..*come]);
-        assert_held(rt, dir, front.len() + written);
+        let bytes = filled(rt, *come);
+        notes.note(&source(rt), &told(), &held, &bytes);
+        notes.note(&source(rt), &told(), &held, &bytes);
+        assert_held(rt, dir, front, *written);
     }
     notes.let_go(&FileDigest::of(b"another"));
-    assert_held(rt, dir, front.len() + 200_000);
+    assert_held(rt, dir, front, 200_000);
     notes.let_go(&told());
-    assert_held(rt, dir, 0);
+    assert_held(rt, dir, 0, 0);
 }
 
 /// Holds so many bytes of the file, as a session does at its end.
-fn hold(
-    rt: &(impl Files<File = File> + Abort + AllocGlobal),
-    dir: &str,
-    count: usize,
-) {
+fn hold(rt: &(impl Files<File = File> + Abort + AllocGlobal), dir: &str, count: usize) {
     let file = PartialFile {
         source: source(rt),
         told: told(),
@@ -92,6 +89,15 @@ fn hold(
     };
     let held = hold_partial(rt.alloc(), rt, dir, &file);
     assert_same(rt, held.is_ok(), true);
+}
+
+/// Notes what comes behind a front that is not the one on the disk.
+fn note_behind_another(rt: &(impl Files<File = File> + Abort + AllocGlobal), dir: &str) {
+    let mut notes = notes(rt, dir);
+    let bytes = filled(rt, 40_000);
+    let front = filled(rt, 99);
+    notes.note(&source(rt), &told(), &front, &bytes);
+    notes.note(&source(rt), &told(), &front, &bytes);
 }
 
 // what has come of a file that nothing was held of; what comes behind a front; a front of another length, to which
@@ -103,12 +109,8 @@ fn writes_down_what_comes(rt: HostRuntime) {
     hold(&rt, dir.as_str(), 100);
     note_all(&rt, dir.as_str(), 100);
     hold(&rt, dir.as_str(), 100);
-    let mut notes = notes(&rt, dir.as_str());
-    let bytes = filled(&rt, 40_000);
-    notes.note(&source(&rt), &told(), &bytes[..99], &bytes);
-    notes.note(&source(&rt), &told(), &bytes[..99], &bytes);
-    assert_held(&rt, dir.as_str(), 100);
-    drop(notes);
+    note_behind_another(&rt, dir.as_str());
+    assert_held(&rt, dir.as_str(), 100, 0);
     remove(&rt, dir.as_str());
 }
 
@@ -122,7 +124,12 @@ fn writes_nothing_where_it_cannot(rt: HostRuntime) {
     notes.note(&source(&rt), &told(), b"", &bytes);
     notes.note(&source(&rt), &told(), b"", &bytes);
     notes.let_go(&told());
-    assert_same_at(&rt, fs::metadata(&rt, dir.as_str()).is_ok(), true, "the file");
+    assert_same_at(
+        &rt,
+        fs::metadata(&rt, dir.as_str()).is_ok(),
+        true,
+        "the file",
+    );
     drop(notes);
     fs::remove_file(&rt, dir.as_str()).expect(&rt, "a file to remove");
 }
