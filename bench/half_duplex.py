@@ -17,6 +17,7 @@ medians, in seconds.
 bytes there. Ends with status 1 where `--speed` leaves something undone, the mails take longer than Taylor's, or the file
 longer than 1.05 times.
 """
+import math
 import select
 import statistics
 import sys
@@ -38,10 +39,10 @@ LOADS = ["file", "mails"]
 
 
 class Station:
-    """One side of the channel: what it has to send."""
+    """One side of the channel: what it has to send, and how many bytes it was given."""
 
     def __init__(self, stream):
-        self.stream, self.waiting, self.is_over = stream, bytearray(), False
+        self.stream, self.waiting, self.given, self.is_over = stream, bytearray(), 0, False
         stream.settimeout(30)
 
     def take(self):
@@ -53,6 +54,7 @@ class Station:
         self.is_over = not came
 
     def give(self, piece):
+        self.given += len(piece)
         try:
             self.stream.sendall(piece)
         except OSError:
@@ -78,12 +80,16 @@ def next_to_speak(stations, last, until):
     return None
 
 
-def speak(stations, side):
-    """A station keys up, and sends until it has no bytes. The answer is when the last one came."""
+def carried(stations):
+    return sum(station.given for station in stations)
+
+
+def speak(stations, side, most):
+    """A station keys up, and sends until it has no bytes, or so many were carried. The answer is when the last one came."""
     waiting = stations[side].waiting
     moment = time.monotonic() + TURN
-    while waiting:
-        piece = bytes(waiting[:PIECE])
+    while waiting and carried(stations) < most:
+        piece = bytes(waiting[: min(PIECE, most - carried(stations))])
         del waiting[:PIECE]
         moment += len(piece) / BYTES_A_SECOND
         while time.monotonic() < moment:
@@ -92,13 +98,13 @@ def speak(stations, side):
     return moment
 
 
-def channel(one, other, until):
-    """Hands on what comes, in one direction at a time. The answer is when the last bytes came."""
+def channel(one, other, until, most=math.inf):
+    """Hands on what comes, in one direction at a time, and no more than so many bytes. The answer is when the last bytes came, and how many."""
     stations = [Station(one), Station(other)]
     side, came = 1, time.monotonic()
-    while (side := next_to_speak(stations, side, until)) is not None:
-        came = speak(stations, side)
-    return came
+    while carried(stations) < most and (side := next_to_speak(stations, side, until)) is not None:
+        came = speak(stations, side, most)
+    return came, carried(stations)
 
 
 def ends(work, program, kind, window, size):
@@ -121,7 +127,7 @@ def run(work, program, kind, window, size, load):
         with over_sockets(work, caller, called) as (calling, answering, one, other):
             began = time.monotonic()
             until = began + MOST
-            came = channel(one, other, until)
+            came, _ = channel(one, other, until)
     except OSError:
         return None, caller.said()
     stop(calling, answering)

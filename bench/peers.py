@@ -118,7 +118,7 @@ def row(number):
         with tempfile.TemporaryDirectory() as work:
             written = over(kind, fresh(f"{work}/w"), lambda one, other: carry(one, other, 1 << 30))
             began = time.monotonic()
-            came = over(kind, fresh(f"{work}/w"), lambda one, other: half_duplex.channel(one, other, began + MOST))
+            came = over(kind, fresh(f"{work}/w"), lambda one, other: half_duplex.channel(one, other, began + MOST)[0])
         told = [written and f"{written[0]} bytes", came and f"{came - began:.0f} s half duplex"]
         whole = whole and all(told)
         print(number, name, *(word or "failed" for word in told), sep=", ", flush=True)

@@ -162,9 +162,13 @@ def byte_rows() -> list[Row]:
         rows.append(Row(f"bytes of five mails, 3 x {short(size)}", ours, (("two uucico", taylor), ("uucico calls", called))))
     others = [(name, Figure("peers", {"program": name}, "{bytes}")) for name in ("ZMODEM", "Kermit")]
     rows.append(Row("bytes of a file of 20,000, 7 x 1,024", long_way("7x1024", 1), tuple(others)))
-    for size, most, told in (("60000", "30000", "60,000 cut at 30,000"), ("1000000", "100000", "1,000,000 cut at 100,000")):
+    for data, size, most, told in (
+        ("resume", "60000", "30000", "60,000 cut at 30,000"),
+        ("resume_half_duplex", "60000", "30000", "the same, half duplex"),
+        ("resume", "1000000", "100000", "1,000,000 cut at 100,000"),
+    ):
         ours, *others = (
-            (name, Figure("resume", {"size": size, "cut after": most, "program": name}, "{bytes} in {sessions}"))
+            (name, Figure(data, {"size": size, "cut after": most, "program": name}, "{bytes} in {sessions}"))
             for name in ("uucpair", "uucico", "ZMODEM", "Kermit")
         )
         rows.append(Row(f"bytes, sessions: {told}", ours[1], tuple(others), False))
