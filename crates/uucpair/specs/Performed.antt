@@ -1,12 +1,11 @@
 -- What the program does for each task: its answer, what it read, and what it wrote (this project's profile).
-use Rattle.std.specs.Prelude.{◌≡◌, ◌≤◌, ◌⊎◌, ℕ, List, Option, Result, Err, IfOk, IfErr, OnOk, IsSome, codes, true}
+use Rattle.std.specs.Prelude.{◌≡◌, ◌≤◌, ◌⊎◌, ℕ, List, Result, Err, IfOk, IfErr, OnOk, codes, true}
 use Rattle.uug_scan.specs.Listing.{ended}
 use Rattle.uug_stream.specs.Streams.{Appends}
-use Rattle.uug_stream.specs.declared.fault.ToolFault.{ToolFault}
 use Rattle.uug_stream.specs.declared.fault.ToolFault.TheVariants as faults
 use Rattle.clap.specs.Words.{takes}
-use Rattle.uug_failure.specs.Faults.{IsQueueFault}
-use Rattle.uug_failure.specs.declared.failure.SystemFailure.{SystemFailure}
+use Rattle.uug_failure.specs.Faults.{IsQueueFault, IsRunFault}
+use Rattle.uug_failure.specs.declared.run_fault.RunFault.{RunFault}
 use Rattle.uug_words.specs.Asked.{Asks}
 use Rattle.uug_words.specs.Tools.{uucpair}
 use Rattle.uug_words.specs.declared.command_line.Task.{Task}
@@ -22,45 +21,43 @@ abbrev pub version_line : List ℕ
 version_line = ended (codes "uucpair 0.1.0")
 
 -- `--version`: the name of the program and its version were written, as a line
-pub record ShowsVersion (s : Streams) (answer : Result ℕ ToolFault) : Type 0 where
+pub record ShowsVersion (s : Streams) (answer : Result ℕ RunFault) : Type 0 where
   pub unread : StaysUnread s
   pub status : IfOk answer (λ status. status ≡ 0)
   pub writes : OnOk answer (Appends version_line s.before s.after)
 
 -- `pair`, `call` and `answer`: nothing was read of the input, and of a device fault it is known which call it was
-pub record Pairs (s : Streams) (why : Option SystemFailure) (answer : Result ℕ ToolFault) : Type 0 where
+pub record Pairs (s : Streams) (answer : Result ℕ RunFault) : Type 0 where
   pub status : IfOk answer (λ status. status ≤ 1)
   pub reads : StaysUnread s
-  pub named : answer ≡ Err faults.Device → IsSome why
+  pub no_other : IfErr answer IsRunFault
 
 -- `queue`: the same
-pub record Queues (s : Streams) (why : Option SystemFailure) (answer : Result ℕ ToolFault) : Type 0 where
+pub record Queues (s : Streams) (answer : Result ℕ RunFault) : Type 0 where
   pub status : IfOk answer (λ status. status ≡ 0)
   pub reads : StaysUnread s
-  pub named : answer ≡ Err faults.Device → IsSome why
   pub no_other : IfErr answer IsQueueFault
 
 -- `queue --cancel`: the same, and that no such job waits is a status of its own
-pub record Cancels (s : Streams) (why : Option SystemFailure) (answer : Result ℕ ToolFault) : Type 0 where
+pub record Cancels (s : Streams) (answer : Result ℕ RunFault) : Type 0 where
   pub status : IfOk answer (λ status. status ≤ 1)
   pub reads : StaysUnread s
-  pub named : answer ≡ Err faults.Device → IsSome why
   pub no_other : IfErr answer IsQueueFault
 
 -- ---- the tasks
 
-abbrev pub Does : Task → Streams → (remark : List ℕ) → (why : Option SystemFailure) → Result ℕ ToolFault → Type 0
-Does Version s remark why answer = ShowsVersion s answer
-Does (Scan file) s remark why answer = DoesOn over.Scan file s remark answer
-Does (ScanVerbose file) s remark why answer = DoesOn over.ScanVerbose file s remark answer
-Does (Play file) s remark why answer = DoesOn over.Play file s remark answer
-Does (PlayVerbose file) s remark why answer = DoesOn over.PlayVerbose file s remark answer
-Does (PlaySettled file) s remark why answer = DoesOn over.PlaySettled file s remark answer
-Does (PlayDrawn how file) s remark why answer = DoesOn (over.PlayDrawn how) file s remark answer
-Does (Pair pair) s remark why answer = Pairs s why answer
-Does (Call call) s remark why answer = Pairs s why answer
-Does (Queue queue) s remark why answer = Queues s why answer
-Does (Cancel cancel) s remark why answer = Cancels s why answer
+abbrev pub Does : Task → Streams → (remark : List ℕ) → Result ℕ RunFault → Type 0
+Does Version s remark answer = ShowsVersion s answer
+Does (Scan file) s remark answer = DoesOn over.Scan file s remark answer
+Does (ScanVerbose file) s remark answer = DoesOn over.ScanVerbose file s remark answer
+Does (Play file) s remark answer = DoesOn over.Play file s remark answer
+Does (PlayVerbose file) s remark answer = DoesOn over.PlayVerbose file s remark answer
+Does (PlaySettled file) s remark answer = DoesOn over.PlaySettled file s remark answer
+Does (PlayDrawn how file) s remark answer = DoesOn (over.PlayDrawn how) file s remark answer
+Does (Pair pair) s remark answer = Pairs s answer
+Does (Call call) s remark answer = Pairs s answer
+Does (Queue queue) s remark answer = Queues s answer
+Does (Cancel cancel) s remark answer = Cancels s answer
 
 -- ---- the program
 
@@ -78,11 +75,10 @@ pub record HasNoTask (words : List (List ℕ)) (s : Streams) (ends : Result ℕ 
 pub record HasDone (words : List (List ℕ)) (s : Streams) (ends : Result ℕ Stop) : Type 0 where
   pub task : Task
   pub asked : Asks words task
-  pub answer : Result ℕ ToolFault
+  pub answer : Result ℕ RunFault
   pub remark : List ℕ
-  pub why : Option SystemFailure
-  pub does : Does task s remark why answer
-  pub ends_so : EndsSo task answer remark why ends
+  pub does : Does task s remark answer
+  pub ends_so : EndsSo task answer remark ends
 
 -- of the words the first is the program's name
 abbrev pub Performs : (words : List (List ℕ)) → Streams → Result ℕ Stop → Type 0

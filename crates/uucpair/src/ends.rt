@@ -1,72 +1,66 @@
 //! Runs of one end or both, with their messages beside the report, and the log.
-ghost use Rattle.std.specs.Prelude.{◌≡◌, ◌≤◌, IfOk, IfSome, IsSome};
+ghost use Rattle.std.specs.Prelude.{◌≡◌, ◌≤◌, IfErr, IfOk};
+ghost use Rattle.uug_failure.specs.Faults.{IsFolderFault, IsRunFault};
 ghost use Rattle.uug_stop.specs.declared.of_end.TheConstants.{LOG};
 ghost use Rattle.uug_stream.specs.Streams.{CountsFault};
 
-use crate::terminals::Terminals;
+use crate::bad_jobs::jobs_remark;
+use crate::console::Console;
 use std::alloc::{AllocError, Global};
 use std::fs::File;
 use std::io;
-use std::net::{Net, TcpListener, TcpStream};
+use std::net::Net;
 use std::rt::{Env, Files};
 use std::time::Clock;
 use uug_conversation::Side;
 use uug_disk::is_named_pipe;
-use uug_failure::{Cause, Resource, SystemFailure};
+use uug_failure::{Cause, Outcome, Resource, RunFault, SystemFailure};
 use uug_folder::BadNumber;
 use uug_log::{LogFile, SessionLog, end_text, words_of};
-use uug_pair::pair_run_with_reason;
-use uug_port::{ReportFile, StandardStreams, SystemOutput};
+use uug_pair::{PairRun, pair_run_with_reason};
+use uug_port::{ReportFile, SystemOutput};
 use uug_reason::reason_line;
 use uug_stop::{LOG, REPORT, STATS};
 use uug_stream::{Output, ToolFault};
-use uug_sys::{SystemObserver, call_run, jobs_remark_at, log_fault};
-use uug_task::{CallTask, ReportPlace};
+use uug_sys::{SystemObserver, call_run, log_fault};
+use uug_task::{CallTask, ReportPlace, System};
 use uug_words::PairTask;
 
 /// Runs both ends over one socket.
-pub fn do_pair<R, O>(
-    rt: &R,
-    pair: &PairTask<'_>,
-    output: &mut O,
-    remark: &mut String,
-    why: &mut Option<SystemFailure>,
-) -> Result<u8, ToolFault>
+pub fn do_pair<R, O>(rt: &R, pair: &PairTask<'_>, output: &mut O) -> Outcome<u8, Global>
 where
     R: Files<File = File> + Net + AllocGlobal + Clone + Drop,
     O: Output,
-    ensures status { IfOk result (λ status. status ≤ 1) }
-    ensures named { result ≡ Err ToolFault.Device → IsSome why.new }
+    ensures status { IfOk result.answer (λ status. status ≤ 1) }
+    ensures no_other { IfErr result.answer IsRunFault }
 {
-    let answer = pair_run_with_reason(
-        rt.alloc(),
-        rt,
-        pair.socket,
-        pair.dir_a,
-        pair.dir_b,
-        pair.drop_every,
-        pair.flip_every,
-        output,
-        why,
-    );
-    remark_jobs(rt, pair.dir_a, answer, remark);
-    if remark.is_empty() {
-        remark_jobs(rt, pair.dir_b, answer, remark);
+    let run = PairRun {
+        socket: pair.socket,
+        dir_a: pair.dir_a,
+        dir_b: pair.dir_b,
+        drop_every: pair.drop_every,
+        flip_every: pair.flip_every,
+    };
+    let answer = pair_run_with_reason(rt.alloc(), rt, &run, output);
+    let remark = match &answer {
+        Ok(_) => None,
+        Err(fault) => either_jobs_remark(rt, pair, fault),
+    };
+    Outcome {
+        answer,
+        remark: remark.unwrap_or(String::new(rt.alloc())),
     }
-    answer
 }
 
-/// Appends what is wrong with the jobs of this folder, if a line of them is the fault. What can't be said is left out.
-fn remark_jobs<R: Files + AllocGlobal>(
+/// Returns what is wrong with the jobs of either end, if a line of them is the fault.
+fn either_jobs_remark<R: Files + AllocGlobal>(
     rt: &R,
-    dir: &str,
-    answer: Result<u8, ToolFault>,
-    remark: &mut String,
-) {
-    if let Err(ToolFault::Jobs(line)) = answer {
-        if let Ok(said) = jobs_remark_at(rt.alloc(), rt, dir, line) {
-            let _ = remark.push_str(said.as_str());
-        }
+    pair: &PairTask<'_>,
+    fault: &RunFault,
+) -> Option<String> {
+    match jobs_remark(rt, pair.dir_a, fault) {
+        Some(said) if !said.is_empty() => Some(said),
+        _ => jobs_remark(rt, pair.dir_b, fault),
     }
 }
 
@@ -75,165 +69,147 @@ fn remark_jobs<R: Files + AllocGlobal>(
 pub fn do_call<R, O>(
     rt: &R,
     call: &CallTask<'_>,
-    terminals: Terminals,
-    standard: StandardStreams,
+    console: Console,
     output: &mut O,
-    remark: &mut String,
-    why: &mut Option<SystemFailure>,
-) -> Result<u8, ToolFault>
+) -> Outcome<u8, Global>
 where
-    R: Files<File = File>
-        + Net<Stream = TcpStream, Listener = TcpListener>
-        + Env
-        + AllocGlobal
-        + Eprint
-        + Clock
-        + Clone
-        + Drop,
+    R: System,
     O: Output,
-    ensures status { IfOk result (λ status. status ≤ 1) }
-    ensures named { result ≡ Err ToolFault.Device → IsSome why.new }
+    ensures status { IfOk result.answer (λ status. status ≤ 1) }
+    ensures no_other { IfErr result.answer IsRunFault }
 {
-    if let Some(failure) = pipe_of(rt, call)? {
-        *why = Some(failure);
-        return Err(ToolFault::Device);
+    if let Err(fault) = see_outputs(rt, call) {
+        return Outcome::of(rt.alloc(), Err(fault));
     }
     match call.report_place() {
-        ReportPlace::File(path) if call.may_run() => {
-            do_call_reporting(rt, call, terminals, standard, path, remark, why)
-        }
+        ReportPlace::File(path) if call.may_run() => do_call_reporting(rt, call, console, path),
         ReportPlace::Errors => {
-            let mut report = SystemOutput::new(standard.errors);
-            do_call_over(rt, call, terminals, standard, &mut report, remark, why)
+            let mut report = SystemOutput::new(console.streams.errors);
+            do_call_over(rt, call, console, &mut report)
         }
         // Bad usage opens no file.
-        ReportPlace::File(_) | ReportPlace::Output => {
-            do_call_over(rt, call, terminals, standard, output, remark, why)
-        }
+        ReportPlace::File(_) | ReportPlace::Output => do_call_over(rt, call, console, output),
     }
 }
 
-/// Returns the failure of one end that may be run, if its report, its log, or the statistics is a named pipe. None of
-/// them is opened then, since that might wait for a reader.
-fn pipe_of<R: Files + AllocGlobal>(
-    rt: &R,
-    call: &CallTask<'_>,
-) -> Result<Option<SystemFailure>, AllocError> {
+/// Checks of one end that may be run that neither its report, its log, nor the statistics is a named pipe. One is not
+/// opened, since that might wait for a reader.
+fn see_outputs<R: Files + AllocGlobal>(rt: &R, call: &CallTask<'_>) -> Result<(), RunFault>
+    ensures { IfErr result IsFolderFault }
+{
     if !call.may_run() {
-        return Ok(None);
+        return Ok(());
     }
-    let report = pipe_at(rt, call.report, REPORT)?;
-    let log = pipe_at(rt, call.log, LOG)?;
-    let stats = pipe_at(rt, call.stats, STATS)?;
-    Ok(report.or(log).or(stats))
+    see_output(rt, call.report, REPORT)?;
+    see_output(rt, call.log, LOG)?;
+    see_output(rt, call.stats, STATS)
 }
 
-/// Returns the failure that the output of this number, which is at this path, is a named pipe, if it is one.
-fn pipe_at<R: Files + AllocGlobal>(
+/// Checks that the output of this number, which is at this path, is no named pipe.
+fn see_output<R: Files + AllocGlobal>(
     rt: &R,
     path: Option<&str>,
     number: usize,
-) -> Result<Option<SystemFailure>, AllocError>
-    ensures { IfOk result (λ found. IfSome found (λ failure. failure.end ≡ number)) }
+) -> Result<(), RunFault>
+    ensures number { (failure : SystemFailure) → result ≡ Err (RunFault.System failure)
+        → failure.end ≡ number }
+    ensures no_other { IfErr result IsFolderFault }
 {
     let Some(path) = path else {
-        return Ok(None);
+        return Ok(());
     };
-    if !is_named_pipe(rt.alloc(), rt, path)? {
-        return Ok(None);
+    if is_named_pipe(rt.alloc(), rt, path)? {
+        return Err(RunFault::System(SystemFailure {
+            end: number,
+            resource: Resource::Output,
+            cause: Cause::NotAFile,
+        }));
     }
-    Ok(Some(SystemFailure {
-        end: number,
-        resource: Resource::Output,
-        cause: Cause::NotAFile,
-    }))
+    Ok(())
 }
 
 /// Does the same, with its report to the file of this path.
 fn do_call_reporting<R>(
     rt: &R,
     call: &CallTask<'_>,
-    terminals: Terminals,
-    standard: StandardStreams,
+    console: Console,
     path: &str,
-    remark: &mut String,
-    why: &mut Option<SystemFailure>,
-) -> Result<u8, ToolFault>
+) -> Outcome<u8, Global>
 where
-    R: Files<File = File>
-        + Net<Stream = TcpStream, Listener = TcpListener>
-        + Env
-        + AllocGlobal
-        + Eprint
-        + Clock
-        + Clone
-        + Drop,
-    ensures status { IfOk result (λ status. status ≤ 1) }
-    ensures named { result ≡ Err ToolFault.Device → IsSome why.new }
+    R: System,
+    ensures status { IfOk result.answer (λ status. status ≤ 1) }
+    ensures no_other { IfErr result.answer IsRunFault }
 {
     let file = match ReportFile::open(rt, path) {
         Ok(file) => file,
         Err(error) => {
-            *why = Some(SystemFailure::on(Resource::Output, Cause::of(&error)));
-            return Err(ToolFault::Device);
+            let failure = SystemFailure::on(Resource::Output, Cause::of(&error));
+            return Outcome::of(rt.alloc(), Err(RunFault::System(failure)));
         }
     };
     let mut report = SystemOutput::new(file);
-    match do_call_over(rt, call, terminals, standard, &mut report, remark, why) {
-        Err(ToolFault::Write) => {
-            *why = report.failure();
-            Err(ToolFault::Device)
+    let Outcome { answer, remark } = do_call_over(rt, call, console, &mut report);
+    let answer = match answer {
+        Err(RunFault::Tool(ToolFault::Write)) => {
+            Err(RunFault::with(ToolFault::Device, report.failure()))
         }
         answer => answer,
-    }
+    };
+    Outcome { answer, remark }
 }
 
 /// Does the same, with its report to this output.
-fn do_call_over<R, O>(
-    rt: &R,
-    call: &CallTask<'_>,
-    terminals: Terminals,
-    standard: StandardStreams,
+fn do_call_over<'a, R, O>(
+    rt: &'a R,
+    call: &'a CallTask<'a>,
+    console: Console,
     output: &mut O,
-    remark: &mut String,
-    why: &mut Option<SystemFailure>,
-) -> Result<u8, ToolFault>
+) -> Outcome<u8, Global>
 where
-    R: Files<File = File>
-        + Net<Stream = TcpStream, Listener = TcpListener>
-        + Env
-        + AllocGlobal
-        + Eprint
-        + Clock
-        + Clone
-        + Drop,
+    R: System,
     O: Output,
-    ensures status { IfOk result (λ status. status ≤ 1) }
-    ensures write { result ≡ Err ToolFault.Write
+    ensures status { IfOk result.answer (λ status. status ≤ 1) }
+    ensures write { result.answer ≡ Err (RunFault.Tool ToolFault.Write)
         → CountsFault (O.fault_count output.old) (O.fault_count output.new) }
-    ensures named { result ≡ Err ToolFault.Device → IsSome why.new }
+    ensures no_other { IfErr result.answer IsRunFault }
 {
-    let log = match open_log(rt, call) {
-        Ok(log) => log,
-        Err(error) => {
-            *why = Some(failure_of_log(&error));
-            return Err(ToolFault::Device);
-        }
+    let observer = match observer_of(rt, call, console) {
+        Ok(observer) => observer,
+        Err(fault) => return Outcome::of(rt.alloc(), Err(fault)),
     };
-    let observer = SystemObserver::new(rt.alloc(), rt, call, terminals.errors, log)?;
-    let answer = call_run(
+    let Outcome { answer, mut remark } = call_run(
         rt.alloc(),
         rt,
         call,
-        standard,
+        console.streams,
         observer,
         output,
-        remark,
-        why,
     );
-    remark_jobs(rt, call.dir, answer, remark);
-    log_answer(rt, call, answer, *why);
-    answer
+    if let Err(fault) = &answer {
+        if let Some(said) = jobs_remark(rt, call.dir, fault) {
+            let _ = remark.push_str(said.as_str());
+        }
+        log_answer(rt, call, fault);
+    }
+    Outcome { answer, remark }
+}
+
+/// Returns the observer of one end, with its log open if one is named.
+fn observer_of<'a, R>(
+    rt: &'a R,
+    call: &CallTask<'a>,
+    console: Console,
+) -> Result<SystemObserver<'a, R, Global>, RunFault>
+where
+    R: Files<File = File> + Env + Eprint + Clock + AllocGlobal,
+    ensures { IfErr result IsFolderFault }
+{
+    let log = match open_log(rt, call) {
+        Ok(log) => log,
+        Err(error) => return Err(RunFault::System(failure_of_log(&error))),
+    };
+    let at_terminal = console.is_errors_terminal;
+    Ok(SystemObserver::new(rt.alloc(), rt, call, at_terminal, log)?)
 }
 
 /// Opens the log of one end, if one is named, and the end may be run. The line of its call is in it. An end over a
@@ -273,37 +249,36 @@ fn failure_of_log(error: &io::Error) -> SystemFailure
 }
 
 /// Logs why one end gave up, if there is a log. What can't be written is left out.
-fn log_answer<R>(
-    rt: &R,
-    call: &CallTask<'_>,
-    answer: Result<u8, ToolFault>,
-    why: Option<SystemFailure>,
-)
+fn log_answer<R>(rt: &R, call: &CallTask<'_>, fault: &RunFault)
 where
     R: Files<File = File> + Env + Clock + AllocGlobal,
 {
-    let Err(fault) = answer else {
-        return;
-    };
     if !call.may_run() {
         return;
     }
-    if let Ok(text) = fault_text(rt.alloc(), call, fault, why) {
+    if let Ok(text) = fault_text(rt.alloc(), call, fault) {
         log_fault(rt.alloc(), rt, call, text.as_str());
     }
 }
 
 /// Returns why one end gave up, for its log.
-fn fault_text(
+fn fault_text(alloc: Global, call: &CallTask<'_>, fault: &RunFault) -> Result<String, AllocError> {
+    let answer = match fault {
+        RunFault::System(failure) => return failure_text(alloc, call, *failure),
+        RunFault::Unread(_) => ToolFault::Read,
+        RunFault::Tool(answer) => *answer,
+    };
+    format!(in alloc; "{answer}")
+}
+
+/// Returns which call of the system failed, on what and why, for the log of one end.
+fn failure_text(
     alloc: Global,
     call: &CallTask<'_>,
-    fault: ToolFault,
-    why: Option<SystemFailure>,
+    failure: SystemFailure,
 ) -> Result<String, AllocError> {
-    let mut word = format!(in alloc; "{fault}")?;
-    let (ToolFault::Device, Some(failure)) = (fault, why) else {
-        return Ok(word);
-    };
+    let device = ToolFault::Device;
+    let mut word = format!(in alloc; "{device}")?;
     match (failure.resource, failure.cause) {
         (Resource::Dir, Cause::InUse) => return Ok(word),
         (_, Cause::NotANumber) => word = format!(in alloc; "{}", BadNumber)?,

@@ -1,12 +1,13 @@
 //! The program, from its command line to its status.
-ghost use Rattle.std.specs.Prelude.{◌≡◌, ◌≤◌, IfErr, IfOk, IsSome, OnOk, map, string_bytes};
+ghost use Rattle.std.specs.Prelude.{◌≡◌, ◌≤◌, IfErr, IfOk, IsErr, OnOk, map, string_bytes};
 ghost use Rattle.uug_failure.specs.Faults.{IsQueueFault};
 ghost use Rattle.uug_input.specs.Inputs.{streams};
 ghost use Rattle.uug_stream.specs.Streams.{Appends};
 ghost use Rattle.uucpair.specs.Performed.{Does, Performs, version_line};
 
+use crate::bad_jobs::waiting_remark;
+use crate::console::Console;
 use crate::ends::{do_call, do_pair};
-use crate::terminals::Terminals;
 use std::alloc::{AllocError, Global};
 use std::convert::AsStr;
 use std::fs::File;
@@ -15,24 +16,21 @@ use std::rt::{Env, Files};
 use std::time::Clock;
 use std::{env, io};
 use uug_conversation::Side;
-use uug_disk::{QueueTask, queue_run};
-use uug_failure::SystemFailure;
+use uug_disk::{QueueFault, QueueTask, queue_run};
+use uug_failure::{Outcome, RunFault};
 use uug_input::{InputTask, do_on};
-use uug_pending::{CancelFault, CancelTask, cancel_run, rival_remark};
-use uug_port::{StandardStreams, SystemInput, SystemOutput};
+use uug_pending::{CancelFault, CancelOutcome, CancelTask, cancel_run, rival_remark};
+use uug_port::{SystemInput, SystemOutput};
 use uug_stop::{Stop, end_of, with_reason};
 use uug_stream::{Output, ToolFault, write_all};
-use uug_sys::jobs_remark_at;
-use uug_task::CallTask;
-use uug_words::{
-    Task, VERSION, full_remark, has_no_host, hint_words, order_remark, task_of, waiting_words,
-};
+use uug_task::{CallTask, System};
+use uug_words::{Task, VERSION, has_no_host, hint_words, order_remark, task_of, waiting_words};
 
 /// The remark on an order beside a job to cancel.
 const QUEUED_OR_CANCELLED: &str = "a job is queued or cancelled, not both";
 
 /// Prints the name of the program and its version.
-fn show_version<O: Output>(alloc: Global, output: &mut O) -> Result<u8, ToolFault>
+fn show_version<O: Output>(alloc: Global, output: &mut O) -> Result<u8, RunFault>
     ensures status { IfOk result (λ status. status ≡ 0) }
     ensures writes { OnOk result
         (Appends version_line (O.written output.old) (O.written output.new)) }
@@ -43,115 +41,90 @@ fn show_version<O: Output>(alloc: Global, output: &mut O) -> Result<u8, ToolFaul
 }
 
 /// Lists the jobs that wait, or queues one more, and remarks on another job that sends to its target.
-fn do_queue<R, O>(
-    rt: &R,
-    queue: &QueueTask<'_>,
-    output: &mut O,
-    remark: &mut String,
-    why: &mut Option<SystemFailure>,
-) -> Result<u8, ToolFault>
+fn do_queue<R, O>(rt: &R, queue: &QueueTask<'_>, output: &mut O) -> Outcome<u8, Global>
 where
     R: Files<File = File> + Env + AllocGlobal + Clone + Drop,
     O: Output,
-    ensures status { IfOk result (λ status. status ≡ 0) }
-    ensures no_other { IfErr result IsQueueFault }
-    ensures named { result ≡ Err ToolFault.Device → IsSome why.new }
+    ensures status { IfOk result.answer (λ status. status ≡ 0) }
+    ensures no_other { IfErr result.answer IsQueueFault }
 {
-    let lack = order_remark(rt.alloc(), queue)?;
-    if !lack.is_empty() {
-        *remark = lack;
-        return Err(ToolFault::Usage);
+    let alloc = rt.alloc();
+    match order_remark(alloc, queue) {
+        Ok(lack) if lack.is_empty() => (),
+        lack => return bad_usage(alloc, lack),
     }
-    let rival = match queue_run(rt.alloc(), rt, queue, output, remark, why) {
-        Ok(rival) => rival,
-        Err(fault) => {
-            if let Some(said) = fault_remark(rt, queue.dir, fault) {
-                *remark = said;
-            }
-            return Err(fault);
-        }
-    };
-    if let Some(target) = rival {
-        // A remark for which there is no memory is left out.
-        if let Ok(said) = rival_remark(rt.alloc(), &target) {
-            *remark = said;
-        }
-    }
-    Ok(0)
-}
-
-/// Returns what is wrong with a line of the jobs in this folder, if that is the fault. If none is bad they are as many as
-/// may wait. A remark for which there is no memory is left out.
-fn fault_remark<R: Files + AllocGlobal>(rt: &R, dir: &str, fault: ToolFault) -> Option<String> {
-    let ToolFault::Jobs(line) = fault else {
-        return None;
-    };
-    let said = jobs_remark_at(rt.alloc(), rt, dir, line).ok()?;
-    if said.is_empty() {
-        full_remark(rt.alloc(), dir).ok()
-    } else {
-        Some(said)
+    match queue_run(alloc, rt, queue, output) {
+        Ok(Some(target)) => Outcome {
+            answer: Ok(0),
+            // A remark for which there is no memory is left out.
+            remark: rival_remark(alloc, &target).unwrap_or(String::new(alloc)),
+        },
+        Ok(None) => Outcome::of(alloc, Ok(0)),
+        Err(QueueFault::Order(order)) => bad_usage(alloc, format!(in alloc; "{order}")),
+        Err(QueueFault::Run(fault)) => gave_up(rt, queue.dir, fault),
     }
 }
 
 /// Cancels a job, and returns the program's status.
-fn do_cancel<R, O>(
-    rt: &R,
-    cancel: &CancelTask<'_>,
-    output: &mut O,
-    remark: &mut String,
-    why: &mut Option<SystemFailure>,
-) -> Result<u8, ToolFault>
+fn do_cancel<R, O>(rt: &R, cancel: &CancelTask<'_>, output: &mut O) -> Outcome<u8, Global>
 where
     R: Files<File = File> + AllocGlobal + Clone + Drop,
     O: Output,
-    ensures status { IfOk result (λ status. status ≤ 1) }
-    ensures no_other { IfErr result IsQueueFault }
-    ensures named { result ≡ Err ToolFault.Device → IsSome why.new }
+    ensures status { IfOk result.answer (λ status. status ≤ 1) }
+    ensures no_other { IfErr result.answer IsQueueFault }
 {
-    match cancel_run(rt.alloc(), rt, cancel, output) {
-        Ok(done) => {
-            *remark = done.remark;
-            Ok(done.status)
-        }
+    let alloc = rt.alloc();
+    match cancel_run(alloc, rt, cancel, output) {
+        Ok(CancelOutcome { status, remark }) => Outcome {
+            answer: Ok(status),
+            remark,
+        },
         Err(CancelFault::Ordered) => {
-            remark.push_str(QUEUED_OR_CANCELLED)?;
-            Err(ToolFault::Usage)
+            bad_usage(alloc, String::from_str(alloc, QUEUED_OR_CANCELLED))
         }
-        Err(CancelFault::Run(fault)) => {
-            let fault = fault.tell(why);
-            if let Some(said) = fault_remark(rt, cancel.dir, fault) {
-                *remark = said;
-            }
-            Err(fault)
-        }
+        Err(CancelFault::Run(fault)) => gave_up(rt, cancel.dir, fault),
     }
 }
 
-/// Does a task, and returns the program's status.
+/// Returns that the usage is bad, with this remark if there was memory for it.
+fn bad_usage(alloc: Global, remark: Result<String, AllocError>) -> Outcome<u8, Global>
+    ensures gives_up { IsErr result.answer }
+    ensures no_other { IfErr result.answer IsQueueFault }
+{
+    match remark {
+        Ok(remark) => Outcome {
+            answer: Err(RunFault::Tool(ToolFault::Usage)),
+            remark,
+        },
+        Err(refused) => Outcome::of(alloc, Err(RunFault::from(refused))),
+    }
+}
+
+/// Returns that a run over the jobs in this folder gave up, with what is wrong with them if that is the fault.
+fn gave_up<R: Files + AllocGlobal>(rt: &R, dir: &str, fault: RunFault) -> Outcome<u8, Global>
+    ensures { result.answer ≡ Err fault }
+{
+    let remark = waiting_remark(rt, dir, &fault).unwrap_or(String::new(rt.alloc()));
+    Outcome {
+        answer: Err(fault),
+        remark,
+    }
+}
+
+/// Does a task.
 fn do_task<R, I, O>(
     rt: &R,
     task: Task<'_>,
-    terminals: Terminals,
-    standard: StandardStreams,
+    console: Console,
     input: &mut I,
     output: &mut O,
-    remark: &mut String,
-    why: &mut Option<SystemFailure>,
-) -> Result<u8, ToolFault>
+) -> Outcome<u8, Global>
 where
-    R: Files<File = File>
-        + Net<Stream = TcpStream, Listener = TcpListener>
-        + Env
-        + AllocGlobal
-        + Eprint
-        + Clock
-        + Clone
-        + Drop,
+    R: System,
     I: uug_stream::Input,
     O: Output,
     ensures { Does task.entry (streams (I.to_come input.old) (I.to_come input.new)
-        (O.written output.old) (O.written output.new)) (string_bytes remark.new) why.new result }
+        (O.written output.old) (O.written output.new)) (string_bytes result.remark) result.answer }
 {
     let (over, file) = match task {
         Task::Scan(file) => (InputTask::Scan, file),
@@ -160,21 +133,22 @@ where
         Task::PlayVerbose(file) => (InputTask::PlayVerbose, file),
         Task::PlaySettled(file) => (InputTask::PlaySettled, file),
         Task::PlayDrawn(how, file) => (InputTask::PlayDrawn(how), file),
-        Task::Version => return show_version(rt.alloc(), output),
-        Task::Pair(pair) => return do_pair(rt, &pair, output, remark, why),
-        Task::Call(call) => return do_call(rt, &call, terminals, standard, output, remark, why),
-        Task::Queue(queue) => return do_queue(rt, &queue, output, remark, why),
-        Task::Cancel(cancel) => return do_cancel(rt, &cancel, output, remark, why),
+        Task::Version => return Outcome::of(rt.alloc(), show_version(rt.alloc(), output)),
+        Task::Pair(pair) => return do_pair(rt, &pair, output),
+        Task::Call(call) => return do_call(rt, &call, console, output),
+        Task::Queue(queue) => return do_queue(rt, &queue, output),
+        Task::Cancel(cancel) => return do_cancel(rt, &cancel, output),
     };
-    do_on(rt, over, file, input, output, remark, why)
+    do_on(rt, over, file, input, output)
 }
 
 /// Says that standard input is read, or at which line a call is waited for, if somebody sits there. Nobody has to, for
 /// it to be said of a port that only this machine can call because no host is given.
-fn greet<R: Eprint + AllocGlobal>(rt: &R, task: Task<'_>, terminals: Terminals) {
+fn greet<R: Eprint + AllocGlobal>(rt: &R, task: Task<'_>, console: Console) {
     match task {
         Task::Call(call)
-            if call.side == Side::Called && (terminals.errors || has_no_host(call.line)) => {
+            if call.side == Side::Called
+                && (console.is_errors_terminal || has_no_host(call.line)) => {
             // A message for which there is no memory is left out.
             let _ = say_waiting(rt, &call);
         }
@@ -184,7 +158,7 @@ fn greet<R: Eprint + AllocGlobal>(rt: &R, task: Task<'_>, terminals: Terminals) 
         | Task::PlayVerbose(None)
         | Task::PlaySettled(None)
         | Task::PlayDrawn(_, None)
-            if terminals.input && terminals.errors => {
+            if console.is_input_terminal && console.is_errors_terminal => {
             let _ = eprint!(rt; "uucpair: reading standard input, up to Ctrl-D\n");
         }
         _ => (),
@@ -214,8 +188,9 @@ fn say_hint<R: Eprint, S: AsStr>(rt: &R, words: &[S]) {
 }
 
 /// Prints the remark on a task that was done.
-fn tell(rt: &impl Eprint, answer: Result<u8, ToolFault>, remark: &str) {
-    if answer.is_ok() && !remark.is_empty() {
+fn tell(rt: &impl Eprint, outcome: &Outcome<u8, Global>) {
+    if outcome.answer.is_ok() && !outcome.remark.is_empty() {
+        let remark = outcome.remark.as_str();
         let _ = eprint!(rt; "{remark}");
     }
 }
@@ -225,20 +200,12 @@ fn tell(rt: &impl Eprint, answer: Result<u8, ToolFault>, remark: &str) {
 pub fn perform<R, S, I, O>(
     rt: &R,
     words: &[S],
-    terminals: Terminals,
-    standard: StandardStreams,
+    console: Console,
     input: &mut I,
     output: &mut O,
 ) -> Result<u8, Stop>
 where
-    R: Files<File = File>
-        + Net<Stream = TcpStream, Listener = TcpListener>
-        + Env
-        + Eprint
-        + Clock
-        + AllocGlobal
-        + Clone
-        + Drop,
+    R: System,
     S: AsStr,
     I: uug_stream::Input,
     O: Output,
@@ -246,25 +213,14 @@ where
         (O.written output.old) (O.written output.new)) result }
 {
     let task = task_of(rt.alloc(), words)?;
-    greet(rt, task, terminals);
-    let mut remark = String::new(rt.alloc());
-    let mut why = None;
-    let answer = do_task(
-        rt,
-        task,
-        terminals,
-        standard,
-        input,
-        output,
-        &mut remark,
-        &mut why,
-    );
-    tell(rt, answer, remark.as_str());
-    end_of(rt.alloc(), task, answer, remark, why)
+    greet(rt, task, console);
+    let outcome = do_task(rt, task, console, input, output);
+    tell(rt, &outcome);
+    end_of(rt.alloc(), task, outcome)
 }
 
 /// Does what the program's own command line asks for, on standard input and output.
-pub fn run<R>(rt: &R, terminals: Terminals, standard: StandardStreams) -> Result<u8, Stop>
+pub fn run<R>(rt: &R, console: Console) -> Result<u8, Stop>
 where
     R: Env
         + Input
@@ -285,7 +241,7 @@ where
         .collect(rt.alloc())?;
     let mut input = SystemInput::new(rt.reader());
     let mut output = SystemOutput::new(io::writer(rt));
-    let ended = perform(rt, &words, terminals, standard, &mut input, &mut output);
+    let ended = perform(rt, &words, console, &mut input, &mut output);
     if let Err(Stop::CommandLine(_)) = &ended {
         say_hint(rt, words.as_slice());
     }

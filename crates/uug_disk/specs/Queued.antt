@@ -1,11 +1,14 @@
 -- What is listed of jobs, and the words of what a person queues (this project's profile).
-use Rattle.std.specs.Prelude.{◌≡◌, ◌&&◌, ℕ, Bool, false, not, List, [], Option, Some, None, Ok, option_map, unwrap_or, if◌then◌else◌}
+use Rattle.std.specs.Prelude.{◌≡◌, ◌&&◌, ℕ, Bool, false, not, List, [], Option, Some, None, Ok, option_map, unwrap_or, if◌then◌else◌, IsSome}
 use Rattle.std.specs.Borrow.{Bor}
 use Rattle.std.specs.List.{list_any}
 use Rattle.std.specs.Str.{bytes_eq}
 use Rattle.uug_conversation.specs.declared.job.Job.{Job}
 use Rattle.uug_conversation.specs.declared.job.Job.TheVariants.{Send, Request}
 use Rattle.uug_folder.specs.JobsText.{jobs_of, jobs_text}
+use Rattle.uug_failure.specs.Faults.{IsQueueFault}
+use Rattle.uug_disk.specs.declared.queue.QueueFault.{QueueFault}
+use Rattle.uug_disk.specs.declared.queue.QueueFault.TheVariants.{Order, Run}
 
 abbrev pub word_in : Option (Bor (List ℕ)) → Option (List ℕ)
 word_in word = option_map (λ (w : Bor (List ℕ)). w.now) word
@@ -30,3 +33,9 @@ has_rival source target jobs = list_any (is_rival source target) jobs
 -- the target, where another job has it
 abbrev pub rival_among : (source target : List ℕ) → List Job → Option (List ℕ)
 rival_among source target jobs = if has_rival source target jobs then Some target else None
+
+-- why nothing was queued or listed: an order that was given and is bad, or the run gave up; a device fault is a call of the system,
+-- which is named
+abbrev pub IsFaultOfQueue : (order : Option (Bor (List ℕ))) → QueueFault → Type 0
+IsFaultOfQueue order (Order fault) = IsSome order
+IsFaultOfQueue order (Run fault) = IsQueueFault fault

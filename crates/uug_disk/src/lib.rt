@@ -36,7 +36,7 @@ pub use opened_jobs::{OpenJobs, open_jobs};
 pub use partial_folder::{drop_partials, hold_partial, read_partials};
 pub use partial_notes::PartialNotes;
 pub use pipe::is_named_pipe;
-pub use queue::{QueueTask, queue_run};
+pub use queue::{QueueFault, QueueTask, queue_run};
 pub use send_folder::{FILES_MAX, GIVEN_MODE, TEXT_MAX, read_send, read_text};
 pub use settled_copies::settle_copies;
 pub use system_folder::SystemFolder;

@@ -1,8 +1,11 @@
 //! Jobs that a person queues, also while sessions run over the same folder, and the list of jobs that wait.
-ghost use Rattle.std.specs.Prelude.{◌≡◌, IfErr, IfOk, IsSome, string_bytes};
+ghost use Rattle.std.specs.Prelude.{◌≡◌, IfErr, IfOk, Some, string_bytes};
 ghost use Rattle.uug_folder.specs.Queueing.{ordered, shown_text, target_with, user_with};
 ghost use Rattle.uug_failure.specs.Faults.{IsQueueFault, IsReadingFault};
-ghost use Rattle.uug_disk.specs.Queued.{IsListOf, has_rival, is_rival, rival_among, word_in, word_or_empty};
+ghost use Rattle.uug_failure.specs.declared.run_fault.RunFault.TheVariants.{Tool as tool};
+ghost use Rattle.uug_stream.specs.declared.fault.ToolFault.TheVariants.{Memory as memory};
+ghost use Rattle.uug_disk.specs.Queued.{IsFaultOfQueue, IsListOf, has_rival, is_rival, rival_among, word_in, word_or_empty};
+ghost use Rattle.uug_disk.specs.declared.queue.QueueFault.TheVariants.{Order as bad_order, Run as gave_up};
 
 use crate::dir_lock::see_dir;
 use crate::queued_copy::{place_copy, read_copied};
@@ -13,10 +16,10 @@ use std::env;
 use std::env::VarError;
 use std::fs::File;
 use std::rt::{Env, Files};
-use uug_failure::{EndDir, RunFault, SystemFailure};
+use uug_failure::{EndDir, RunFault};
 use uug_folder::{OrderFault, default_user, ordered_job, queued_line, with_source, write_jobs};
 use uug_session::Job;
-use uug_stream::{Output, ToolFault, write_all};
+use uug_stream::{Output, write_all};
 use uug_talk::Name;
 
 /// The words of a person who queues a job.
@@ -51,34 +54,61 @@ impl<'a> QueueTask<'a> {
     }
 }
 
+/// The reason why nothing was queued or listed.
+#[derive(Clone, Copy)]
+pub enum QueueFault {
+    /// The order is bad usage.
+    Order(OrderFault),
+    /// The run gave up.
+    Run(RunFault),
+}
+
+impl From<OrderFault> for QueueFault {
+    ghost from_gives = { λ order fault. fault ≡ bad_order order };
+
+    fn from(order: OrderFault) -> QueueFault {
+        QueueFault::Order(order)
+    }
+}
+
+impl From<RunFault> for QueueFault {
+    ghost from_gives = { λ run fault. fault ≡ gave_up run };
+
+    fn from(run: RunFault) -> QueueFault {
+        QueueFault::Run(run)
+    }
+}
+
+impl From<AllocError> for QueueFault {
+    ghost from_gives = { λ _ fault. fault ≡ gave_up (tool memory) };
+
+    fn from(refused: AllocError) -> QueueFault {
+        QueueFault::Run(RunFault::from(refused))
+    }
+}
+
 /// Lists the jobs that wait in the folder of an end, or queues one more. A file that is sent is copied into `send`,
 /// under its own name or one with a number. The job is appended to `jobs`, whether a session runs or not. A line says
-/// which one it is. Returns its target if another job sends a file there. `remark` says why an order is bad usage, and
-/// `why` which call of the system failed.
-pub fn queue_run<A, R, O, B>(
+/// which one it is. Returns its target if another job sends a file there.
+pub fn queue_run<A, R, O>(
     alloc: A,
     rt: &R,
     task: &QueueTask<'_>,
     output: &mut O,
-    remark: &mut String<B>,
-    why: &mut Option<SystemFailure>,
-) -> Result<Option<Name>, ToolFault>
+) -> Result<Option<Name>, QueueFault>
 where
     A: Allocator + Copy,
     R: Files<File = File> + Env + Alloc + Clone + Drop,
     O: Output,
-    B: Allocator,
-    ensures no_other { IfErr result IsQueueFault }
     // A device fault always says which call it was.
-    ensures why { result ≡ Err ToolFault.Device → IsSome why.new }
+    ensures { IfErr result (IsFaultOfQueue task.now.order) }
 {
-    *why = None;
     match task.order {
-        Some(order) => queue_order(alloc, rt, task, order, output, remark, why),
-        None => match list_dir(alloc, rt, task.end_dir(), output, why) {
-            Ok(()) => Ok(None),
-            Err(fault) => Err(fault),
-        },
+        Some(order) => queue_order(alloc, rt, task, order, output),
+        None => {
+            list_dir(alloc, rt, task.end_dir(), output)?;
+            Ok(None)
+        }
     }
 }
 
@@ -88,18 +118,12 @@ fn list_dir<A: Allocator + Copy, R: Files, O: Output>(
     rt: &R,
     dir: EndDir<'_>,
     output: &mut O,
-    why: &mut Option<SystemFailure>,
-) -> Result<(), ToolFault>
-    ensures no_other { IfErr result IsQueueFault }
-    ensures why { result ≡ Err ToolFault.Device → IsSome why.new }
+) -> Result<(), RunFault>
+    ensures { IfErr result IsQueueFault }
 {
-    match list_at(alloc, rt, dir) {
-        Ok(list) => {
-            write_all(output, list.as_bytes())?;
-            Ok(())
-        }
-        Err(fault) => Err(fault.tell(why)),
-    }
+    let list = list_at(alloc, rt, dir)?;
+    write_all(output, list.as_bytes())?;
+    Ok(())
 }
 
 /// Returns the list of the jobs in the folder of an end.
@@ -125,36 +149,38 @@ fn list_of<A: Allocator + Copy>(alloc: A, text: &[u8]) -> Result<String<A>, RunF
 }
 
 /// Queues the job that a person orders. Returns its target if another job sends a file there.
-fn queue_order<A, R, O, B>(
+fn queue_order<A, R, O>(
     alloc: A,
     rt: &R,
     task: &QueueTask<'_>,
     order: &str,
     output: &mut O,
-    remark: &mut String<B>,
-    why: &mut Option<SystemFailure>,
-) -> Result<Option<Name>, ToolFault>
+) -> Result<Option<Name>, QueueFault>
 where
     A: Allocator + Copy,
     R: Files<File = File> + Env + Alloc + Clone + Drop,
     O: Output,
-    B: Allocator,
-    ensures no_other { IfErr result IsQueueFault }
-    ensures why { result ≡ Err ToolFault.Device → IsSome why.new }
+    ensures { IfErr result (IsFaultOfQueue (Some order.entry)) }
 {
     let user = user_at(rt)?;
-    let job = match job_of(task, order, user) {
-        Ok(job) => job,
-        Err(fault) => {
-            write!(remark, "{fault}")?;
-            return Err(ToolFault::Usage);
-        }
-    };
-    let queued = queue_job(alloc, rt, task, &job, why)?;
-    let line = queued_line(alloc, &queued)?;
-    write_all(output, line.as_bytes())?;
+    let job = job_of(task, order, user)?;
+    let queued = queue_job(alloc, rt, task, &job)?;
+    show_queued(alloc, &queued, output)?;
     // Jobs that can't be read again are passed over.
     Ok(rival_of(alloc, rt, task.end_dir(), &queued).unwrap_or(None))
+}
+
+/// Writes which job was queued, as a line.
+fn show_queued<A: Allocator, O: Output>(
+    alloc: A,
+    queued: &Job,
+    output: &mut O,
+) -> Result<(), RunFault>
+    ensures { IfErr result IsQueueFault }
+{
+    let line = queued_line(alloc, queued)?;
+    write_all(output, line.as_bytes())?;
+    Ok(())
 }
 
 /// Returns the target of a job that was queued, if another job sends a file there.
@@ -258,29 +284,18 @@ fn variable<R: Env + Alloc>(rt: &R, name: &str) -> Result<Option<String<R::A>>, 
 
 /// Queues a job in the folder of the task. Returns the job as it was queued: the source of one that sends is the name
 /// of its copy.
-fn queue_job<A, R>(
-    alloc: A,
-    rt: &R,
-    task: &QueueTask<'_>,
-    job: &Job,
-    why: &mut Option<SystemFailure>,
-) -> Result<Job, ToolFault>
+fn queue_job<A, R>(alloc: A, rt: &R, task: &QueueTask<'_>, job: &Job) -> Result<Job, RunFault>
 where
     A: Allocator + Copy,
     R: Files<File = File> + Alloc + Clone + Drop,
-    ensures no_other { IfErr result IsQueueFault }
-    ensures why { result ≡ Err ToolFault.Device → IsSome why.new }
+    ensures { IfErr result IsQueueFault }
 {
-    let queued = match job {
+    match job {
         Job::Send { source, .. } => {
-            let bytes = read_copied(alloc, rt, task.file(), why)?;
+            let bytes = read_copied(alloc, rt, task.file())?;
             queue_copy(alloc, rt, task.end_dir(), job, source, bytes.as_slice())
         }
         Job::Request { .. } => queue_line(alloc, rt, task.end_dir(), job),
-    };
-    match queued {
-        Ok(queued) => Ok(queued),
-        Err(fault) => Err(fault.tell(why)),
     }
 }
 

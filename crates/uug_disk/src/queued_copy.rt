@@ -37,20 +37,20 @@ pub(crate) fn read_copied<A: Allocator + Copy, R: Files>(
     alloc: A,
     rt: &R,
     path: &str,
-    why: &mut Option<SystemFailure>,
-) -> Result<Vec<u8, A>, ToolFault>
+) -> Result<Vec<u8, A>, RunFault>
     ensures within { IfOk result (λ bytes. length bytes.items ≤ FILE_LIMIT_MAX) }
     ensures no_other { IfErr result IsCopyFault }
 {
     let cause = match read_regular(alloc, rt, path) {
         Ok(Some(bytes)) => return Ok(bytes),
         Ok(None) => Cause::TooMuch,
-        Err(error) if error.kind() == ErrorKind::OutOfMemory => return Err(ToolFault::Memory),
+        Err(error) if error.kind() == ErrorKind::OutOfMemory => {
+            return Err(RunFault::Tool(ToolFault::Memory));
+        }
         Err(error) if is_no_file(&error) => Cause::NotAFile,
         Err(error) => Cause::of(&error),
     };
-    *why = Some(SystemFailure::on(Resource::Input, cause));
-    Err(ToolFault::Read)
+    Err(RunFault::Unread(SystemFailure::on(Resource::Input, cause)))
 }
 
 /// Returns whether an error is not the system's, but says that there is no regular file.

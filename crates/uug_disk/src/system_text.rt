@@ -105,8 +105,7 @@ impl<R: Files<File = File>, A: Allocator> TextFile for SystemText<'_, R, A> {
     fn read<B: Allocator + Copy>(&mut self, alloc: B) -> Result<Vec<u8, B>, ToolFault> {
         match self.read_now(alloc) {
             Ok(text) => Ok(text),
-            Err(RunFault::System(_)) => Err(ToolFault::Device),
-            Err(RunFault::Tool(fault)) => Err(fault),
+            Err(fault) => Err(fault.answer()),
         }
     }
 

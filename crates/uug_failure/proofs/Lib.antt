@@ -1,2 +1,3 @@
 pub mod FaultLemmas
+pub mod OutcomeLemmas
 pub mod ReadingLemmas

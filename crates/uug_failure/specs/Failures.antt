@@ -3,12 +3,12 @@ use Rattle.std.specs.Prelude.{◌≡◌, ℕ, Option, Some, None, ⊤}
 use Rattle.std.specs.declared.io.ErrorKind.TheVariants.{Interrupted, WouldBlock}
 use Rattle.uug_session.specs.Engine.{HasFailed, faults_max}
 use Rattle.uug_stream.specs.declared.fault.ToolFault.{ToolFault}
-use Rattle.uug_stream.specs.declared.fault.ToolFault.TheVariants.{Device}
+use Rattle.uug_stream.specs.declared.fault.ToolFault.TheVariants.{Device, Read}
 use Rattle.uug_failure.specs.declared.failure.Cause.{Cause}
 use Rattle.uug_failure.specs.declared.failure.Cause.TheVariants.{Refused}
 use Rattle.uug_failure.specs.declared.failure.SystemFailure.{SystemFailure}
 use Rattle.uug_failure.specs.declared.run_fault.RunFault.{RunFault}
-use Rattle.uug_failure.specs.declared.run_fault.RunFault.TheVariants.{System, Tool}
+use Rattle.uug_failure.specs.declared.run_fault.RunFault.TheVariants.{System, Tool, Unread}
 
 -- the first failure of a device, once this one came too
 abbrev pub first_of : Option SystemFailure → SystemFailure → Option SystemFailure
@@ -24,14 +24,17 @@ IsSilence _ = ⊥
 -- what the program answers
 abbrev pub fault_of_run : RunFault → ToolFault
 fault_of_run (System failure) = Device
+fault_of_run (Unread failure) = Read
 fault_of_run (Tool fault) = fault
 
--- which call of the system failed, as far as it is known then
-abbrev pub told_by : RunFault → Option SystemFailure → Option SystemFailure
-told_by (System failure) why = Some failure
-told_by (Tool fault) why = why
+-- the fault of a run that answers this, where the first call of the system that failed is known
+abbrev pub fault_with : (answer : ToolFault) → (first : Option SystemFailure) → RunFault
+fault_with Device (Some failure) = System failure
+fault_with Read (Some failure) = Unread failure
+fault_with answer first = Tool answer
 
 -- how a count of faults goes: it rises, up to the greatest number, where a call of the system failed, and only there
 abbrev pub NotesFault : RunFault → (count count_after : ℕ) → Type 0
 NotesFault (System failure) count count_after = HasFailed faults_max count count_after
+NotesFault (Unread failure) count count_after = count_after ≡ count
 NotesFault (Tool fault) count count_after = count_after ≡ count

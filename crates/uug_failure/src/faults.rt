@@ -43,7 +43,7 @@ impl Faults {
     {
         match fault {
             RunFault::System(failure) => self.note(failure),
-            RunFault::Tool(_) => (),
+            RunFault::Unread(_) | RunFault::Tool(_) => (),
         }
     }
 

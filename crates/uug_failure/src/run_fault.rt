@@ -1,6 +1,6 @@
 //! The reasons that a run over the system gave up.
 ghost use Rattle.std.specs.Prelude.{◌≡◌, IfErr, IsOk, OnOk};
-ghost use Rattle.uug_failure.specs.Failures.{fault_of_run, told_by};
+ghost use Rattle.uug_failure.specs.Failures.{fault_of_run, fault_with};
 ghost use Rattle.uug_failure.specs.Faults.{IsFolderFault};
 ghost use Rattle.uug_failure.specs.declared.run_fault.RunFault.TheVariants.{Tool as tool};
 ghost use Rattle.uug_stream.specs.declared.fault.ToolFault.TheVariants.{Memory as memory};
@@ -20,6 +20,8 @@ pub const LISTINGS_MAX: u32 = 100;
 pub enum RunFault {
     /// A call of the system failed. The program answers `ToolFault::Device`.
     System(SystemFailure),
+    /// A file that the task names can't be read. The program answers `ToolFault::Read`.
+    Unread(SystemFailure),
     /// Another fault, which is the program's answer.
     Tool(ToolFault),
 }
@@ -37,16 +39,24 @@ impl RunFault {
         }
     }
 
-    /// Stores the failed call of the system in `why`, if that is the reason, and returns the program's answer.
-    pub fn tell(self, why: &mut Option<SystemFailure>) -> ToolFault
-        ensures fault { result ≡ fault_of_run self }
-        ensures why { why.new ≡ told_by self why.old }
+    /// Returns the fault of a run with this answer. `first` is the first call of the system that failed, if one did.
+    pub fn with(answer: ToolFault, first: Option<SystemFailure>) -> RunFault
+        ensures { result ≡ fault_with answer first }
+    {
+        match (answer, first) {
+            (ToolFault::Device, Some(failure)) => RunFault::System(failure),
+            (ToolFault::Read, Some(failure)) => RunFault::Unread(failure),
+            (answer, _) => RunFault::Tool(answer),
+        }
+    }
+
+    /// Returns the program's answer.
+    pub fn answer(self) -> ToolFault
+        ensures { result ≡ fault_of_run self }
     {
         match self {
-            RunFault::System(failure) => {
-                *why = Some(failure);
-                ToolFault::Device
-            }
+            RunFault::System(_) => ToolFault::Device,
+            RunFault::Unread(_) => ToolFault::Read,
             RunFault::Tool(fault) => fault,
         }
     }
@@ -83,5 +93,13 @@ impl From<AllocError> for RunFault {
 
     fn from(_refused: AllocError) -> RunFault {
         RunFault::Tool(ToolFault::Memory)
+    }
+}
+
+impl From<ToolFault> for RunFault {
+    ghost from_gives = { λ answer fault. fault ≡ tool answer };
+
+    fn from(answer: ToolFault) -> RunFault {
+        RunFault::Tool(answer)
     }
 }

@@ -1,12 +1,15 @@
 -- What is done with an input: the answer, what was read, and what was written (this project's profile).
 use Rattle.std.specs.Io.KnownBytes.{Keeps}
 use Rattle.std.specs.Borrow.{Bor}
-use Rattle.std.specs.Prelude.{◌≡◌, ℕ, List, Option, Some, None, Result, Err, IfOk, IfErr, OnOk, IfSome}
+use Rattle.std.specs.Prelude.{◌≡◌, ℕ, List, Option, Some, None, Result, Ok, Err, IfOk, IfErr, OnOk, IfSome, ⊤}
 use Rattle.uug_scan.specs.Scan.{AppendsListing, IsScanFault}
 use Rattle.uug_scan.specs.Detailed.{AppendsDetailed}
 use Rattle.uug_stream.specs.Streams.{ReadsAll}
 use Rattle.uug_stream.specs.declared.fault.ToolFault.{ToolFault}
 use Rattle.uug_stream.specs.declared.fault.ToolFault.TheVariants as faults
+use Rattle.uug_failure.specs.Failures.{fault_of_run}
+use Rattle.uug_failure.specs.declared.run_fault.RunFault.{RunFault}
+use Rattle.uug_failure.specs.declared.run_fault.RunFault.TheVariants.{Tool}
 use Rattle.uug_play.specs.Played.{AppendsReport, AppendsVerbosely, BeforeReport, IsFirstBad, IsPlayFault, OnceRead}
 use Rattle.uug_play.specs.Settled.{AppendsSettled}
 use Rattle.uug_ladder.specs.declared.play.Drawn.{Drawn}
@@ -123,7 +126,17 @@ DoesOverFile over.PlayVerbose s answer = PlaysFile s answer
 DoesOverFile over.PlaySettled s answer = PlaysFile s answer
 DoesOverFile (over.PlayDrawn how) s answer = PlaysFileDrawn s answer
 
+-- what the program answers
+abbrev pub answered : Result ℕ RunFault → Result ℕ ToolFault
+answered (Ok status) = Ok status
+answered (Err fault) = Err (fault_of_run fault)
+
+-- of a file that can't be read it is known why
+abbrev pub IsNamed : RunFault → Type 0
+IsNamed (Tool faults.Read) = ⊥
+IsNamed _ = ⊤
+
 -- what is done with the file of this name, or with standard input where none is named
-abbrev pub DoesOn : InputTask → (file : Option (Bor (List ℕ))) → Streams → (remark : List ℕ) → Result ℕ ToolFault → Type 0
-DoesOn task None s remark answer = DoesOver task s remark answer
-DoesOn task (Some path) s remark answer = DoesOverFile task s answer
+abbrev pub DoesOn : InputTask → (file : Option (Bor (List ℕ))) → Streams → (remark : List ℕ) → Result ℕ RunFault → Type 0
+DoesOn task None s remark answer = DoesOver task s remark (answered answer)
+DoesOn task (Some path) s remark answer = DoesOverFile task s (answered answer) × IfErr answer IsNamed

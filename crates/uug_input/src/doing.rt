@@ -1,15 +1,16 @@
 //! Tasks with an input: with standard input, or with a file.
-ghost use Rattle.std.specs.Prelude.{IfErr, string_bytes};
+ghost use Rattle.std.specs.Prelude.{◌≡◌, IfErr, IsSome, string_bytes};
 ghost use Rattle.uug_scan.specs.Scan.{IsScanFault};
-ghost use Rattle.uug_input.specs.Inputs.{DoesOn, DoesOver, IsFaultOf, Scans, ScansVerbose, streams};
+ghost use Rattle.uug_stream.specs.Streams.{CountsFault};
+ghost use Rattle.uug_input.specs.Inputs.{DoesOn, DoesOver, IsFaultOf, IsNamed, Scans, ScansVerbose, answered, streams};
 
 use crate::input_task::InputTask;
 use std::alloc::Global;
 use std::fs::File;
 use std::rt::Files;
-use uug_failure::{Cause, Resource, SystemFailure};
+use uug_failure::{Cause, Outcome, Resource, RunFault, SystemFailure};
 use uug_ladder::play_ladder;
-use uug_play::{play_remarked, play_settled, play_stream};
+use uug_play::{Remarked, play_remarked, play_settled, play_stream};
 use uug_port::SystemInput;
 use uug_scan::{READ_LIMIT, scan_detailed, scan_stream};
 use uug_stream::{Output, ToolFault};
@@ -21,6 +22,8 @@ where
     O: Output,
     ensures scans { Scans (streams (I.to_come input.old) (I.to_come input.new)
         (O.written output.old) (O.written output.new)) result }
+    ensures read { result ≡ Err ToolFault.Read
+        → CountsFault (I.fault_count input.old) (I.fault_count input.new) }
     ensures no_other { IfErr result IsScanFault }
 {
     scan_stream(alloc, input, output)?;
@@ -34,42 +37,47 @@ where
     O: Output,
     ensures scans { ScansVerbose (streams (I.to_come input.old) (I.to_come input.new)
         (O.written output.old) (O.written output.new)) result }
+    ensures read { result ≡ Err ToolFault.Read
+        → CountsFault (I.fault_count input.old) (I.fault_count input.new) }
     ensures no_other { IfErr result IsScanFault }
 {
     scan_detailed(alloc, input, output, READ_LIMIT)?;
     Ok(0)
 }
 
-/// Opens a file as an input, or returns why that failed.
-fn open<R: Files>(rt: &R, path: &str) -> Result<SystemInput<R::File>, SystemFailure> {
-    match File::open(rt, path) {
-        Ok(file) => Ok(SystemInput::new(file)),
-        Err(error) => Err(SystemFailure::on(Resource::Input, Cause::of(&error))),
-    }
-}
-
 /// Does a task with an input.
-fn do_over<I, O>(
-    alloc: Global,
-    task: InputTask,
-    input: &mut I,
-    output: &mut O,
-    remark: &mut String,
-) -> Result<u8, ToolFault>
+fn do_over<I, O>(alloc: Global, task: InputTask, input: &mut I, output: &mut O) -> Remarked<Global>
 where
     I: uug_stream::Input,
     O: Output,
     ensures does { DoesOver task (streams (I.to_come input.old) (I.to_come input.new)
-        (O.written output.old) (O.written output.new)) (string_bytes remark.new) result }
-    ensures no_other { IfErr result (IsFaultOf task) }
+        (O.written output.old) (O.written output.new)) (string_bytes result.remark) result.answer }
+    ensures read { result.answer ≡ Err ToolFault.Read
+        → CountsFault (I.fault_count input.old) (I.fault_count input.new) }
+    ensures no_other { IfErr result.answer (IsFaultOf task) }
 {
-    match task {
+    let answer = match task {
         InputTask::Scan => scan(alloc, input, output),
         InputTask::ScanVerbose => scan_verbose(alloc, input, output),
         InputTask::Play => play_stream(alloc, input, output),
-        InputTask::PlayVerbose => play_remarked(alloc, input, output, remark),
+        InputTask::PlayVerbose => return play_remarked(alloc, input, output),
         InputTask::PlaySettled => play_settled(alloc, input, output),
         InputTask::PlayDrawn(how) => play_ladder(alloc, input, output, how),
+    };
+    Remarked {
+        answer,
+        remark: String::new(alloc),
+    }
+}
+
+/// Returns this answer. `first` is the first read of the input that failed, if one did.
+fn with_cause(answer: Result<u8, ToolFault>, first: Option<SystemFailure>) -> Result<u8, RunFault>
+    ensures answered { answered result ≡ answer }
+    ensures named { (answer ≡ Err ToolFault.Read → IsSome first) → IfErr result IsNamed }
+{
+    match answer {
+        Ok(status) => Ok(status),
+        Err(fault) => Err(RunFault::with(fault, first)),
     }
 }
 
@@ -80,27 +88,32 @@ pub fn do_on<R, I, O>(
     file: Option<&str>,
     input: &mut I,
     output: &mut O,
-    remark: &mut String,
-    why: &mut Option<SystemFailure>,
-) -> Result<u8, ToolFault>
+) -> Outcome<u8, Global>
 where
     R: Files + AllocGlobal,
     I: uug_stream::Input,
     O: Output,
     ensures { DoesOn task file.entry (streams (I.to_come input.old) (I.to_come input.new)
-        (O.written output.old) (O.written output.new)) (string_bytes remark.new) result }
+        (O.written output.old) (O.written output.new)) (string_bytes result.remark) result.answer }
 {
     let Some(path) = file else {
-        return do_over(rt.alloc(), task, input, output, remark);
+        let Remarked { answer, remark } = do_over(rt.alloc(), task, input, output);
+        return Outcome {
+            answer: with_cause(answer, None),
+            remark,
+        };
     };
-    let mut opened = match open(rt, path) {
-        Ok(opened) => opened,
-        Err(failure) => {
-            *why = Some(failure);
-            return Err(ToolFault::Read);
+    let file = match File::open(rt, path) {
+        Ok(file) => file,
+        Err(error) => {
+            let failure = SystemFailure::on(Resource::Input, Cause::of(&error));
+            return Outcome::of(rt.alloc(), Err(RunFault::Unread(failure)));
         }
     };
-    let answer = do_over(rt.alloc(), task, &mut opened, output, remark);
-    *why = opened.failure();
-    answer
+    let mut opened = SystemInput::new(file);
+    let Remarked { answer, remark } = do_over(rt.alloc(), task, &mut opened, output);
+    Outcome {
+        answer: with_cause(answer, opened.failure()),
+        remark,
+    }
 }

@@ -5,4 +5,6 @@
 pub mod laws;
 mod pair;
 
-pub use pair::{FinishedPair, PairParts, TURNS_MAX, pair_run, pair_run_with_reason, run_both};
+pub use pair::{
+    FinishedPair, PairParts, PairRun, TURNS_MAX, pair_run, pair_run_with_reason, run_both,
+};

@@ -1,15 +1,18 @@
 //! Two folders, and the socket between their ends.
-ghost use Rattle.std.specs.Prelude.{◌≡◌, ◌≢◌, ◌≤◌, ◌<◌, ◌↔◌, ◌&&◌, false, IfErr, IfOk, IsSome};
+ghost use Rattle.std.specs.Prelude.{◌≡◌, ◌≤◌, ◌<◌, ◌↔◌, ◌&&◌, false, IfErr, IfOk, IsSome};
 ghost use Rattle.uug_events.specs.Beginnings.{IsSoundBeginning};
 ghost use Rattle.uug_events.specs.NodeRuns.{HasRun};
 ghost use Rattle.uug_folder.specs.JobsText.{IsQueueOf};
 ghost use Rattle.uug_stream.specs.Streams.{CountsFault};
 ghost use Rattle.uug_transfer.specs.FaultInjection.{is_in_range};
-ghost use Rattle.uug_failure.specs.Faults.{IsReadingFault, IsRunFault};
+ghost use Rattle.uug_failure.specs.Failures.{fault_with};
+ghost use Rattle.uug_failure.specs.Faults.{IsReadingFault, IsRunFault, IsSessionFault};
+ghost use Rattle.uug_pair.specs.Answers.{IsRunAnswer};
 ghost use Rattle.uug_pair.specs.GoneJobs.{GoneJobsWereDone, beginnings_of, kept_by, nodes_of};
 ghost use Rattle.uug_task.specs.Places.{IsPlaceInPair};
 ghost use Rattle.uug_task.specs.Tasks.{beginning_of};
 ghost use Rattle.uug_transfer.specs.BufferedNodes.{IsLed, node_in, spool_in};
+ghost use Rattle.uug_transfer.specs.EndOver.{IsEndFault};
 
 use std::alloc::{AllocError, Allocator};
 use std::fs::File;
@@ -59,7 +62,40 @@ pub struct FinishedPair<'a, R: Files, A: Allocator + Copy> {
     /// The end that was called.
     pub called: SystemEnd<'a, R, A>,
     /// The program's status, or the first fault.
-    pub answer: Result<u8, ToolFault>,
+    pub answer: Result<u8, RunFault>,
+}
+
+/// A run of two ends: their socket, their folders, and the faults on the line between them.
+#[derive(Clone, Copy)]
+pub struct PairRun<'a> {
+    /// The path at which the socket is made.
+    pub socket: &'a str,
+    /// The folder of the end that calls.
+    pub dir_a: &'a str,
+    /// The folder of the end that is called.
+    pub dir_b: &'a str,
+    /// The N of which every Nth packet is lost.
+    pub drop_every: Option<u32>,
+    /// The N of which every Nth packet is changed.
+    pub flip_every: Option<u32>,
+}
+
+impl<'a> PairRun<'a> {
+    /// Returns the folder of the end that calls.
+    fn caller_dir(&self) -> EndDir<'a> {
+        EndDir {
+            path: self.dir_a,
+            number: 0,
+        }
+    }
+
+    /// Returns the folder of the end that is called.
+    fn called_dir(&self) -> EndDir<'a> {
+        EndDir {
+            path: self.dir_b,
+            number: 1,
+        }
+    }
 }
 
 /// Runs the caller `a` over the folder `dir_a` and the called end `b` over `dir_b`, as `pair_run_with_reason` does, and
@@ -79,68 +115,50 @@ pub fn pair_run<A: Allocator + Copy, R: Files<File = File> + Net + Alloc + Clone
     ensures status { IfOk result (λ status. status ≤ 1) }
     ensures write { result ≡ Err ToolFault.Write
         → CountsFault (O.fault_count output.old) (O.fault_count output.new) }
-    ensures no_other { IfErr result IsRunFault }
+    ensures no_other { IfErr result IsRunAnswer }
 {
-    let mut why = None;
-    pair_run_with_reason(
-        alloc, rt, socket, dir_a, dir_b, drop_every, flip_every, output, &mut why,
-    )
+    let run = PairRun {
+        socket,
+        dir_a,
+        dir_b,
+        drop_every,
+        flip_every,
+    };
+    match pair_run_with_reason(alloc, rt, &run, output) {
+        Ok(status) => Ok(status),
+        Err(fault) => Err(fault.answer()),
+    }
 }
 
 /// Runs the caller `a` over the folder `dir_a` and the called end `b` over `dir_b`, over a Unix socket that is made at
 /// the path `socket`. Every Nth packet is lost, and every Nth changed, for an N of its own each, if one is given.
 /// `docs/OPERATING.md` describes what is in a folder. Both folders are locked before anything in them is read. Returns
-/// the program's status. `why` says which call of the system failed first, if one did, or which folder another run
-/// holds.
+/// the program's status. A fault says which call of the system failed first, if that is the reason, or which folder
+/// another run holds.
 pub fn pair_run_with_reason<
     A: Allocator + Copy,
     R: Files<File = File> + Net + Alloc + Clone + Drop,
     O: Output,
->(
-    alloc: A,
-    rt: &R,
-    socket: &str,
-    dir_a: &str,
-    dir_b: &str,
-    drop_every: Option<u32>,
-    flip_every: Option<u32>,
-    output: &mut O,
-    why: &mut Option<SystemFailure>,
-) -> Result<u8, ToolFault>
-    ensures usage { (result ≡ Err ToolFault.Usage) ↔
-        ((is_in_range drop_every && is_in_range flip_every) ≡ false) }
+>(alloc: A, rt: &R, run: &PairRun<'_>, output: &mut O) -> Result<u8, RunFault>
+    ensures usage { (result ≡ Err (RunFault.Tool ToolFault.Usage)) ↔
+        ((is_in_range run.now.drop_every && is_in_range run.now.flip_every) ≡ false) }
     ensures status { IfOk result (λ status. status ≤ 1) }
-    ensures write { result ≡ Err ToolFault.Write
+    ensures write { result ≡ Err (RunFault.Tool ToolFault.Write)
         → CountsFault (O.fault_count output.old) (O.fault_count output.new) }
-    ensures no_other { IfErr result IsRunFault }
     // A device fault always says which call it was.
-    ensures why { result ≡ Err ToolFault.Device → IsSome why.new }
+    ensures no_other { IfErr result IsRunFault }
 {
-    *why = None;
-    let Some(injector) = FaultInjector::new(drop_every, flip_every) else {
-        return Err(ToolFault::Usage);
+    let Some(injector) = FaultInjector::new(run.drop_every, run.flip_every) else {
+        return Err(RunFault::Tool(ToolFault::Usage));
     };
-    let dir_a = EndDir {
-        path: dir_a,
-        number: 0,
-    };
-    let dir_b = EndDir {
-        path: dir_b,
-        number: 1,
-    };
-    let lock_a = match lock_dir(alloc, rt, dir_a) {
-        Ok(lock_a) => lock_a,
-        Err(fault) => return Err(fault.tell(why)),
-    };
-    let result = match lock_dir(alloc, rt, dir_b) {
+    let lock_a = lock_dir(alloc, rt, run.caller_dir())?;
+    let result = match lock_dir(alloc, rt, run.called_dir()) {
         Ok(lock_b) => {
-            let result = run_locked(
-                alloc, rt, socket, &lock_a, &lock_b, dir_a, dir_b, injector, output, why,
-            );
+            let result = run_locked(alloc, rt, run, &lock_a, &lock_b, injector, output);
             drop(lock_b);
             result
         }
-        Err(fault) => Err(fault.tell(why)),
+        Err(fault) => Err(fault),
     };
     drop(lock_a);
     result
@@ -150,34 +168,24 @@ pub fn pair_run_with_reason<
 fn run_locked<A: Allocator + Copy, R: Files<File = File> + Net + Alloc + Clone + Drop, O: Output>(
     alloc: A,
     rt: &R,
-    socket: &str,
+    run: &PairRun<'_>,
     lock_a: &DirLock<A>,
     lock_b: &DirLock<A>,
-    dir_a: EndDir<'_>,
-    dir_b: EndDir<'_>,
     injector: FaultInjector,
     output: &mut O,
-    why: &mut Option<SystemFailure>,
-) -> Result<u8, ToolFault>
+) -> Result<u8, RunFault>
     ensures status { IfOk result (λ status. status ≤ 1) }
-    ensures write { result ≡ Err ToolFault.Write
+    ensures write { result ≡ Err (RunFault.Tool ToolFault.Write)
         → CountsFault (O.fault_count output.old) (O.fault_count output.new) }
-    ensures no_other { IfErr result IsRunFault }
-    ensures no_usage { result ≢ Err ToolFault.Usage }
-    ensures why { result ≡ Err ToolFault.Device → IsSome why.new }
+    ensures no_other { IfErr result IsSessionFault }
 {
-    let parts = match read_both(alloc, rt, lock_a, lock_b, dir_a, dir_b) {
-        Ok(parts) => parts,
-        Err(fault) => return Err(fault.tell(why)),
-    };
-    let Ok(finished) = run_both(alloc, rt, socket, parts, injector, output, why) else {
-        return Err(ToolFault::Memory);
-    };
+    let (dir_a, dir_b) = (run.caller_dir(), run.called_dir());
+    let parts = read_both(alloc, rt, lock_a, lock_b, dir_a, dir_b)?;
     let FinishedPair {
         caller,
         called,
         answer,
-    } = finished;
+    } = run_both(alloc, rt, run.socket, parts, injector, output)?;
     drop(caller);
     drop(called);
     answer
@@ -198,7 +206,6 @@ pub fn run_both<
     parts: PairParts<'a, R, A>,
     injector: FaultInjector,
     output: &mut O,
-    why: &mut Option<SystemFailure>,
 ) -> Result<FinishedPair<'a, R, A>, AllocError>
     requires caller_calm { parts.caller.jobs.file.faults.count ≡ 0 }
     requires called_calm { parts.called.jobs.file.faults.count ≡ 0 }
@@ -225,12 +232,10 @@ pub fn run_both<
         finished.caller.buffered finished.called.buffered)
         (nodes_of finished.caller.buffered finished.called.buffered)) }
     ensures status { IfOk result (λ finished. IfOk finished.answer (λ status. status ≤ 1)) }
-    ensures write { IfOk result (λ finished. finished.answer ≡ Err ToolFault.Write
+    ensures write { IfOk result (λ finished. finished.answer
+        ≡ Err (RunFault.Tool ToolFault.Write)
         → CountsFault (O.fault_count output.old) (O.fault_count output.new)) }
-    ensures no_other { IfOk result (λ finished. IfErr finished.answer IsRunFault) }
-    ensures no_usage { IfOk result (λ finished. finished.answer ≢ Err ToolFault.Usage) }
-    ensures why { IfOk result (λ finished.
-        finished.answer ≡ Err ToolFault.Device → IsSome why.new) }
+    ensures no_other { IfOk result (λ finished. IfErr finished.answer IsSessionFault) }
 {
     the_file_of_a_job_that_is_gone_was_kept();
     let PairParts { caller, called } = parts;
@@ -248,7 +253,7 @@ pub fn run_both<
             return Err(AllocError);
         }
     };
-    let answer = run_ends(alloc, rt, socket, &mut caller, &mut called, output, why);
+    let answer = run_ends(alloc, rt, socket, &mut caller, &mut called, output);
     Ok(FinishedPair {
         caller,
         called,
@@ -264,8 +269,7 @@ fn run_ends<'a, A: Allocator + Copy, R: Files<File = File> + Net + Alloc + Clone
     caller: &mut SystemEnd<'a, R, A>,
     called: &mut SystemEnd<'a, R, A>,
     output: &mut O,
-    why: &mut Option<SystemFailure>,
-) -> Result<u8, ToolFault>
+) -> Result<u8, RunFault>
     requires caller_calm { caller.old.jobs.file.faults.count ≡ 0 }
     requires called_calm { called.old.jobs.file.faults.count ≡ 0 }
     ensures caller_led { IsLed
@@ -281,20 +285,29 @@ fn run_ends<'a, A: Allocator + Copy, R: Files<File = File> + Net + Alloc + Clone
         (⟦<SystemSpool<'a, R, A> as Spool>⟧.kept (spool_in called.new.buffered))
         (node_in called.old.buffered) (node_in called.new.buffered) }
     ensures status { IfOk result (λ status. status ≤ 1) }
-    ensures write { result ≡ Err ToolFault.Write
+    ensures write { result ≡ Err (RunFault.Tool ToolFault.Write)
         → CountsFault (O.fault_count output.old) (O.fault_count output.new) }
-    ensures no_other { IfErr result IsRunFault }
-    ensures no_usage { result ≢ Err ToolFault.Usage }
-    ensures why { result ≡ Err ToolFault.Device → IsSome why.new }
+    ensures no_other { IfErr result IsSessionFault }
 {
     events_follow_events();
-    let mut line = match open_wire(rt, socket) {
-        Ok(line) => line,
-        Err(fault) => return Err(fault.tell(why)),
-    };
+    let mut line = open_wire(rt, socket)?;
     let result = pair_over(alloc, caller, called, &mut line, TURNS_MAX, output);
-    *why = failure_of(caller).or(failure_of(called)).or(line.failure());
-    result
+    let first = failure_of(caller).or(failure_of(called)).or(line.failure());
+    with_cause(result, first)
+}
+
+/// Returns the answer of a run. `first` is the first failed call of the system: one has failed if a device did.
+fn with_cause(answer: Result<u8, ToolFault>, first: Option<SystemFailure>) -> Result<u8, RunFault>
+    requires named { answer ≡ Err ToolFault.Device → IsSome first }
+    requires no_other { IfErr answer IsEndFault }
+    ensures ok { IfOk answer (λ status. result ≡ Ok status) }
+    ensures err { IfErr answer (λ fault. result ≡ Err (fault_with fault first)) }
+    ensures no_other { IfErr result IsSessionFault }
+{
+    match answer {
+        Ok(status) => Ok(status),
+        Err(fault) => Err(RunFault::with(fault, first)),
+    }
 }
 
 /// Returns which call of the system on the folder of an end failed first: in `got`, else on its jobs.

@@ -12,7 +12,7 @@ mod whole;
 pub use play::{play_stream, play_within};
 pub use played::{Played, PlayedVerbosely, play_script, play_script_verbosely, shown};
 pub use reasons::{Reason, add_reasons};
-pub use remarked::play_remarked;
+pub use remarked::{Remarked, play_remarked};
 pub use settled::{play_settled, settle_script};
 pub use unsettled::{Unsettled, why_unsettled};
 pub use whole::read_whole;

@@ -5,7 +5,7 @@ use crate::assertions::{assert_same, assert_so};
 use std::alloc::Global;
 use std::process::Abort;
 use std::test::Fail;
-use uug_play::play_remarked;
+use uug_play::{Remarked, play_remarked};
 use uug_stream::{MemoryInput, MemoryOutput, ToolFault};
 
 /// Third lines, after two that set up the ends, and the error in each.
@@ -69,20 +69,14 @@ const REMARKS: &[(&[u8], &str)] = &[
 ];
 
 /// Plays the script.
-fn play(
-    alloc: Global,
-    script: &[u8],
-    output: &mut MemoryOutput<Global>,
-    remark: &mut String,
-) -> Result<u8, ToolFault> {
-    play_remarked(alloc, &mut MemoryInput::new(script), output, remark)
+fn play(alloc: Global, script: &[u8], output: &mut MemoryOutput<Global>) -> Remarked<Global> {
+    play_remarked(alloc, &mut MemoryInput::new(script), output)
 }
 
 /// Checks the remark on a script whose line of this number is bad.
 fn check_remark(rt: &(impl Abort + AllocGlobal), script: &[u8], number: usize, expected: &str) {
     let mut output = MemoryOutput::new(rt.alloc());
-    let mut remark = String::new(rt.alloc());
-    let answer = play(rt.alloc(), script, &mut output, &mut remark);
+    let Remarked { answer, remark } = play(rt.alloc(), script, &mut output);
     assert_same(rt, answer, Err(ToolFault::Script(number)));
     assert_same(rt, remark.as_str(), expected);
     assert_same(rt, output.bytes().len(), 0);
@@ -140,8 +134,7 @@ const MISSING: &str =
 /// Checks the remarks on the jobs of a script, beside its report.
 fn check_reasons(rt: &(impl Abort + AllocGlobal), script: &[u8], expected: &str) {
     let mut output = MemoryOutput::new(rt.alloc());
-    let mut remark = String::new(rt.alloc());
-    let answer = play(rt.alloc(), script, &mut output, &mut remark);
+    let Remarked { answer, remark } = play(rt.alloc(), script, &mut output);
     assert_so(rt, answer.is_ok());
     assert_same(rt, remark.as_str(), expected);
     assert_so(rt, output.bytes().ends_with(b"verdict clean\n"));
@@ -195,8 +188,7 @@ fn says_that_a_file_is_too_large(rt: HostRuntime) -> Result<(), Fail> {
 fn says_nothing_of_a_good_script(rt: HostRuntime) {
     let script = b"caller a 2 32\ncalled b 2 32\nflow 20\n".as_slice();
     let mut output = MemoryOutput::new(rt.alloc());
-    let mut remark = String::new(rt.alloc());
-    let answer = play(rt.alloc(), script, &mut output, &mut remark);
+    let Remarked { answer, remark } = play(rt.alloc(), script, &mut output);
     assert_same(&rt, answer, Ok(0));
     assert_same(&rt, remark.as_str(), "");
     assert_so(&rt, !output.bytes().is_empty());

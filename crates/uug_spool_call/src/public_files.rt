@@ -9,9 +9,9 @@ use std::alloc::{AllocError, Allocator};
 use std::fs::File;
 use std::rt::Files;
 use uug_failure::RunFault;
-use uug_session::{Side, Stored};
+use uug_session::Stored;
 use uug_spool::{Room, spot_of};
-use uug_spool_disk::{PublicListing, SpoolPaths, is_known, list_public, read_public};
+use uug_spool_disk::{PublicListing, SpoolPaths, list_public, read_public};
 use uug_talk::{FILE_LIMIT_MAX, Name};
 
 /// The most names of the public folder that are looked at.
@@ -38,15 +38,13 @@ pub(crate) fn look_at_public<A: Allocator + Copy, R: Files + Alloc + Clone + Dro
     }
 }
 
-/// Adds the files of these names in the public folder to those that an end gives, where it calls, or the spool has a folder of the
-/// caller: each that everybody may read, as long as all have so many bytes together at most. One that the system fails to read is
-/// noted.
+/// Adds the files of these names in the public folder to those that an end gives: each that everybody may read, as long
+/// as all have so many bytes together at most. One that the system fails to read is noted.
 pub(crate) fn add_public<A: Allocator + Copy, R: Files<File = File>>(
     files: &mut Vec<Stored<A>, A>,
     ungiven: &mut Vec<Unread, A>,
     alloc: A,
     rt: &R,
-    side: Side,
     paths: &SpoolPaths<A>,
     names: &[Name],
     most: u64,
@@ -54,9 +52,6 @@ pub(crate) fn add_public<A: Allocator + Copy, R: Files<File = File>>(
     ensures adds { OnOk result (AddsPublic files.old.items files.new.items) }
     ensures no_other { IfErr result IsFolderFault }
 {
-    if side == Side::Called && !is_known(alloc, rt, paths)? {
-        return Ok(());
-    }
     let mut room = most.saturating_sub(size_of(files.as_slice()));
     for name in names.iter().take(PUBLIC_NAMES_MAX) {
         add_file(files, ungiven, alloc, rt, paths, name, &mut room)?;

@@ -1,6 +1,6 @@
 //! The session of an end over a spool.
-ghost use Rattle.std.specs.Prelude.{◌≡◌, ◌≢◌, ◌<◌, ◌≤◌, ◌⊎◌, Some, IfErr, IfOk, IsErr, IsSome, OnOk, is_some, string_bytes};
-ghost use Rattle.uug_failure.specs.Faults.{IsFolderFault, IsRunFault};
+ghost use Rattle.std.specs.Prelude.{◌≡◌, ◌≢◌, ◌<◌, ◌≤◌, Some, IfErr, IfOk, IsErr, OnOk, is_some, string_bytes};
+ghost use Rattle.uug_failure.specs.Faults.{IsFaultAtLine, IsFolderFault};
 ghost use Rattle.uug_mailbox.specs.OpenLines.{jobs_of};
 ghost use Rattle.uug_mailbox.specs.WorkStores.{lines_of};
 ghost use Rattle.uug_session.specs.Engine.{HasFailed, IsEnded};
@@ -27,18 +27,18 @@ use std::io::ErrorKind;
 use std::rt::{Env, Files};
 use std::time::Clock;
 use uug_disk::NoFile;
-use uug_failure::{Cause, Resource, RunFault, SystemFailure};
+use uug_failure::{Cause, Ended, Resource, RunFault};
 use uug_folder::{add_failed, add_state};
 use uug_log::LocalClock;
 use uug_mailbox::PublicFolder;
 use uug_session::{Node, Place, Side, Spool};
 use uug_spool::Room;
-use uug_spool_disk::{PublicListing, SpoolPaths, linked_room};
+use uug_spool_disk::{PublicListing, SpoolPaths, is_known, linked_room};
 use uug_stream::{Output, ToolFault, write_all};
 use uug_transfer::{BYTES_MAX, EndLine, PatienceLimits, SessionFault, run_session};
 
-/// An end over a spool has its session at its line. What was left between its arrival and its place is put there first. A job
-/// that is over is taken off the disk before anything is written that acknowledges it. The answer is the program's status.
+/// Runs the session of an end over a spool at its line. What was left between its arrival and its place is put there
+/// first. A job that is over is taken off the disk before anything is written that acknowledges it.
 pub fn talk_over_spool<A, R, L, O>(
     alloc: A,
     rt: &R,
@@ -47,62 +47,25 @@ pub fn talk_over_spool<A, R, L, O>(
     limits: PatienceLimits,
     line: &mut L,
     output: &mut O,
-    why: &mut Option<SystemFailure>,
-) -> Result<u8, ToolFault>
+) -> Result<Ended, RunFault>
 where
     A: Allocator + Copy,
     R: Files<File = File> + Clock + Env + Eprint + AllocGlobal + Clone + Drop,
     L: EndLine,
     O: Output,
-    ensures status { IfOk result (λ status. status ≤ 1) }
-    // A report is printed whose session is done where the status is 0, and is not where it is 1, or jobs were put off.
-    ensures reported { IfOk result (λ status. IsReported call.now.side status
+    ensures status { IfOk result (λ ended. ended.status ≤ 1) }
+    // A report is printed whose session is done if the status is 0, and is not if it is 1, or jobs were put off.
+    ensures reported { IfOk result (λ ended. IsReported call.now.side ended.status
         (O.written output.old) (O.written output.new)) }
-    ensures write { result ≡ Err ToolFault.Write
+    ensures write { result ≡ Err (RunFault.Tool ToolFault.Write)
         → CountsFault (O.fault_count output.old) (O.fault_count output.new) }
-    ensures no_other { IfErr result IsRunFault }
-    ensures no_usage { result ≢ Err ToolFault.Usage }
-    // Where the line has not failed it is said which call on the spool it was.
-    ensures why { result ≡ Err ToolFault.Device
-        → IsSome why.new ⊎ (0 < L.fault_count line.new) }
+    ensures no_other { IfErr result IsFaultAtLine }
+    // A call on the spool that failed is named.
+    ensures line { result ≡ Err (RunFault.Tool ToolFault.Device) → 0 < L.fault_count line.new }
 {
-    match paths_of(alloc, call, place.peer) {
-        Ok(paths) => talk_at(alloc, rt, call, place, limits, &paths, line, output, why),
-        Err(AllocError) => Err(ToolFault::Memory),
-    }
-}
-
-/// The same, over the folders of a system.
-fn talk_at<A, R, L, O>(
-    alloc: A,
-    rt: &R,
-    call: &SpoolCall<'_>,
-    place: Place,
-    limits: PatienceLimits,
-    paths: &SpoolPaths<A>,
-    line: &mut L,
-    output: &mut O,
-    why: &mut Option<SystemFailure>,
-) -> Result<u8, ToolFault>
-where
-    A: Allocator + Copy,
-    R: Files<File = File> + Clock + Env + Eprint + AllocGlobal + Clone + Drop,
-    L: EndLine,
-    O: Output,
-    ensures status { IfOk result (λ status. status ≤ 1) }
-    ensures reported { IfOk result (λ status. IsReported call.now.side status
-        (O.written output.old) (O.written output.new)) }
-    ensures write { result ≡ Err ToolFault.Write
-        → CountsFault (O.fault_count output.old) (O.fault_count output.new) }
-    ensures no_other { IfErr result IsRunFault }
-    ensures no_usage { result ≢ Err ToolFault.Usage }
-    ensures why { result ≡ Err ToolFault.Device
-        → IsSome why.new ⊎ (0 < L.fault_count line.new) }
-{
-    let mut end = match begin(alloc, rt, call, place, paths) {
-        Ok(end) => end,
-        Err(fault) => return Err(fault.tell(why)),
-    };
+    let paths = paths_of(alloc, call, place.peer)?;
+    let paths = &paths;
+    let mut end = begin(alloc, rt, call, place, paths)?;
     let clock = LocalClock::read(rt);
     let begun = begin_call(alloc, rt, call, paths, &clock);
     tell_passed_over(alloc, rt, call, paths, &clock, &end);
@@ -116,16 +79,16 @@ where
         is_left,
         output,
     );
-    *why = end.failure();
+    let ended = Ended::of(answer, end.failure());
     end_call(alloc, rt, call, paths, &clock, &end, begun);
     mail_failed(alloc, rt, &clock, &place.me, paths, &end);
     hold_left_of(alloc, rt, paths, end.buffered.node());
     drop(clock);
     drop(end);
-    answer
+    ended
 }
 
-/// The end has its session.
+/// Runs the session of the end.
 fn run_end<'a, 'p, A, R, L>(
     alloc: A,
     end: &mut SpoolEnd<'a, 'p, R, A>,
@@ -214,21 +177,17 @@ where
     };
     let Arrivals { came, aside } = finish_arrivals(alloc, rt, paths, &mut public)?;
     let mut work = read_work(alloc, rt, paths, &place.me, call.allowance)?;
+    work.came = came;
     work.aside = aside;
-    add_public(
-        &mut work.files,
-        &mut ungiven,
-        alloc,
-        rt,
-        call.side,
-        paths,
-        files.as_slice(),
-        call.allowance.bytes,
-    )?;
+    // A caller that the spool does not know is given nothing.
+    if call.side == Side::Caller || is_known(alloc, rt, paths)? {
+        let (names, most) = (files.as_slice(), call.allowance.bytes);
+        add_public(&mut work.files, &mut ungiven, alloc, rt, paths, names, most)?;
+    }
     public.delayed = names_of(alloc, ungiven.as_slice())?;
     work.ungiven = ungiven;
     work.partials = read_held(alloc, rt, call, paths)?;
-    Ok(SpoolEnd::begin(alloc, rt, call, place, paths, came, work, public)?)
+    Ok(SpoolEnd::begin(alloc, rt, call, place, paths, work, public)?)
 }
 
 /// A link in the place of a folder of the spool's own could lead anywhere: there is no session then, and it is said which one that is.
@@ -271,8 +230,7 @@ fn answer_of<S: Spool, A: Allocator + Copy, O: Output>(
         (O.written output.old) (O.written output.new)) }
     ensures write { result ≡ Err ToolFault.Write
         → CountsFault (O.fault_count output.old) (O.fault_count output.new) }
-    ensures no_other { IfErr result IsRunFault }
-    ensures no_usage { result ≢ Err ToolFault.Usage }
+    ensures no_other { IfErr result (λ fault. IsFaultAtLine (RunFault.Tool fault)) }
     ensures device { result ≡ Err ToolFault.Device → IsErr session }
     // What has failed on the disk is never a session that is over.
     ensures jobs { session ≡ Err SessionFault.Jobs → result ≡ Err ToolFault.Device }

@@ -63,7 +63,6 @@ impl<'a, 'p, R: Files<File = File>, A: Allocator + Copy> SpoolEnd<'a, 'p, R, A> 
         call: &SpoolCall<'_>,
         place: Place,
         paths: &'p SpoolPaths<A>,
-        came: Vec<Came<A>, A>,
         work: Work<A>,
         public: PublicFolder<A>,
     ) -> Result<Self, AllocError>
@@ -82,7 +81,7 @@ impl<'a, 'p, R: Files<File = File>, A: Allocator + Copy> SpoolEnd<'a, 'p, R, A> 
             call.now.allowance.limit.bytes (shown_public public) work.partials (map kept_of work.files.items)) }
         ensures kept { IfOk result (λ end.
             ⟦<SpoolFiles<'a, 'p, R, A> as Spool>⟧.kept (spool_in end.buffered) ≡ []) }
-        ensures came { IfOk result (λ end. came_of (spool_in end.buffered).folder ≡ came.items) }
+        ensures came { IfOk result (λ end. came_of (spool_in end.buffered).folder ≡ work.came.items) }
         ensures marks { IfOk result (λ end.
             marks_of (spool_in end.buffered).folder ≡ no_marks) }
         ensures begun { IfOk result (λ end. HasBegunAt call.now.side place
@@ -97,7 +96,6 @@ impl<'a, 'p, R: Files<File = File>, A: Allocator + Copy> SpoolEnd<'a, 'p, R, A> 
             Ok(queue) => queue,
             Err(AllocError) => {
                 drop(public);
-                drop(came);
                 drop(work);
                 return Err(AllocError);
             }
@@ -106,7 +104,6 @@ impl<'a, 'p, R: Files<File = File>, A: Allocator + Copy> SpoolEnd<'a, 'p, R, A> 
             Ok(notes) => notes,
             Err(AllocError) => {
                 drop(public);
-                drop(came);
                 drop(work);
                 drop(queue);
                 return Err(AllocError);
@@ -120,6 +117,7 @@ impl<'a, 'p, R: Files<File = File>, A: Allocator + Copy> SpoolEnd<'a, 'p, R, A> 
             executions,
             unread,
             ungiven,
+            came,
             aside,
             partials,
             ..

@@ -21,7 +21,8 @@ use uug_conversation::has_name;
 use uug_failure::{Cause, RunFault};
 use uug_folder::Allowance;
 use uug_mailbox::{
-    CommandText, Execution, OpenLine, add_file, held_lines, read_execution, read_offer, text_name,
+    Came, CommandText, Execution, OpenLine, add_file, held_lines, read_execution, read_offer,
+    text_name,
 };
 use uug_session::{FileLimit, JOBS_MAX, Job, Partials, Stored};
 use uug_spool::{
@@ -109,6 +110,8 @@ pub(crate) struct Work<A: Allocator> {
     pub(crate) unread: Vec<Unread, A>,
     /// The files that are not given because they can't be read.
     pub(crate) ungiven: Vec<Unread, A>,
+    /// Names the markers of what had come.
+    pub(crate) came: Vec<Came<A>, A>,
     /// Names what had come and was set aside.
     pub(crate) aside: Vec<Unread, A>,
     /// Holds the first bytes of files that were cut off, if the end resumes such files.
@@ -127,10 +130,23 @@ impl<A: Allocator + Copy> Work<A> {
             executions: Vec::new(alloc),
             unread: Vec::new(alloc),
             ungiven: Vec::new(alloc),
+            came: Vec::new(alloc),
             aside: Vec::new(alloc),
             partials: None,
         }
     }
+}
+
+/// The parameters that the functions share which read the work of a system.
+#[derive(Drop)]
+struct WorkReader<'a, A: Allocator, R> {
+    alloc: A,
+    rt: &'a R,
+    paths: &'a SpoolPaths<A>,
+    /// The name of this node, which is in the texts of commands.
+    me: &'a Name,
+    /// The names of the data that is there.
+    there: &'a [Name],
 }
 
 /// Reads what waits for a system, C. file after C. file and line after line, as long as the files that are offered have so many
@@ -147,22 +163,20 @@ pub(crate) fn read_work<A: Allocator + Copy, R: Files<File = File> + Alloc + Clo
 {
     let names = work_names(alloc, rt, paths)?;
     let there = data_names(alloc, rt, paths)?;
+    let reader = WorkReader {
+        alloc,
+        rt,
+        paths,
+        me,
+        there: there.as_slice(),
+    };
     let mut work = Work::none(alloc);
     let mut budget = Budget::of(allowance);
     for name in names.as_slice() {
         if budget.is_full {
             break;
         }
-        add_commands(
-            &mut work,
-            alloc,
-            rt,
-            paths,
-            me,
-            name,
-            there.as_slice(),
-            &mut budget,
-        )?;
+        add_commands(&mut work, &reader, name, &mut budget)?;
     }
     see_lines(alloc, rt, paths, work.lines.as_slice())?;
     Ok(work)
@@ -214,17 +228,13 @@ fn data_names<A: Allocator + Copy, R: Files + Alloc + Clone + Drop>(
 /// person named and that can't be read now.
 fn add_commands<A: Allocator + Copy, R: Files>(
     work: &mut Work<A>,
-    alloc: A,
-    rt: &R,
-    paths: &SpoolPaths<A>,
-    me: &Name,
+    reader: &WorkReader<'_, A, R>,
     name: &Name,
-    there: &[Name],
     budget: &mut Budget,
 ) -> Result<(), RunFault>
     ensures { IfErr result IsFolderFault }
 {
-    match read_commands(alloc, rt, paths, me, name, there, budget) {
+    match read_commands(reader, name, budget) {
         Ok(Some(mut more)) => {
             append(work, &mut more)?;
             Ok(())
@@ -236,34 +246,22 @@ fn add_commands<A: Allocator + Copy, R: Files>(
 
 /// Reads the work of a C. file, if it is there. One that is too long is a fault.
 fn read_commands<A: Allocator + Copy, R: Files>(
-    alloc: A,
-    rt: &R,
-    paths: &SpoolPaths<A>,
-    me: &Name,
+    reader: &WorkReader<'_, A, R>,
     name: &Name,
-    there: &[Name],
     budget: &mut Budget,
 ) -> Result<Option<Work<A>>, RunFault>
     ensures { IfErr result IsFolderFault }
 {
+    let (alloc, paths, there) = (reader.alloc, reader.paths, reader.there);
     let spot = Spot {
         room: Room::Commands,
         name: *name,
     };
-    let Some(text) = read_whole(alloc, rt, paths, &spot, COMMANDS_MAX)? else {
+    let Some(text) = read_whole(alloc, reader.rt, paths, &spot, COMMANDS_MAX)? else {
         return Ok(None);
     };
     let mut more = Work::none(alloc);
-    let front = add_files(
-        &mut more,
-        alloc,
-        rt,
-        paths,
-        me,
-        text.as_slice(),
-        there,
-        budget,
-    )?;
+    let front = add_files(&mut more, reader, text.as_slice(), budget)?;
     let unread = names_of(alloc, more.unread.as_slice())?;
     let public = paths.public().as_bytes();
     more.lines = lines_in(
@@ -322,7 +320,7 @@ pub(crate) fn note_unread<A: Allocator>(
             });
             Ok(())
         }
-        RunFault::Tool(fault) => Err(RunFault::Tool(fault)),
+        fault => Err(fault),
     }
 }
 
@@ -463,12 +461,8 @@ pub(crate) fn size_of<A: Allocator>(files: &[Stored<A>]) -> u64 {
 /// are.
 fn add_files<A: Allocator + Copy, R: Files>(
     work: &mut Work<A>,
-    alloc: A,
-    rt: &R,
-    paths: &SpoolPaths<A>,
-    me: &Name,
+    reader: &WorkReader<'_, A, R>,
     text: &[u8],
-    there: &[Name],
     budget: &mut Budget,
 ) -> Result<usize, RunFault>
     ensures { IfErr result IsFolderFault }
@@ -476,7 +470,7 @@ fn add_files<A: Allocator + Copy, R: Files>(
     let mut rest = text;
     let mut number = 0;
     while let Some((line, behind)) = split_line(rest) {
-        add_line(work, alloc, rt, paths, me, line, there, budget)?;
+        add_line(work, reader, line, budget)?;
         if budget.is_full {
             return Ok(number);
         }
@@ -489,12 +483,8 @@ fn add_files<A: Allocator + Copy, R: Files>(
 /// Adds the files that a line sends, and the command that it has run, if a session offers it.
 fn add_line<A: Allocator + Copy, R: Files>(
     work: &mut Work<A>,
-    alloc: A,
-    rt: &R,
-    paths: &SpoolPaths<A>,
-    me: &Name,
+    reader: &WorkReader<'_, A, R>,
     line: &[u8],
-    there: &[Name],
     budget: &mut Budget,
 ) -> Result<(), RunFault>
     ensures { IfErr result IsFolderFault }
@@ -504,12 +494,19 @@ fn add_line<A: Allocator + Copy, R: Files>(
     }
     match read_command(line) {
         Ok(Command::Send(fields, file)) => {
-            let _ = add_sent(work, alloc, rt, paths, &fields, &file, there, budget)?;
+            let _ = add_sent(work, reader, &fields, &file, budget)?;
         }
         Ok(Command::Execute(fields, file, command)) => {
             // Without its data an execution file would wait at the other system for ever.
-            if add_sent(work, alloc, rt, paths, &fields, &file, there, budget)? {
-                add_text(&mut work.files, alloc, me, &fields, &file, command)?;
+            if add_sent(work, reader, &fields, &file, budget)? {
+                add_text(
+                    &mut work.files,
+                    reader.alloc,
+                    reader.me,
+                    &fields,
+                    &file,
+                    command,
+                )?;
                 budget.take(0);
             }
             if let Some(execution) = read_execution(line) {
@@ -529,12 +526,9 @@ fn add_line<A: Allocator + Copy, R: Files>(
 /// off; what a person named, and this program may not read, is gone, as far as this system is concerned. Whether there is one.
 fn add_sent<A: Allocator + Copy, R: Files>(
     work: &mut Work<A>,
-    alloc: A,
-    rt: &R,
-    paths: &SpoolPaths<A>,
+    reader: &WorkReader<'_, A, R>,
     fields: &Fields<'_>,
     file: &SentFile<'_>,
-    there: &[Name],
     budget: &mut Budget,
 ) -> Result<bool, RunFault>
     ensures named { OnOk result (AddsNamed
@@ -542,6 +536,7 @@ fn add_sent<A: Allocator + Copy, R: Files>(
         work.old.files.items work.new.files.items) }
     ensures no_other { IfErr result IsFolderFault }
 {
+    let (alloc, rt, paths) = (reader.alloc, reader.rt, reader.paths);
     let is_copy = has_option(fields.options, b'C');
     let word = if is_copy { file.temp } else { fields.source };
     let Ok(name) = Name::new(word) else {
@@ -549,7 +544,7 @@ fn add_sent<A: Allocator + Copy, R: Files>(
     };
     let found = if !is_copy {
         Ok(read_source(alloc, rt, paths, fields.source, budget.limit.bytes)?)
-    } else if has_name(there, name.as_bytes()) {
+    } else if has_name(reader.there, name.as_bytes()) {
         read_spot(alloc, rt, paths, &data_spot(&name), budget.limit.bytes)
     } else {
         Ok(None)

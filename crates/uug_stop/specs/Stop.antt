@@ -9,6 +9,9 @@ use Rattle.uug_failure.specs.declared.failure.Cause.TheVariants as causes
 use Rattle.uug_failure.specs.declared.failure.Resource.{Resource}
 use Rattle.uug_failure.specs.declared.failure.Resource.TheVariants.{Line}
 use Rattle.uug_failure.specs.declared.failure.SystemFailure.{SystemFailure}
+use Rattle.uug_failure.specs.declared.run_fault.RunFault.{RunFault}
+use Rattle.uug_failure.specs.declared.run_fault.RunFault.TheVariants.{System, Tool, Unread}
+use Rattle.uug_failure.specs.Failures.{fault_of_run}
 use Rattle.uug_reason.specs.Reasons.{Places, dir_of, places, reason_line}
 use Rattle.uug_words.specs.UsageWords.{IsUsageOf, pair_words}
 use Rattle.uug_task.specs.declared.task.CallTask.{CallTask}
@@ -69,11 +72,6 @@ HasLine fault line (CommandLine error) = ⊥
 abbrev pub SaysFault : ToolFault → Stop → Type 0
 SaysFault fault stop = HasLine fault [] stop
 
--- why a file of this name can't be read, as a line, where it is known
-abbrev pub why_not_read : (path : List ℕ) → (why : Option SystemFailure) → List ℕ
-why_not_read path (Some failure) = reason_line (places path [] [] []) failure
-why_not_read path None = []
-
 -- the file of this name is named, and this reason, unless there was no memory for that
 abbrev pub NamesFileFor : (path reason : List ℕ) → Stop → Type 0
 NamesFileFor path reason (File name line) = (string_bytes name ≡ path) × (string_bytes line ≡ reason)
@@ -97,22 +95,22 @@ SaysLimit reason (Told fault line) = ⊥
 SaysLimit reason (CommandLine error) = ⊥
 
 -- the same, and why it can't be read
-abbrev pub NamesFile : (path : List ℕ) → (why : Option SystemFailure) → Stop → Type 0
-NamesFile path why stop = NamesFileFor path (why_not_read path why) stop
+abbrev pub NamesFile : (path : List ℕ) → SystemFailure → Stop → Type 0
+NamesFile path failure stop = NamesFileFor path (reason_line (places path [] [] []) failure) stop
 
 -- the file is named where it refused to be opened or read
-abbrev pub StopsOnFile : (path : List ℕ) → (why : Option SystemFailure) → ToolFault → Stop → Type 0
-StopsOnFile path why Read stop = NamesFile path why stop
-StopsOnFile path why fault stop = stop ≡ Fault fault
+abbrev pub StopsOnFile : (path : List ℕ) → RunFault → Stop → Type 0
+StopsOnFile path (Unread failure) stop = NamesFile path failure stop
+StopsOnFile path fault stop = stop ≡ Fault (fault_of_run fault)
 
 -- a bad script has the remark on it
-abbrev pub StopsOnScript : ToolFault → (remark : List ℕ) → Stop → Type 0
-StopsOnScript (Script line) remark stop = HasRemark (Script line) remark stop
-StopsOnScript fault remark stop = stop ≡ Fault fault
+abbrev pub StopsOnScript : RunFault → (remark : List ℕ) → Stop → Type 0
+StopsOnScript (Tool (Script line)) remark stop = HasRemark (Script line) remark stop
+StopsOnScript fault remark stop = stop ≡ Fault (fault_of_run fault)
 
-abbrev pub StopsOnScriptFile : (path : List ℕ) → (why : Option SystemFailure) → ToolFault → (remark : List ℕ) → Stop → Type 0
-StopsOnScriptFile path why Read remark stop = NamesFile path why stop
-StopsOnScriptFile path why fault remark stop = StopsOnScript fault remark stop
+abbrev pub StopsOnScriptFile : (path : List ℕ) → RunFault → (remark : List ℕ) → Stop → Type 0
+StopsOnScriptFile path (Unread failure) remark stop = NamesFile path failure stop
+StopsOnScriptFile path fault remark stop = StopsOnScript fault remark stop
 
 -- a script that is too much for a picture has that remark, unless there was no memory for it
 abbrev pub too_much : List ℕ
@@ -128,9 +126,9 @@ SaysTooMuch (stops.Limit line) = ⊥
 SaysTooMuch (Told f line) = ⊥
 SaysTooMuch (CommandLine error) = ⊥
 
-abbrev pub StopsOnDrawing : ToolFault → Stop → Type 0
-StopsOnDrawing Usage stop = SaysTooMuch stop
-StopsOnDrawing fault stop = SaysFault fault stop
+abbrev pub StopsOnDrawing : RunFault → Stop → Type 0
+StopsOnDrawing (Tool Usage) stop = SaysTooMuch stop
+StopsOnDrawing fault stop = SaysFault (fault_of_run fault) stop
 
 -- the folder or the line of this name is named, unless there was no memory for that
 abbrev pub NamesFolder : (dir : List ℕ) → Stop → Type 0
@@ -183,83 +181,79 @@ SaysUsage IsWrong (stops.Limit line) = ⊥
 SaysUsage IsWrong (Told f line) = ⊥
 SaysUsage IsWrong (CommandLine error) = ⊥
 
--- of two ends it is said what is wrong with a line of jobs, and where a call of the system failed, if it is known
-abbrev pub StopsOnLoudPair : PairTask → (why : Option SystemFailure) → ToolFault → (remark : List ℕ) → Stop → Type 0
-StopsOnLoudPair pair why (Jobs line) remark stop = HasLine (Jobs line) remark stop
-StopsOnLoudPair pair (Some failure) Device remark stop = StopsOnCause (places [] pair.socket.now pair.dir_a.now pair.dir_b.now) failure failure.cause stop
-StopsOnLoudPair pair why fault remark stop = stop ≡ Fault fault
+-- of two ends it is said what is wrong with a line of jobs, and where a call of the system failed
+abbrev pub StopsOnLoudPair : PairTask → RunFault → (remark : List ℕ) → Stop → Type 0
+StopsOnLoudPair pair (System failure) remark stop = StopsOnCause (places [] pair.socket.now pair.dir_a.now pair.dir_b.now) failure failure.cause stop
+StopsOnLoudPair pair (Tool (Jobs line)) remark stop = HasLine (Jobs line) remark stop
+StopsOnLoudPair pair fault remark stop = stop ≡ Fault (fault_of_run fault)
 
 -- that, or no more than the fault
-abbrev pub StopsOnPairBy : (is_loud : Bool) → PairTask → (why : Option SystemFailure) → ToolFault → (remark : List ℕ) → Stop → Type 0
-StopsOnPairBy true pair why fault remark stop = StopsOnLoudPair pair why fault remark stop
-StopsOnPairBy false pair why fault remark stop = SaysFault fault stop
+abbrev pub StopsOnPairBy : (is_loud : Bool) → PairTask → RunFault → (remark : List ℕ) → Stop → Type 0
+StopsOnPairBy true pair fault remark stop = StopsOnLoudPair pair fault remark stop
+StopsOnPairBy false pair fault remark stop = SaysFault (fault_of_run fault) stop
 
 -- what is wrong with their usage is always said, and that where it is asked for
-abbrev pub StopsOnPair : PairTask → (why : Option SystemFailure) → ToolFault → (remark : List ℕ) → Stop → Type 0
-StopsOnPair pair why Usage remark stop = SaysUsage (λ said. said ≡ pair_words pair.drop_every pair.flip_every) stop
-StopsOnPair pair why fault remark stop = StopsOnPairBy pair.is_loud pair why fault remark stop
+abbrev pub StopsOnPair : PairTask → RunFault → (remark : List ℕ) → Stop → Type 0
+StopsOnPair pair (Tool Usage) remark stop = SaysUsage (λ said. said ≡ pair_words pair.drop_every pair.flip_every) stop
+StopsOnPair pair fault remark stop = StopsOnPairBy pair.is_loud pair fault remark stop
 
--- The message of one end reports bad usage, a bad line of its jobs, or the failed call of the system, if that is known. Its folders
--- are its own, and that of the locks.
-abbrev pub StopsOnEnd : CallTask → (why : Option SystemFailure) → ToolFault → (remark : List ℕ) → Stop → Type 0
-StopsOnEnd call why Usage remark stop = SaysUsage (IsUsageOf call) stop
-StopsOnEnd call why (Jobs line) remark stop = HasLine (Jobs line) remark stop
-StopsOnEnd call (Some failure) Device remark stop = StopsOnCause (places (output_of call failure.end) call.line.now call.dir.now call.locks.now) failure failure.cause stop
-StopsOnEnd call why fault remark stop = stop ≡ Fault fault
+-- The message of one end reports bad usage, a bad line of its jobs, or the failed call of the system. Its folders are its own, and
+-- that of the locks.
+abbrev pub StopsOnEnd : CallTask → RunFault → (remark : List ℕ) → Stop → Type 0
+StopsOnEnd call (System failure) remark stop = StopsOnCause (places (output_of call failure.end) call.line.now call.dir.now call.locks.now) failure failure.cause stop
+StopsOnEnd call (Tool Usage) remark stop = SaysUsage (IsUsageOf call) stop
+StopsOnEnd call (Tool (Jobs line)) remark stop = HasLine (Jobs line) remark stop
+StopsOnEnd call fault remark stop = stop ≡ Fault (fault_of_run fault)
 
+-- there is more than the program takes
 abbrev pub is_much : Cause → Bool
 is_much causes.TooMuch = true
 is_much _ = false
 
--- there is more than the program takes
-abbrev pub is_too_much : (why : Option SystemFailure) → Bool
-is_too_much (Some failure) = is_much failure.cause
-is_too_much None = false
-
-abbrev pub NamesCopiedBy : (is_too_much : Bool) → (path : List ℕ) → (why : Option SystemFailure) → Stop → Type 0
-NamesCopiedBy true path why stop = SaysLimit (why_not_read path why) stop
-NamesCopiedBy false path why stop = NamesFile path why stop
+abbrev pub NamesCopiedBy : (is_much : Bool) → (path : List ℕ) → SystemFailure → Stop → Type 0
+NamesCopiedBy true path failure stop = SaysLimit (reason_line (places path [] [] []) failure) stop
+NamesCopiedBy false path failure stop = NamesFile path failure stop
 
 -- the file that can't be copied is named, or the limit that it is over
-abbrev pub NamesCopied : (path : List ℕ) → (why : Option SystemFailure) → Stop → Type 0
-NamesCopied path why stop = NamesCopiedBy (is_too_much why) path why stop
+abbrev pub NamesCopied : (path : List ℕ) → SystemFailure → Stop → Type 0
+NamesCopied path failure stop = NamesCopiedBy (is_much failure.cause) path failure stop
 
 -- Of what was to be queued the file is named that can't be copied, and it is said what is wrong with the order or with a line of
--- jobs, and on what a call of the system failed, and why, where it is known.
-abbrev pub StopsOnQueue : (dir file : List ℕ) → (why : Option SystemFailure) → ToolFault → (remark : List ℕ) → Stop → Type 0
-StopsOnQueue dir file why Read remark stop = NamesCopied file why stop
-StopsOnQueue dir file why Usage remark stop = HasRemark Usage remark stop
-StopsOnQueue dir file why (Jobs line) remark stop = HasLine (Jobs line) remark stop
-StopsOnQueue dir file (Some failure) Device remark stop = SaysReason (reason_line (places [] [] dir dir) failure) stop
-StopsOnQueue dir file why fault remark stop = stop ≡ Fault fault
+-- jobs, and on what a call of the system failed, and why.
+abbrev pub StopsOnQueue : (dir file : List ℕ) → RunFault → (remark : List ℕ) → Stop → Type 0
+StopsOnQueue dir file (System failure) remark stop = SaysReason (reason_line (places [] [] dir dir) failure) stop
+StopsOnQueue dir file (Unread failure) remark stop = NamesCopied file failure stop
+StopsOnQueue dir file (Tool Usage) remark stop = HasRemark Usage remark stop
+StopsOnQueue dir file (Tool (Jobs line)) remark stop = HasLine (Jobs line) remark stop
+StopsOnQueue dir file (Tool fault) remark stop = stop ≡ Fault fault
 
 -- Of a job that was to be cancelled it is said what is wrong with the usage or with a line of jobs. The folder is named that another
 -- run holds, and it is said on what another call of the system failed, and why.
-abbrev pub StopsOnCancel : (dir : List ℕ) → (why : Option SystemFailure) → ToolFault → (remark : List ℕ) → Stop → Type 0
-StopsOnCancel dir why Usage remark stop = HasRemark Usage remark stop
-StopsOnCancel dir why (Jobs line) remark stop = HasLine (Jobs line) remark stop
-StopsOnCancel dir (Some failure) Device remark stop = StopsOnCause (places [] [] dir dir) failure failure.cause stop
-StopsOnCancel dir why fault remark stop = stop ≡ Fault fault
+abbrev pub StopsOnCancel : (dir : List ℕ) → RunFault → (remark : List ℕ) → Stop → Type 0
+StopsOnCancel dir (System failure) remark stop = StopsOnCause (places [] [] dir dir) failure failure.cause stop
+StopsOnCancel dir (Tool Usage) remark stop = HasRemark Usage remark stop
+StopsOnCancel dir (Tool (Jobs line)) remark stop = HasLine (Jobs line) remark stop
+StopsOnCancel dir fault remark stop = stop ≡ Fault (fault_of_run fault)
 
 -- `scan`, `play` and `pair` say no more than the fault where nothing more is asked for
-abbrev pub StopsAs : Task → ToolFault → (remark : List ℕ) → (why : Option SystemFailure) → Stop → Type 0
-StopsAs (Scan file) fault remark why stop = SaysFault fault stop
-StopsAs (ScanVerbose (Some path)) fault remark why stop = StopsOnFile path.now why fault stop
-StopsAs (Play file) fault remark why stop = SaysFault fault stop
-StopsAs (PlaySettled file) fault remark why stop = SaysFault fault stop
-StopsAs (PlayVerbose None) fault remark why stop = StopsOnScript fault remark stop
-StopsAs (PlayVerbose (Some path)) fault remark why stop = StopsOnScriptFile path.now why fault remark stop
-StopsAs (PlayDrawn how file) fault remark why stop = StopsOnDrawing fault stop
-StopsAs (Pair pair) fault remark why stop = StopsOnPair pair why fault remark stop
-StopsAs (Call call) fault remark why stop = StopsOnEnd call why fault remark stop
-StopsAs (Queue queue) fault remark why stop = StopsOnQueue queue.dir.now (word_or_empty queue.file) why fault remark stop
-StopsAs (Cancel cancel) fault remark why stop = StopsOnCancel cancel.dir.now why fault remark stop
-StopsAs task fault remark why stop = stop ≡ Fault fault
+abbrev pub StopsAs : Task → RunFault → (remark : List ℕ) → Stop → Type 0
+StopsAs (Scan file) fault remark stop = SaysFault (fault_of_run fault) stop
+StopsAs (ScanVerbose (Some path)) fault remark stop = StopsOnFile path.now fault stop
+StopsAs (Play file) fault remark stop = SaysFault (fault_of_run fault) stop
+StopsAs (PlaySettled file) fault remark stop = SaysFault (fault_of_run fault) stop
+StopsAs (PlayVerbose None) fault remark stop = StopsOnScript fault remark stop
+StopsAs (PlayVerbose (Some path)) fault remark stop = StopsOnScriptFile path.now fault remark stop
+StopsAs (PlayDrawn how file) fault remark stop = StopsOnDrawing fault stop
+StopsAs (Pair pair) fault remark stop = StopsOnPair pair fault remark stop
+StopsAs (Call call) fault remark stop = StopsOnEnd call fault remark stop
+StopsAs (Queue queue) fault remark stop = StopsOnQueue queue.dir.now (word_or_empty queue.file) fault remark stop
+StopsAs (Cancel cancel) fault remark stop = StopsOnCancel cancel.dir.now fault remark stop
+StopsAs task fault remark stop = stop ≡ Fault (fault_of_run fault)
 
--- how the program ends after a task that answered this, with this remark, where this call of the system failed
-abbrev pub EndsSo : Task → Result ℕ ToolFault → (remark : List ℕ) → (why : Option SystemFailure) → Result ℕ Stop → Type 0
-EndsSo task (Ok status) remark why ends = ends ≡ Ok status
-EndsSo task (Err fault) remark why ends = IsErrAnd ends (StopsAs task fault remark why)
+-- how the program ends after a task that answered this, with this remark
+abbrev pub EndsSo : Task → Result ℕ RunFault → (remark : List ℕ) → Result ℕ Stop → Type 0
+EndsSo task (Ok status) remark ends = ends ≡ Ok status
+EndsSo task (Err fault) remark ends = IsErrAnd ends (StopsAs task fault remark)
 
 -- ---- of standard input and output
 

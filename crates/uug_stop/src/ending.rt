@@ -8,48 +8,37 @@ use crate::of_input::{stop_of_drawing, stop_of_file, stop_of_script, stop_of_scr
 use crate::said::{says_fault, says_reason};
 use crate::stop::Stop;
 use std::alloc::Global;
-use uug_failure::SystemFailure;
+use uug_failure::{Outcome, RunFault, SystemFailure};
 use uug_reason::reason_line;
 use uug_stream::ToolFault;
 use uug_words::Task;
 
 /// Returns why the program ends after a task gave up.
-fn stop_of(
-    alloc: Global,
-    task: Task<'_>,
-    fault: ToolFault,
-    remark: String,
-    why: Option<SystemFailure>,
-) -> Stop
-    ensures { StopsAs task.entry fault (string_bytes remark) why result }
+fn stop_of(alloc: Global, task: Task<'_>, fault: RunFault, remark: String) -> Stop
+    ensures { StopsAs task.entry fault (string_bytes remark) result }
 {
     match task {
-        Task::Scan(_) | Task::Play(_) | Task::PlaySettled(_) => says_fault(alloc, fault),
-        Task::ScanVerbose(Some(path)) => stop_of_file(alloc, path, fault, why),
+        Task::Scan(_) | Task::Play(_) | Task::PlaySettled(_) => says_fault(alloc, fault.answer()),
+        Task::ScanVerbose(Some(path)) => stop_of_file(alloc, path, fault),
         Task::PlayVerbose(None) => stop_of_script(fault, remark),
         Task::PlayDrawn(_, _) => stop_of_drawing(alloc, fault),
-        Task::PlayVerbose(Some(path)) => stop_of_script_file(alloc, path, fault, remark, why),
-        Task::Pair(pair) => stop_of_pair(alloc, &pair, fault, remark, why),
-        Task::Call(call) => stop_of_end(alloc, &call, fault, remark, why),
-        Task::Queue(queue) => stop_of_queue(alloc, queue.dir, queue.file, fault, remark, why),
-        Task::Cancel(cancel) => stop_of_cancel(alloc, cancel.dir, fault, remark, why),
-        _ => Stop::Fault(fault),
+        Task::PlayVerbose(Some(path)) => stop_of_script_file(alloc, path, fault, remark),
+        Task::Pair(pair) => stop_of_pair(alloc, &pair, fault, remark),
+        Task::Call(call) => stop_of_end(alloc, &call, fault, remark),
+        Task::Queue(queue) => stop_of_queue(alloc, queue.dir, queue.file, fault, remark),
+        Task::Cancel(cancel) => stop_of_cancel(alloc, cancel.dir, fault, remark),
+        _ => Stop::Fault(fault.answer()),
     }
 }
 
-/// Returns how the program ends after a task with this answer.
-pub fn end_of(
-    alloc: Global,
-    task: Task<'_>,
-    answer: Result<u8, ToolFault>,
-    remark: String,
-    why: Option<SystemFailure>,
-) -> Result<u8, Stop>
-    ensures { EndsSo task.entry answer (string_bytes remark) why result }
+/// Returns how the program ends after a task with this outcome.
+pub fn end_of(alloc: Global, task: Task<'_>, outcome: Outcome<u8, Global>) -> Result<u8, Stop>
+    ensures { EndsSo task.entry outcome.answer (string_bytes outcome.remark) result }
 {
+    let Outcome { answer, remark } = outcome;
     match answer {
         Ok(status) => Ok(status),
-        Err(fault) => Err(stop_of(alloc, task, fault, remark, why)),
+        Err(fault) => Err(stop_of(alloc, task, fault, remark)),
     }
 }
 

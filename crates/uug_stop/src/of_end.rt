@@ -8,7 +8,7 @@ ghost use Rattle.uug_stop.specs.declared.of_end.TheConstants.{LOG};
 use crate::said::{names_copied, names_folder, says_fault, says_number, says_reason, says_usage};
 use crate::stop::Stop;
 use std::alloc::Global;
-use uug_failure::{Cause, Resource, SystemFailure};
+use uug_failure::{Cause, Resource, RunFault, SystemFailure};
 use uug_reason::reason_line;
 use uug_stream::ToolFault;
 use uug_task::CallTask;
@@ -27,51 +27,40 @@ pub const STATS: usize = 2;
 pub(crate) fn stop_of_pair(
     alloc: Global,
     pair: &PairTask<'_>,
-    fault: ToolFault,
+    fault: RunFault,
     remark: String,
-    why: Option<SystemFailure>,
 ) -> Stop
-    ensures { StopsOnPair pair.now why fault (string_bytes remark) result }
+    ensures { StopsOnPair pair.now fault (string_bytes remark) result }
 {
     match fault {
-        ToolFault::Usage => says_usage(pair_remark(alloc, pair.drop_every, pair.flip_every)),
-        fault => stop_of_pair_by(alloc, pair, fault, remark, why),
+        RunFault::Tool(ToolFault::Usage) => {
+            says_usage(pair_remark(alloc, pair.drop_every, pair.flip_every))
+        }
+        fault => stop_of_pair_by(alloc, pair, fault, remark),
     }
 }
 
 /// Returns why two ends gave up whose usage is right: only the fault without `-v`.
-fn stop_of_pair_by(
-    alloc: Global,
-    pair: &PairTask<'_>,
-    fault: ToolFault,
-    remark: String,
-    why: Option<SystemFailure>,
-) -> Stop
-    ensures { StopsOnPairBy pair.now.is_loud pair.now why fault (string_bytes remark) result }
+fn stop_of_pair_by(alloc: Global, pair: &PairTask<'_>, fault: RunFault, remark: String) -> Stop
+    ensures { StopsOnPairBy pair.now.is_loud pair.now fault (string_bytes remark) result }
 {
     if pair.is_loud {
-        stop_of_loud_pair(alloc, pair, fault, remark, why)
+        stop_of_loud_pair(alloc, pair, fault, remark)
     } else {
-        says_fault(alloc, fault)
+        says_fault(alloc, fault.answer())
     }
 }
 
 /// Returns what is wrong with a line of jobs, or which call of the system failed.
-fn stop_of_loud_pair(
-    alloc: Global,
-    pair: &PairTask<'_>,
-    fault: ToolFault,
-    remark: String,
-    why: Option<SystemFailure>,
-) -> Stop
-    ensures { StopsOnLoudPair pair.now why fault (string_bytes remark) result }
+fn stop_of_loud_pair(alloc: Global, pair: &PairTask<'_>, fault: RunFault, remark: String) -> Stop
+    ensures { StopsOnLoudPair pair.now fault (string_bytes remark) result }
 {
-    match (fault, why) {
-        (ToolFault::Jobs(_), _) => Stop::Told(fault, remark),
-        (ToolFault::Device, Some(failure)) => {
+    match fault {
+        RunFault::System(failure) => {
             stop_of_cause(alloc, "", pair.socket, pair.dir_a, pair.dir_b, failure)
         }
-        (fault, _) => Stop::Fault(fault),
+        RunFault::Tool(ToolFault::Jobs(line)) => Stop::Told(ToolFault::Jobs(line), remark),
+        fault => Stop::Fault(fault.answer()),
     }
 }
 
@@ -80,24 +69,19 @@ fn stop_of_loud_pair(
 pub(crate) fn stop_of_end(
     alloc: Global,
     call: &CallTask<'_>,
-    fault: ToolFault,
+    fault: RunFault,
     remark: String,
-    why: Option<SystemFailure>,
 ) -> Stop
-    ensures { StopsOnEnd call.now why fault (string_bytes remark) result }
+    ensures { StopsOnEnd call.now fault (string_bytes remark) result }
 {
-    match (fault, why) {
-        (ToolFault::Usage, _) => says_usage(usage_remark(alloc, call)),
-        (ToolFault::Jobs(_), _) => Stop::Told(fault, remark),
-        (ToolFault::Device, Some(failure)) => stop_of_cause(
-            alloc,
-            output_named(call, failure.end),
-            call.line,
-            call.dir,
-            call.locks,
-            failure,
-        ),
-        (fault, _) => Stop::Fault(fault),
+    match fault {
+        RunFault::System(failure) => {
+            let output = output_named(call, failure.end);
+            stop_of_cause(alloc, output, call.line, call.dir, call.locks, failure)
+        }
+        RunFault::Tool(ToolFault::Usage) => says_usage(usage_remark(alloc, call)),
+        RunFault::Tool(ToolFault::Jobs(line)) => Stop::Told(ToolFault::Jobs(line), remark),
+        fault => Stop::Fault(fault.answer()),
     }
 }
 
@@ -160,38 +144,29 @@ pub(crate) fn stop_of_queue(
     alloc: Global,
     dir: &str,
     file: Option<&str>,
-    fault: ToolFault,
+    fault: RunFault,
     remark: String,
-    why: Option<SystemFailure>,
 ) -> Stop
-    ensures { StopsOnQueue dir.now (word_or_empty file.entry) why fault (string_bytes remark) result }
+    ensures { StopsOnQueue dir.now (word_or_empty file.entry) fault (string_bytes remark) result }
 {
-    match (fault, why) {
-        (ToolFault::Read, _) => names_copied(alloc, file.unwrap_or(""), why),
-        (ToolFault::Usage, _) => Stop::Remarked(fault, remark),
-        (ToolFault::Jobs(_), _) => Stop::Told(fault, remark),
-        (ToolFault::Device, Some(failure)) => {
-            says_reason(reason_line(alloc, "", "", dir, dir, failure))
-        }
-        (fault, _) => Stop::Fault(fault),
+    match fault {
+        RunFault::System(failure) => says_reason(reason_line(alloc, "", "", dir, dir, failure)),
+        RunFault::Unread(failure) => names_copied(alloc, file.unwrap_or(""), failure),
+        RunFault::Tool(ToolFault::Usage) => Stop::Remarked(ToolFault::Usage, remark),
+        RunFault::Tool(ToolFault::Jobs(line)) => Stop::Told(ToolFault::Jobs(line), remark),
+        RunFault::Tool(fault) => Stop::Fault(fault),
     }
 }
 
 /// Returns why no job was cancelled. It says what is wrong with the usage, or with a line of jobs, names the folder if
 /// another run holds it, and says on what another call of the system failed, and why, if that is known.
-pub(crate) fn stop_of_cancel(
-    alloc: Global,
-    dir: &str,
-    fault: ToolFault,
-    remark: String,
-    why: Option<SystemFailure>,
-) -> Stop
-    ensures { StopsOnCancel dir.now why fault (string_bytes remark) result }
+pub(crate) fn stop_of_cancel(alloc: Global, dir: &str, fault: RunFault, remark: String) -> Stop
+    ensures { StopsOnCancel dir.now fault (string_bytes remark) result }
 {
-    match (fault, why) {
-        (ToolFault::Usage, _) => Stop::Remarked(fault, remark),
-        (ToolFault::Jobs(_), _) => Stop::Told(fault, remark),
-        (ToolFault::Device, Some(failure)) => stop_of_cause(alloc, "", "", dir, dir, failure),
-        (fault, _) => Stop::Fault(fault),
+    match fault {
+        RunFault::System(failure) => stop_of_cause(alloc, "", "", dir, dir, failure),
+        RunFault::Tool(ToolFault::Usage) => Stop::Remarked(ToolFault::Usage, remark),
+        RunFault::Tool(ToolFault::Jobs(line)) => Stop::Told(ToolFault::Jobs(line), remark),
+        fault => Stop::Fault(fault.answer()),
     }
 }

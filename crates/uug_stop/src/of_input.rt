@@ -5,41 +5,38 @@ ghost use Rattle.uug_stop.specs.Stop.{StopsOnDrawing, StopsOnFile, StopsOnScript
 use crate::said::{names_file, says_fault, says_too_much};
 use crate::stop::Stop;
 use std::alloc::Global;
-use uug_failure::SystemFailure;
+use uug_failure::RunFault;
 use uug_stream::ToolFault;
 
 /// Returns why a script was not drawn.
-pub(crate) fn stop_of_drawing(alloc: Global, fault: ToolFault) -> Stop
+pub(crate) fn stop_of_drawing(alloc: Global, fault: RunFault) -> Stop
     ensures { StopsOnDrawing fault result }
 {
     match fault {
-        ToolFault::Usage => says_too_much(alloc),
-        fault => says_fault(alloc, fault),
+        RunFault::Tool(ToolFault::Usage) => says_too_much(alloc),
+        fault => says_fault(alloc, fault.answer()),
     }
 }
 
 /// Returns why a task gave up that read the file of this name. The file is named if it is the cause.
-pub(crate) fn stop_of_file(
-    alloc: Global,
-    path: &str,
-    fault: ToolFault,
-    why: Option<SystemFailure>,
-) -> Stop
-    ensures { StopsOnFile path.now why fault result }
+pub(crate) fn stop_of_file(alloc: Global, path: &str, fault: RunFault) -> Stop
+    ensures { StopsOnFile path.now fault result }
 {
     match fault {
-        ToolFault::Read => names_file(alloc, path, why),
-        fault => Stop::Fault(fault),
+        RunFault::Unread(failure) => names_file(alloc, path, failure),
+        fault => Stop::Fault(fault.answer()),
     }
 }
 
 /// Returns why a script was not played, with the remark if it is bad.
-pub(crate) fn stop_of_script(fault: ToolFault, remark: String) -> Stop
+pub(crate) fn stop_of_script(fault: RunFault, remark: String) -> Stop
     ensures { StopsOnScript fault (string_bytes remark) result }
 {
     match fault {
-        ToolFault::Script(_) => Stop::Remarked(fault, remark),
-        fault => Stop::Fault(fault),
+        RunFault::Tool(ToolFault::Script(line)) => {
+            Stop::Remarked(ToolFault::Script(line), remark)
+        }
+        fault => Stop::Fault(fault.answer()),
     }
 }
 
@@ -47,14 +44,13 @@ pub(crate) fn stop_of_script(fault: ToolFault, remark: String) -> Stop
 pub(crate) fn stop_of_script_file(
     alloc: Global,
     path: &str,
-    fault: ToolFault,
+    fault: RunFault,
     remark: String,
-    why: Option<SystemFailure>,
 ) -> Stop
-    ensures { StopsOnScriptFile path.now why fault (string_bytes remark) result }
+    ensures { StopsOnScriptFile path.now fault (string_bytes remark) result }
 {
     match fault {
-        ToolFault::Read => names_file(alloc, path, why),
+        RunFault::Unread(failure) => names_file(alloc, path, failure),
         fault => stop_of_script(fault, remark),
     }
 }

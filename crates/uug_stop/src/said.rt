@@ -1,6 +1,6 @@
 //! The messages of a program that ends before its task is done, if there is memory for them.
-ghost use Rattle.std.specs.Prelude.{◌≡◌, IfOk, MatchResult, string_bytes};
-ghost use Rattle.uug_stop.specs.Stop.{NamesCopied, NamesFile, NamesFileFor, NamesFolder, SaysFault, SaysTooMuch, is_much, is_too_much, why_not_read};
+ghost use Rattle.std.specs.Prelude.{◌≡◌, MatchResult, string_bytes};
+ghost use Rattle.uug_stop.specs.Stop.{NamesCopied, NamesFile, NamesFileFor, NamesFolder, SaysFault, SaysTooMuch, is_much};
 
 use crate::stop::Stop;
 use std::alloc::{AllocError, Global};
@@ -39,34 +39,14 @@ pub(crate) fn says_reason(reason: Result<String, AllocError>) -> Stop
     }
 }
 
-/// Returns why the file of this name can't be read, as a line, if that is known.
-fn why_not_read(alloc: Global, path: &str, why: Option<SystemFailure>) -> Result<String, AllocError>
-    ensures { IfOk result (λ line. string_bytes line ≡ why_not_read path.now why) }
-{
-    match why {
-        Some(failure) => reason_line(alloc, path, "", "", "", failure),
-        None => Ok(String::new(alloc)),
-    }
-}
-
 /// Returns the limit that the file of this name is over, or else that it can't be read, and why.
-pub(crate) fn names_copied(alloc: Global, path: &str, why: Option<SystemFailure>) -> Stop
-    ensures { NamesCopied path.now why result }
+pub(crate) fn names_copied(alloc: Global, path: &str, failure: SystemFailure) -> Stop
+    ensures { NamesCopied path.now failure result }
 {
-    if is_too_much(&why) {
-        says_limit(why_not_read(alloc, path, why))
+    if is_much(failure.cause) {
+        says_limit(reason_line(alloc, path, "", "", "", failure))
     } else {
-        names_file(alloc, path, why)
-    }
-}
-
-/// Returns whether a call of the system was given up because there is more than the program takes.
-fn is_too_much(why: &Option<SystemFailure>) -> bool
-    ensures { result ≡ is_too_much why.now }
-{
-    match why {
-        Some(failure) => is_much(failure.cause),
-        None => false,
+        names_file(alloc, path, failure)
     }
 }
 
@@ -103,10 +83,10 @@ pub(crate) fn says_number(reason: Result<String, AllocError>) -> Stop
 }
 
 /// Returns that the file of this name can't be read, and why, if there is memory to say that.
-pub(crate) fn names_file(alloc: Global, path: &str, why: Option<SystemFailure>) -> Stop
-    ensures { NamesFile path.now why result }
+pub(crate) fn names_file(alloc: Global, path: &str, failure: SystemFailure) -> Stop
+    ensures { NamesFile path.now failure result }
 {
-    match why_not_read(alloc, path, why) {
+    match reason_line(alloc, path, "", "", "", failure) {
         Ok(reason) => names_file_for(alloc, path, reason),
         Err(_) => Stop::Fault(ToolFault::Memory),
     }

@@ -1,5 +1,6 @@
-pub mod FrontLemmas
-pub mod SpoolLockLemmas
-mod NumberRemarkFacts
 mod JobRemarkFacts
 mod LineEndFacts
+mod NumberRemarkFacts
+pub mod EndAnswerLemmas
+pub mod FrontLemmas
+pub mod SpoolLockLemmas

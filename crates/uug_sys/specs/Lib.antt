@@ -1,4 +1,5 @@
 pub mod Callers
+pub mod EndAnswers
 pub mod HubFaults
 pub mod JobRemarks
 pub mod LineEnds

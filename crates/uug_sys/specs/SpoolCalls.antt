@@ -3,10 +3,9 @@ use Rattle.std.specs.Prelude.{◌≡◌, ℕ, Bool, Option, Some, None, Result, 
 use Rattle.uug_failure.specs.declared.failure.Cause.{Cause}
 use Rattle.uug_failure.specs.declared.failure.Resource.{Resource}
 use Rattle.uug_failure.specs.declared.failure.Resource.TheVariants.{Line}
-use Rattle.uug_failure.specs.declared.failure.SystemFailure.{SystemFailure}
+use Rattle.uug_failure.specs.declared.run_fault.RunFault.{RunFault}
+use Rattle.uug_failure.specs.declared.run_fault.RunFault.TheVariants.{System}
 use Rattle.uug_spool_call.specs.declared.spool_call.SpoolCall.{SpoolCall}
-use Rattle.uug_stream.specs.declared.fault.ToolFault.{ToolFault}
-use Rattle.uug_stream.specs.declared.fault.ToolFault.TheVariants.{Device}
 use Rattle.uug_sys.specs.SpoolLocks.{is_in_use}
 use Rattle.uug_task.specs.Tasks.{IsTask, thinning_with}
 use Rattle.uug_task.specs.declared.task.CallTask.{CallTask}
@@ -34,6 +33,6 @@ line_fault_of Line cause = Some (is_in_use cause)
 line_fault_of resource cause = None
 
 -- Whether a call that ended so came to no line, and then whether another run has that.
-abbrev pub line_fault : Result ℕ ToolFault → (why : Option SystemFailure) → Option Bool
-line_fault (Err Device) (Some failure) = line_fault_of failure.resource failure.cause
-line_fault result why = None
+abbrev pub line_fault : Result ℕ RunFault → Option Bool
+line_fault (Err (System failure)) = line_fault_of failure.resource failure.cause
+line_fault answer = None

@@ -1,17 +1,14 @@
 -- The lock of the other system of an end over a spool, and what is said where another run has it (this project's profile).
 use Rattle.std.specs.Prelude.{◌≡◌, ◌⊎◌, ◌++◌, ◌∷◌, ℕ, Bool, true, false, List, [], Option, Some, None, Result, Ok, Err, MatchResult, codes, ⊤}
-use Rattle.uug_failure.specs.Failures.{fault_of_run, told_by}
 use Rattle.uug_failure.specs.declared.failure.Cause.{Cause}
 use Rattle.uug_failure.specs.declared.failure.Cause.TheVariants.{InUse}
 use Rattle.uug_failure.specs.declared.failure.Resource.TheVariants.{Dir}
-use Rattle.uug_failure.specs.declared.failure.SystemFailure.{SystemFailure}
 use Rattle.uug_failure.specs.declared.run_fault.RunFault.{RunFault}
 use Rattle.uug_failure.specs.declared.run_fault.RunFault.TheVariants.{System, Tool}
 use Rattle.uug_locks.specs.DeviceLocks.{lock_path}
 use Rattle.uug_scan.specs.Detailed.{escaped}
 use Rattle.uug_session.specs.Engine.{HasFailed, faults_max}
 use Rattle.uug_session.specs.Greeting.{called_text}
-use Rattle.uug_stream.specs.declared.fault.ToolFault.{ToolFault}
 use Rattle.uug_stream.specs.declared.fault.ToolFault.TheVariants.{Memory}
 use Rattle.uug_sys.specs.declared.spool_lock.TheConstants.{LOCKS}
 use Rattle.uug_talk.specs.Lines.{ended}
@@ -28,7 +25,7 @@ is_in_use cause = false
 -- whether it is another run that has it
 abbrev pub is_locked : RunFault → Bool
 is_locked (System failure) = is_in_use failure.cause
-is_locked (Tool fault) = false
+is_locked _ = false
 
 abbrev pub is_held : {L : Type 0} → Result L RunFault → Bool
 is_held (Ok lock) = false
@@ -38,13 +35,9 @@ is_held (Err fault) = is_locked fault
 abbrev pub IsRefusedLock : RunFault → Type 0
 IsRefusedLock (System failure) = (failure.end ≡ LOCKS) × (failure.resource ≡ Dir) × (is_in_use failure.cause ≡ false)
 IsRefusedLock (Tool fault) = fault ≡ Memory
+IsRefusedLock _ = ⊥
 
 -- ---- what comes of that
-
--- the end gives up with the fault of the lock, and says which call of the system that was
-pub record GivesUp (fault : RunFault) (result : Result ℕ ToolFault) (why why_after : Option SystemFailure) : Type 0 where
-  pub answers : result ≡ Err (fault_of_run fault)
-  pub tells : why_after ≡ told_by fault why
 
 abbrev pub file_words : (path : List ℕ) → List ℕ
 file_words path = codes " is locked by " ++ ended (escaped path)
@@ -57,12 +50,10 @@ abbrev pub locked_remark : (locks system : List ℕ) → List ℕ
 locked_remark locks system = locked_by system (lock_path locks system)
 
 -- a call is to be made later, which is status 1: it is remarked that the system is locked
-pub record CallsLater (task : CallTask) (result : Result ℕ ToolFault) (why why_after : Option SystemFailure)
-    (remark remark_after : List ℕ) : Type 0 where
-  pub answers : MatchResult result
-      (λ status. (status ≡ 1) × (remark_after ≡ remark ++ locked_remark task.locks.now task.peer.now))
-      (λ fault. fault ≡ Memory)
-  pub tells : why_after ≡ why
+abbrev pub CallsLater : CallTask → Result ℕ RunFault → (remark : List ℕ) → Type 0
+CallsLater task answer remark = MatchResult answer
+    (λ status. (status ≡ 1) × (remark ≡ locked_remark task.locks.now task.peer.now))
+    (λ fault. fault ≡ Tool Memory)
 
 -- ---- what a called end says then
 

@@ -1,11 +1,13 @@
 //! One end over a folder, and the line to the other one.
-ghost use Rattle.std.specs.Prelude.{◌≡◌, ◌≢◌, ◌<◌, ◌≤◌, ◌⊎◌, ◌↔◌, IfErr, IfOk, IsSome};
-ghost use Rattle.uug_failure.specs.Faults.{IsFolderFault, IsReadingFault, IsRunFault};
+ghost use Rattle.std.specs.Prelude.{◌≡◌, ◌<◌, ◌≤◌, ◌↔◌, Err, IfErr, IfOk};
+ghost use Rattle.uug_failure.specs.Faults.{IsFaultAtLine, IsFolderFault, IsReadingFault, IsRunFault, IsSessionFault, IsSystemFault};
 ghost use Rattle.uug_stream.specs.Streams.{CountsFault};
+ghost use Rattle.uug_sys.specs.EndAnswers.{answer_with, failure_to_tell, status_of};
 ghost use Rattle.uug_sys.specs.JobRemarks.{has_failed};
 ghost use Rattle.uug_task.specs.Tasks.{IsTask};
 
 use crate::answer::answer_at;
+use crate::end_run::EndRun;
 use crate::failing_line::{FailingLine, remark_failure};
 use crate::fault_log::{log_failure, log_unoffered};
 use crate::folder_kind::see_no_spool;
@@ -13,8 +15,8 @@ use crate::hailed_line::HailedLine;
 use crate::job_remark::{remark_failed, remark_put_off};
 use crate::large_files::large_files;
 use crate::number_remark::remark_numbers;
-use crate::numbers::{meet, read_numbers};
-use crate::parts::{failure_of, read_parts};
+use crate::numbers::{Numbers, meet, read_numbers};
+use crate::parts::{SystemParts, failure_of, read_parts};
 use crate::resumed::hold_left_in;
 use crate::session_mark::{mark_session, unmark_session};
 use crate::spool_call::{call_over_spool, talk_in_spool};
@@ -23,84 +25,100 @@ use std::alloc::{AllocError, Allocator};
 use std::fs::File;
 use std::io;
 use std::io::ErrorKind;
-use std::net::{Net, TcpListener, TcpStream};
+use std::net::Net;
 use std::os::fd::AsRawFd;
-use std::rt::{Env, Files};
-use std::time::{Clock, Duration};
+use std::rt::Files;
+use std::time::Duration;
 use uug_disk::{
     DirLock, lock_device, lock_dir, open_jobs, see_folders, see_writable, settle_copies,
 };
-use uug_failure::{Cause, EndDir, Resource, RunFault, SystemFailure};
+use uug_failure::{Cause, EndDir, Ended, Outcome, Resource, RunFault, SystemFailure};
 use uug_port::{
     DeviceLine, PolledStream, SessionLine, SilentLine, StandardLine, StandardStreams, StreamLine,
     SystemLine, TimedLine, TimedStream, call_tcp, call_unix, listen_tcp, listen_unix,
 };
-use uug_session::{Job, Side};
+use uug_session::{Job, Node, Side, Spool};
 use uug_stream::{Output, ToolFault};
-use uug_task::{CallTask, FinishedEnd, Station, Terms, read_terms};
+use uug_talk::Name;
+use uug_task::{CallTask, FinishedEnd, System, Terms, read_terms};
 use uug_transfer::{EndLine, GreetedLine, LineMonitor, LineName, SessionObserver};
 
 /// Runs one end over its folder and its line, for one session, or at a socket where it is called for several, one after
-/// the other. `docs/OPERATING.md` describes what is in a folder. The folder is locked before anything in it is read;
-/// `why` says if another run holds it. A called end releases the lock while it waits, and locks the folder again when
-/// its line is up. It reads the jobs, the number and the files then. Whether the jobs and the number can be read, and
-/// what a session writes can be written, is checked before the line opens. Returns the program's status. `remark` says
-/// which conversation numbers the ends have if they differ, and why jobs have failed or were put off. `why` says which
-/// call of the system failed first, if one did.
-pub fn call_run<A, R, W, O, B>(
+/// the other. `docs/OPERATING.md` describes what is in a folder. The folder is locked before anything in it is read; if
+/// another run holds it, that is the fault. A called end releases the lock while it waits, and locks the folder again
+/// when its line is up. It reads the jobs, the number and the files then. Whether the jobs and the number can be read,
+/// and what a session writes can be written, is checked before the line opens. Returns the program's status, or why the
+/// run gave up. The remark says which conversation numbers the ends have if they differ, and why jobs have failed or
+/// were put off.
+pub fn call_run<'a, A, R, W, O>(
     alloc: A,
-    rt: &R,
-    task: &CallTask<'_>,
+    rt: &'a R,
+    task: &'a CallTask<'a>,
     streams: StandardStreams,
     observer: W,
     output: &mut O,
-    remark: &mut String<B>,
-    why: &mut Option<SystemFailure>,
-) -> Result<u8, ToolFault>
+) -> Outcome<u8, A>
 where
     A: Allocator + Copy,
-    R: Files<File = File>
-        + Net<Stream = TcpStream, Listener = TcpListener>
-        + Clock
-        + Env
-        + Eprint
-        + AllocGlobal
-        + Clone
-        + Drop,
+    R: System,
     W: SessionObserver + Drop,
     O: Output,
-    B: Allocator,
-    ensures status { IfOk result (λ status. status ≤ 1) }
-    ensures write { result ≡ Err ToolFault.Write
+    ensures status { IfOk result.answer (λ status. status ≤ 1) }
+    ensures write { result.answer ≡ Err (RunFault.Tool ToolFault.Write)
         → CountsFault (O.fault_count output.old) (O.fault_count output.new) }
-    ensures usage { (result ≡ Err ToolFault.Usage) ↔ (IsTask task.now → ⊥) }
-    ensures no_other { IfErr result IsRunFault }
-    // A device fault always says which call it was.
-    ensures why { result ≡ Err ToolFault.Device → IsSome why.new }
+    ensures usage { (result.answer ≡ Err (RunFault.Tool ToolFault.Usage)) ↔ (IsTask task.now → ⊥) }
+    // A call of the system that failed is named.
+    ensures no_other { IfErr result.answer IsRunFault }
 {
-    *why = None;
-    let Some(terms) = read_terms(task) else {
-        return Err(ToolFault::Usage);
+    let Some(Terms { line, station }) = read_terms(task) else {
+        return Outcome::of(alloc, Err(RunFault::Tool(ToolFault::Usage)));
+    };
+    let run = EndRun {
+        alloc,
+        rt,
+        task,
+        station,
     };
     if task.is_spool {
-        return call_over_spool(
-            alloc, rt, task, terms, streams, observer, output, remark, why,
-        );
+        call_over_spool(&run, line, streams, observer, output)
+    } else {
+        call_over_folder(&run, line, streams, observer, output)
     }
-    let lock = match lock_and_look(alloc, rt, task) {
+}
+
+/// Runs an end over its folder.
+fn call_over_folder<A, R, W, O>(
+    run: &EndRun<'_, A, R>,
+    line: LineName<'_>,
+    streams: StandardStreams,
+    observer: W,
+    output: &mut O,
+) -> Outcome<u8, A>
+where
+    A: Allocator + Copy,
+    R: System,
+    W: SessionObserver + Drop,
+    O: Output,
+    ensures status { IfOk result.answer (λ status. status ≤ 1) }
+    ensures write { result.answer ≡ Err (RunFault.Tool ToolFault.Write)
+        → CountsFault (O.fault_count output.old) (O.fault_count output.new) }
+    ensures no_other { IfErr result.answer IsSessionFault }
+{
+    let lock = match lock_and_look(run.alloc, run.rt, run.task) {
         Ok(lock) => lock,
-        Err(fault) => return Err(fault.tell(why)),
+        Err(fault) => {
+            drop(observer);
+            return Outcome::of(run.alloc, Err(fault));
+        }
     };
-    let held = match task.side {
+    let held = match run.task.side {
         Side::Caller => Some(lock),
         Side::Called => {
             drop(lock);
             None
         }
     };
-    talk_at(
-        alloc, rt, task, terms, streams, held, observer, output, remark, why,
-    )
+    talk_at(run, line, streams, held, observer, output)
 }
 
 /// Locks the end's folder, and checks that its number and its jobs can be read. Returns the lock.
@@ -157,81 +175,49 @@ fn see_dir<A: Allocator + Copy, R: Files<File = File>>(
 }
 
 /// Opens the end's line, and talks over it.
-pub(crate) fn talk_at<A, R, W, O, B>(
-    alloc: A,
-    rt: &R,
-    task: &CallTask<'_>,
-    terms: Terms<'_>,
+pub(crate) fn talk_at<A, R, W, O>(
+    run: &EndRun<'_, A, R>,
+    line: LineName<'_>,
     streams: StandardStreams,
     held: Option<DirLock<A>>,
     observer: W,
     output: &mut O,
-    remark: &mut String<B>,
-    why: &mut Option<SystemFailure>,
-) -> Result<u8, ToolFault>
+) -> Outcome<u8, A>
 where
     A: Allocator + Copy,
-    R: Files<File = File>
-        + Net<Stream = TcpStream, Listener = TcpListener>
-        + Clock
-        + Env
-        + Eprint
-        + AllocGlobal
-        + Clone
-        + Drop,
+    R: System,
     W: SessionObserver + Drop,
     O: Output,
-    B: Allocator,
-    ensures status { IfOk result (λ status. status ≤ 1) }
-    ensures write { result ≡ Err ToolFault.Write
+    ensures status { IfOk result.answer (λ status. status ≤ 1) }
+    ensures write { result.answer ≡ Err (RunFault.Tool ToolFault.Write)
         → CountsFault (O.fault_count output.old) (O.fault_count output.new) }
-    ensures no_other { IfErr result IsRunFault }
-    ensures no_usage { result ≢ Err ToolFault.Usage }
-    ensures why { result ≡ Err ToolFault.Device → IsSome why.new }
+    ensures no_other { IfErr result.answer IsSessionFault }
 {
-    let Terms { line, station } = terms;
-    match (line, task.side) {
+    let (alloc, rt, time) = (run.alloc, run.rt, run.station.time());
+    match (line, run.task.side) {
         (LineName::Unix(path), Side::Caller) => {
-            let line = stream_line(alloc, rt, call_unix(rt, path, station.time()));
-            let (answer, observer) = talk_over(
-                alloc, rt, task, station, held, line, observer, output, remark, why,
-            );
-            drop(observer);
-            answer
+            let line = stream_line(alloc, rt, call_unix(rt, path, time));
+            talk_once(run, held, line, observer, output)
         }
         (LineName::Tcp(host, port), Side::Caller) => {
-            let stream = call_tcp(alloc, rt, host, port, station.time());
-            let line = stream_line(alloc, rt, stream);
-            let (answer, observer) = talk_over(
-                alloc, rt, task, station, held, line, observer, output, remark, why,
-            );
-            drop(observer);
-            answer
+            let line = stream_line(alloc, rt, call_tcp(alloc, rt, host, port, time));
+            talk_once(run, held, line, observer, output)
         }
         (LineName::Unix(path), Side::Called) => {
-            let opened = listen_unix(alloc, rt, path);
-            answer_at(
-                alloc, rt, task, station, opened, observer, output, remark, why,
-            )
+            drop(held);
+            answer_at(run, listen_unix(alloc, rt, path), observer, output)
         }
         (LineName::Tcp(host, port), Side::Called) => {
-            let opened = listen_tcp(alloc, rt, host, port);
-            answer_at(
-                alloc, rt, task, station, opened, observer, output, remark, why,
-            )
+            drop(held);
+            answer_at(run, listen_tcp(alloc, rt, host, port), observer, output)
         }
         (LineName::Standard, _) => {
-            let line = StandardLine::new(alloc, rt, streams, station.time()).map_err(no_line);
-            let (answer, observer) = talk_over(
-                alloc, rt, task, station, held, line, observer, output, remark, why,
-            );
-            drop(observer);
+            let line = StandardLine::new(alloc, rt, streams, time).map_err(no_line);
+            let outcome = talk_once(run, held, line, observer, output);
             streams.release();
-            answer
+            outcome
         }
-        (LineName::Device(path), _) => talk_at_device(
-            alloc, rt, task, station, path, held, observer, output, remark, why,
-        ),
+        (LineName::Device(path), _) => talk_at_device(run, path, held, observer, output),
     }
 }
 
@@ -273,123 +259,79 @@ where
 
 /// Locks the end's device, opens it, and talks over it. A device that another run holds is not opened. The lock is
 /// released whatever happens.
-fn talk_at_device<A, R, W, O, B>(
-    alloc: A,
-    rt: &R,
-    task: &CallTask<'_>,
-    station: Station,
+fn talk_at_device<A, R, W, O>(
+    run: &EndRun<'_, A, R>,
     path: &str,
     held: Option<DirLock<A>>,
     observer: W,
     output: &mut O,
-    remark: &mut String<B>,
-    why: &mut Option<SystemFailure>,
-) -> Result<u8, ToolFault>
+) -> Outcome<u8, A>
 where
     A: Allocator + Copy,
-    R: Files<File = File>
-        + Net<Stream = TcpStream, Listener = TcpListener>
-        + Clock
-        + Env
-        + Eprint
-        + AllocGlobal
-        + Clone
-        + Drop,
+    R: System,
     W: SessionObserver + Drop,
     O: Output,
-    B: Allocator,
-    ensures status { IfOk result (λ status. status ≤ 1) }
-    ensures write { result ≡ Err ToolFault.Write
+    ensures status { IfOk result.answer (λ status. status ≤ 1) }
+    ensures write { result.answer ≡ Err (RunFault.Tool ToolFault.Write)
         → CountsFault (O.fault_count output.old) (O.fault_count output.new) }
-    ensures no_other { IfErr result IsRunFault }
-    ensures no_usage { result ≢ Err ToolFault.Usage }
-    ensures why { result ≡ Err ToolFault.Device → IsSome why.new }
+    ensures no_other { IfErr result.answer IsSessionFault }
 {
-    let lock = match lock_device(alloc, rt, task.locks, path) {
+    let lock = match lock_device(run.alloc, run.rt, run.task.locks, path) {
         Ok(lock) => lock,
         Err(fault) => {
             drop(held);
-            return Err(fault.tell(why));
+            drop(observer);
+            return Outcome::of(run.alloc, Err(fault));
         }
     };
-    let line = DeviceLine::open(alloc, rt, path, station.time());
-    let result = talk_when_called(
-        alloc, rt, task, station, held, line, observer, output, remark, why,
-    );
+    let line = DeviceLine::open(run.alloc, run.rt, path, run.station.time());
+    let outcome = talk_when_called(run, held, line, observer, output);
     if let Some(lock) = lock {
-        lock.release(rt);
+        lock.release(run.rt);
     }
-    result
+    outcome
 }
 
 /// Talks over a device. An end that waits to be called says nothing before the first byte has come over the device. If
 /// none comes in time, it runs the session of an end that nobody has called. A calling end writes bytes that wake such
 /// an end.
-fn talk_when_called<A, R, W, O, B>(
-    alloc: A,
-    rt: &R,
-    task: &CallTask<'_>,
-    station: Station,
+fn talk_when_called<A, R, W, O>(
+    run: &EndRun<'_, A, R>,
     held: Option<DirLock<A>>,
     line: Result<DeviceLine<A>, Cause>,
     observer: W,
     output: &mut O,
-    remark: &mut String<B>,
-    why: &mut Option<SystemFailure>,
-) -> Result<u8, ToolFault>
+) -> Outcome<u8, A>
 where
     A: Allocator + Copy,
-    R: Files<File = File> + Env + Eprint + Clock + AllocGlobal + Clone + Drop,
+    R: System,
     W: SessionObserver + Drop,
     O: Output,
-    B: Allocator,
-    ensures status { IfOk result (λ status. status ≤ 1) }
-    ensures write { result ≡ Err ToolFault.Write
+    ensures status { IfOk result.answer (λ status. status ≤ 1) }
+    ensures write { result.answer ≡ Err (RunFault.Tool ToolFault.Write)
         → CountsFault (O.fault_count output.old) (O.fault_count output.new) }
-    ensures no_other { IfErr result IsRunFault }
-    ensures no_usage { result ≢ Err ToolFault.Usage }
-    ensures why { result ≡ Err ToolFault.Device → IsSome why.new }
+    ensures no_other { IfErr result.answer IsSessionFault }
 {
-    match called(line, station.wait_at_device(task.side)) {
+    let side = run.task.side;
+    match called(line, run.station.wait_at_device(side)) {
         Ok(Some(line)) => {
-            let (answer, observer) = talk_over(
-                alloc,
-                rt,
-                task,
-                station,
-                held,
-                Ok(WakingLine::new(line, task.side)),
-                observer,
-                output,
-                remark,
-                why,
-            );
-            drop(observer);
-            answer
+            let line = Ok(WakingLine::new(line, side));
+            talk_once(run, held, line, observer, output)
         }
-        Ok(None) => {
-            let (answer, observer) = talk_over(
-                alloc,
-                rt,
-                task,
-                station,
-                held,
-                Ok(SilentLine),
-                observer,
-                output,
-                remark,
-                why,
-            );
-            drop(observer);
-            answer
-        }
+        Ok(None) => talk_once(run, held, Ok(SilentLine), observer, output),
         Err(cause) => {
             drop(held);
             drop(observer);
-            *why = Some(SystemFailure::on(Resource::Line, cause));
-            Err(ToolFault::Device)
+            Outcome::of(run.alloc, Err(no_line_for(cause)))
         }
     }
+}
+
+/// Returns the fault of a run without a line.
+fn no_line_for(cause: Cause) -> RunFault
+    ensures { IsSystemFault result }
+{
+    RunFault::System(SystemFailure::on(Resource::Line, cause))
 }
 
 /// Returns the line over a device, or why there is none. Returns `None` if the end waits to be called there and no call
@@ -409,95 +351,131 @@ fn called<A: Allocator + Copy>(
     }
 }
 
-/// Talks over the end's line, if it has one, with its folder locked. Returns the observer too.
-pub(crate) fn talk_over<A, R, L, W, O, B>(
-    alloc: A,
-    rt: &R,
-    task: &CallTask<'_>,
-    station: Station,
+/// Talks over the end's line, if it has one, with its folder locked, and takes leave of the observer.
+fn talk_once<A, R, L, W, O>(
+    run: &EndRun<'_, A, R>,
     held: Option<DirLock<A>>,
     line: Result<L, Cause>,
     observer: W,
     output: &mut O,
-    remark: &mut String<B>,
-    why: &mut Option<SystemFailure>,
-) -> (Result<u8, ToolFault>, W)
+) -> Outcome<u8, A>
 where
     A: Allocator + Copy,
-    R: Files<File = File> + Env + Eprint + Clock + AllocGlobal + Clone + Drop,
+    R: System,
     L: SystemLine + Drop,
     W: SessionObserver + Drop,
     O: Output,
-    B: Allocator,
-    ensures status { IfOk result.0 (λ status. status ≤ 1) }
-    ensures write { result.0 ≡ Err ToolFault.Write
+    ensures status { IfOk result.answer (λ status. status ≤ 1) }
+    ensures write { result.answer ≡ Err (RunFault.Tool ToolFault.Write)
         → CountsFault (O.fault_count output.old) (O.fault_count output.new) }
-    ensures no_other { IfErr result.0 IsRunFault }
-    ensures no_usage { result.0 ≢ Err ToolFault.Usage }
-    ensures why { result.0 ≡ Err ToolFault.Device → IsSome why.new }
+    ensures no_other { IfErr result.answer IsSessionFault }
+{
+    let (outcome, observer) = talk_over(run, held, line, observer, output);
+    drop(observer);
+    outcome
+}
+
+/// Talks over the end's line, if it has one, with its folder locked. Returns the observer too.
+pub(crate) fn talk_over<A, R, L, W, O>(
+    run: &EndRun<'_, A, R>,
+    held: Option<DirLock<A>>,
+    line: Result<L, Cause>,
+    observer: W,
+    output: &mut O,
+) -> (Outcome<u8, A>, W)
+where
+    A: Allocator + Copy,
+    R: System,
+    L: SystemLine + Drop,
+    W: SessionObserver + Drop,
+    O: Output,
+    ensures status { IfOk result.0.answer (λ status. status ≤ 1) }
+    ensures write { result.0.answer ≡ Err (RunFault.Tool ToolFault.Write)
+        → CountsFault (O.fault_count output.old) (O.fault_count output.new) }
+    ensures no_other { IfErr result.0.answer IsSessionFault }
 {
     let line = match line {
         Ok(line) => line,
         Err(cause) => {
             drop(held);
-            *why = Some(SystemFailure::on(Resource::Line, cause));
-            return (Err(ToolFault::Device), observer);
+            return (Outcome::of(run.alloc, Err(no_line_for(cause))), observer);
         }
     };
-    let line = TimedLine::new(rt, SessionLine::new(line, station.pace));
+    let line = TimedLine::new(run.rt, SessionLine::new(line, run.station.pace));
     let line = HailedLine::new(FailingLine::new(line));
-    let mut line = GreetedLine::new(alloc, LineMonitor::new(line, observer));
-    let result = if task.is_spool {
-        talk_in_spool(alloc, rt, &*task, station, &mut line, output, why)
+    let mut line = GreetedLine::new(run.alloc, LineMonitor::new(line, observer));
+    let ended = if run.task.is_spool {
+        drop(held);
+        Outcome::of(run.alloc, talk_in_spool(run, &mut line, output))
     } else {
-        talk_in_folder(
-            alloc, rt, &*task, station, held, &mut line, output, remark, why,
-        )
+        talk_in_folder(run, held, &mut line, output)
     };
-    if let Ok(1) = result {
-        let failure = (*why).or(line.line().line().line().failure());
-        log_failure(alloc, rt, &*task, &failure);
-        // A remark for which there is no memory is left out.
-        let _ = remark_failure(alloc, remark, task.line, task.dir, failure);
+    let failure = line.line().line().line().failure();
+    (told(run, ended, failure), line.into_line().into_observer())
+}
+
+/// Returns the outcome of a run whose session has ended so. If the session is not done because a call of the system
+/// failed, on the files of the end or on its line, the log and the remark say which.
+fn told<A: Allocator + Copy, R: System>(
+    run: &EndRun<'_, A, R>,
+    ended: Outcome<Ended, A>,
+    line: Option<SystemFailure>,
+) -> Outcome<u8, A>
+    ensures answer { result.answer ≡ status_of ended.answer }
+{
+    let Outcome { answer, mut remark } = ended;
+    let (answer, failure) = status_and_failure(answer, line);
+    log_failure(run.alloc, run.rt, run.task, &failure);
+    // A remark for which there is no memory is left out.
+    let (line, dir) = (run.task.line, run.task.dir);
+    let _ = remark_failure(run.alloc, &mut remark, line, dir, failure);
+    Outcome { answer, remark }
+}
+
+/// Returns the status of a session that was not given up, and the failed call of the system that is the reason why it is
+/// not done, if one is: on the files of the end, else on its line.
+fn status_and_failure(
+    ended: Result<Ended, RunFault>,
+    line: Option<SystemFailure>,
+) -> (Result<u8, RunFault>, Option<SystemFailure>)
+    ensures status { result.0 ≡ status_of ended }
+    ensures failure { result.1 ≡ failure_to_tell ended line }
+{
+    match ended {
+        Ok(Ended { status: 1, failure }) => (Ok(1), failure.or(line)),
+        Ok(Ended { status, .. }) => (Ok(status), None),
+        Err(fault) => (Err(fault), None),
     }
-    (result, line.into_line().into_observer())
 }
 
 /// Talks over the end's line with its folder locked.
-fn talk_in_folder<A, R, L, O, B>(
-    alloc: A,
-    rt: &R,
-    task: &CallTask<'_>,
-    station: Station,
+fn talk_in_folder<A, R, L, O>(
+    run: &EndRun<'_, A, R>,
     held: Option<DirLock<A>>,
     line: &mut GreetedLine<L, A>,
     output: &mut O,
-    remark: &mut String<B>,
-    why: &mut Option<SystemFailure>,
-) -> Result<u8, ToolFault>
+) -> Outcome<Ended, A>
 where
     A: Allocator + Copy,
-    R: Files<File = File> + Env + Eprint + Clock + AllocGlobal + Clone + Drop,
+    R: System,
     L: EndLine,
     O: Output,
-    B: Allocator,
-    ensures status { IfOk result (λ status. status ≤ 1) }
-    ensures write { result ≡ Err ToolFault.Write
+    ensures status { IfOk result.answer (λ ended. ended.status ≤ 1) }
+    ensures write { result.answer ≡ Err (RunFault.Tool ToolFault.Write)
         → CountsFault (O.fault_count output.old) (O.fault_count output.new) }
-    ensures no_other { IfErr result IsRunFault }
-    ensures no_usage { result ≢ Err ToolFault.Usage }
-    ensures why { result ≡ Err ToolFault.Device
-        → IsSome why.new ⊎ (0 < L.fault_count line.new.line) }
+    ensures no_other { IfErr result.answer IsFaultAtLine }
+    ensures line { result.answer ≡ Err (RunFault.Tool ToolFault.Device)
+        → 0 < L.fault_count line.new.line }
 {
-    match lock_again(alloc, rt, task, held) {
+    match lock_again(run.alloc, run.rt, run.task, held) {
         Ok(lock) => {
-            mark_session(alloc, rt, task);
-            let result = talk_locked(alloc, rt, task, &lock, station, line, output, remark, why);
-            unmark_session(alloc, rt, task);
+            mark_session(run.alloc, run.rt, run.task);
+            let outcome = talk_locked(run, &lock, line, output);
+            unmark_session(run.alloc, run.rt, run.task);
             drop(lock);
-            result
+            outcome
         }
-        Err(fault) => Err(fault.tell(why)),
+        Err(fault) => Outcome::of(run.alloc, Err(fault)),
     }
 }
 
@@ -518,75 +496,101 @@ fn lock_again<A: Allocator + Copy, R: Files<File = File> + Alloc + Clone + Drop>
 
 /// Makes the end over its folder as it is now, and talks over its line. After a session without a fault, the copies of
 /// its jobs go where these have gone.
-fn talk_locked<'a, A, R, L, O, B>(
-    alloc: A,
-    rt: &'a R,
-    task: &CallTask<'a>,
+fn talk_locked<A, R, L, O>(
+    run: &EndRun<'_, A, R>,
     lock: &DirLock<A>,
-    station: Station,
     line: &mut GreetedLine<L, A>,
     output: &mut O,
-    remark: &mut String<B>,
-    why: &mut Option<SystemFailure>,
-) -> Result<u8, ToolFault>
+) -> Outcome<Ended, A>
 where
     A: Allocator + Copy,
-    R: Files<File = File> + Env + Eprint + Clock + AllocGlobal + Clone + Drop,
+    R: System,
     L: EndLine,
     O: Output,
-    B: Allocator,
-    ensures status { IfOk result (λ status. status ≤ 1) }
-    ensures write { result ≡ Err ToolFault.Write
+    ensures status { IfOk result.answer (λ ended. ended.status ≤ 1) }
+    ensures write { result.answer ≡ Err (RunFault.Tool ToolFault.Write)
         → CountsFault (O.fault_count output.old) (O.fault_count output.new) }
-    ensures no_other { IfErr result IsRunFault }
-    ensures no_usage { result ≢ Err ToolFault.Usage }
-    // Unless the line has failed, `why` says which call on the folder did.
-    ensures why { result ≡ Err ToolFault.Device
-        → IsSome why.new ⊎ (0 < L.fault_count line.new.line) }
+    ensures no_other { IfErr result.answer IsFaultAtLine }
+    // Unless the line has failed, the call on the folder that did is named.
+    ensures line { result.answer ≡ Err (RunFault.Tool ToolFault.Device)
+        → 0 < L.fault_count line.new.line }
 {
-    let numbers = match meet(alloc, rt, task, lock, station, line) {
-        Ok(numbers) => numbers,
-        Err(fault) => return Err(fault.tell(why)),
+    let (alloc, rt, task) = (run.alloc, run.rt, run.task);
+    let (numbers, parts) = match read_end(run, lock, line) {
+        Ok(read) => read,
+        Err(fault) => return Outcome::of(alloc, Err(fault)),
     };
-    let parts = match read_parts(alloc, rt, task, lock, station.place, numbers) {
-        Ok(parts) => parts,
-        Err(fault) => return Err(fault.tell(why)),
-    };
-    let finished = match parts.run(
-        alloc,
-        task.side,
-        task.thinning(),
-        line,
-        station.limits(),
-        output,
-    ) {
-        Ok(finished) => finished,
-        Err(AllocError) => return Err(ToolFault::Memory),
+    let limits = run.station.limits();
+    let Ok(finished) = parts.run(alloc, task.side, task.thinning(), line, limits, output) else {
+        return Outcome::of(alloc, Err(RunFault::Tool(ToolFault::Memory)));
     };
     let FinishedEnd { end, answer } = finished;
-    *why = failure_of(&end);
+    let failure = failure_of(&end);
     let node = end.buffered.node();
-    let phase = node.phase();
-    // A remark for which there is no memory is left out.
-    let queue = node.queue();
-    let large = large_files(alloc, rt, task, queue.failed()).unwrap_or(Vec::new(alloc));
-    let large = large.as_slice();
-    let _ = remark_failed(alloc, remark, task.dir, large, node.spool(), queue.failed());
-    let _ = remark_put_off(alloc, remark, phase, task.tells_digests, queue.pending());
-    log_unoffered(alloc, rt, task, large, node.spool(), queue.failed());
+    let failed = node.queue().failed();
+    let large = large_files(alloc, rt, task, failed).unwrap_or(Vec::new(alloc));
+    let remark = remark_on(run, numbers, large.as_slice(), node);
+    log_unoffered(alloc, rt, task, large.as_slice(), node.spool(), failed);
     if let Some(partials) = node.spool().partials() {
         hold_left_in(alloc, rt, task.dir, partials.over(), node.left());
     }
-    let has_failed = has_failed(task, queue.failed());
+    let answer = answer_with(has_failed(task, failed), answer);
     drop(end);
     if answer.is_ok() {
         settle_copies(alloc, rt, lock);
     }
-    let _ = remark_numbers(alloc, remark, phase, numbers.begins, numbers.heard);
-    if has_failed && answer.is_ok() {
-        Ok(1)
-    } else {
-        answer
+    Outcome {
+        answer: Ended::of(answer, failure),
+        remark,
+    }
+}
+
+/// Reads what the end is made of, which may hear the other end's number first.
+fn read_end<'a, A, R, L>(
+    run: &EndRun<'a, A, R>,
+    lock: &DirLock<A>,
+    line: &mut GreetedLine<L, A>,
+) -> Result<(Numbers, SystemParts<'a, R, A>), RunFault>
+where
+    A: Allocator + Copy,
+    R: System,
+    L: EndLine,
+    ensures jobs_calm { IfOk result (λ read. read.1.jobs.file.file.faults.count ≡ 0) }
+    ensures number_calm { IfOk result (λ read. read.1.number.file.faults.count ≡ 0) }
+    ensures no_other { IfErr result IsReadingFault }
+{
+    let (alloc, rt, task) = (run.alloc, run.rt, run.task);
+    let numbers = meet(alloc, rt, task, lock, run.station, line)?;
+    let parts = read_parts(alloc, rt, task, lock, run.station.place, numbers)?;
+    Ok((numbers, parts))
+}
+
+/// Returns the remark on a session that is over: why jobs have failed or were put off, and which numbers the ends have
+/// if they differ. What there is no memory for is left out.
+fn remark_on<A: Allocator + Copy, R, S: Spool>(
+    run: &EndRun<'_, A, R>,
+    numbers: Numbers,
+    large: &[Name],
+    node: &Node<S, A>,
+) -> String<A> {
+    let (alloc, task) = (run.alloc, run.task);
+    let (phase, queue) = (node.phase(), node.queue());
+    let mut remark = String::new(alloc);
+    let failed = queue.failed();
+    let _ = remark_failed(alloc, &mut remark, task.dir, large, node.spool(), failed);
+    let pending = queue.pending();
+    let _ = remark_put_off(alloc, &mut remark, phase, task.tells_digests, pending);
+    let _ = remark_numbers(alloc, &mut remark, phase, numbers.begins, numbers.heard);
+    remark
+}
+
+/// Returns the answer of a session, which is 1 if it counts as one that is not done.
+fn answer_with(has_failed: bool, answer: Result<u8, ToolFault>) -> Result<u8, ToolFault>
+    ensures { result ≡ answer_with has_failed answer }
+{
+    match answer {
+        Ok(_) if has_failed => Ok(1),
+        answer => answer,
     }
 }
 

@@ -103,22 +103,22 @@ fn outcome_then(read: Result<ReadOutcome, LineFailed>, is_cut: bool, _buffer: &[
     }
 }
 
-/// Appends to the remark why the line of this name, or this folder, has failed, if it has. Out of memory leaves the
-/// remark unchanged.
+/// Appends to a text why the line of this name, or this folder, has failed, if it has. Out of memory leaves the
+/// text unchanged.
 pub(crate) fn remark_failure<A: Allocator, B: Allocator>(
     alloc: A,
-    remark: &mut String<B>,
+    text: &mut String<B>,
     line: &str,
     dir: &str,
     failure: Option<SystemFailure>,
 ) -> Result<(), AllocError>
-    ensures ok { OnOk result (string_bytes remark.new
-        ≡ string_bytes remark.old ++ failure_remark line.now dir.now failure) }
-    ensures err { OnErr result (string_bytes remark.new ≡ string_bytes remark.old) }
+    ensures ok { OnOk result (string_bytes text.new
+        ≡ string_bytes text.old ++ failure_remark line.now dir.now failure) }
+    ensures err { OnErr result (string_bytes text.new ≡ string_bytes text.old) }
 {
     let Some(failure) = failure else {
         return Ok(());
     };
     let reason = reason_line(alloc, "", line, dir, "", failure)?;
-    remark.push_str(reason.as_str())
+    text.push_str(reason.as_str())
 }

@@ -12,46 +12,46 @@ use uug_reason::add_escaped;
 use uug_session::{End, Job, Phase, Spool};
 use uug_talk::Name;
 
-/// Appends to the remark why each of these jobs of the folder `dir` was given up. `large` are the names of the files in
-/// `send` that are too large to be sent. Out of memory leaves the remark unchanged.
+/// Appends to a text why each of these jobs of the folder `dir` was given up. `large` are the names of the files in
+/// `send` that are too large to be sent. Out of memory leaves the text unchanged.
 pub(crate) fn remark_failed<A: Allocator + Copy, S: Spool, B: Allocator>(
     alloc: A,
-    remark: &mut String<B>,
+    text: &mut String<B>,
     dir: &str,
     large: &[Name],
     spool: &S,
     jobs: &[Job],
 ) -> Result<(), AllocError>
-    ensures ok { OnOk result (string_bytes remark.new
-        ≡ string_bytes remark.old
+    ensures ok { OnOk result (string_bytes text.new
+        ≡ string_bytes text.old
         ++ failed_remark (escaped dir.now) large.now (S.holdings spool.now) jobs.now) }
-    ensures err { OnErr result (string_bytes remark.new ≡ string_bytes remark.old) }
+    ensures err { OnErr result (string_bytes text.new ≡ string_bytes text.old) }
 {
     let mut shown = String::new(alloc);
     add_escaped(&mut shown, dir.as_bytes())?;
     let mut lines = String::new(alloc);
     add_failed(&mut lines, alloc, shown.as_str(), large, spool, jobs)?;
-    remark.push_str(lines.as_str())
+    text.push_str(lines.as_str())
 }
 
-/// Appends to the remark that each of these pending jobs was put off, if the session of their end ended as done. Out of
-/// memory leaves the remark unchanged.
+/// Appends to a text that each of these pending jobs was put off, if the session of their end ended as done. Out of
+/// memory leaves the text unchanged.
 pub(crate) fn remark_put_off<A: Allocator, B: Allocator>(
     alloc: A,
-    remark: &mut String<B>,
+    text: &mut String<B>,
     phase: Phase,
     tells_digests: bool,
     pending: &[Job],
 ) -> Result<(), AllocError>
-    ensures ok { OnOk result (string_bytes remark.new
-        ≡ string_bytes remark.old ++ put_off_remark phase tells_digests pending.now) }
-    ensures err { OnErr result (string_bytes remark.new ≡ string_bytes remark.old) }
+    ensures ok { OnOk result (string_bytes text.new
+        ≡ string_bytes text.old ++ put_off_remark phase tells_digests pending.now) }
+    ensures err { OnErr result (string_bytes text.new ≡ string_bytes text.old) }
 {
     match phase {
         Phase::Ended(End::Done) => {
             let mut lines = String::new(alloc);
             add_put_off(&mut lines, tells_digests, pending)?;
-            remark.push_str(lines.as_str())
+            text.push_str(lines.as_str())
         }
         _ => Ok(()),
     }

@@ -5,6 +5,7 @@ mod answer;
 mod bad_jobs;
 mod call;
 mod doorkeeper;
+mod end_run;
 mod failing_line;
 mod fault_log;
 mod folder_kind;

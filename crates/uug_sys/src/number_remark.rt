@@ -5,23 +5,23 @@ ghost use Rattle.uug_sys.specs.NumberRemarks.{heard_words, numbers_line, numbers
 use std::alloc::{AllocError, Allocator};
 use uug_session::{End, Phase};
 
-/// Appends to the remark the number of this end, and the one heard from the other end, if the session ended because
-/// they differ. Out of memory leaves the remark unchanged.
+/// Appends to a text the number of this end, and the one heard from the other end, if the session ended because
+/// they differ. Out of memory leaves the text unchanged.
 pub(crate) fn remark_numbers<A: Allocator + Copy, B: Allocator>(
     alloc: A,
-    remark: &mut String<B>,
+    text: &mut String<B>,
     phase: Phase,
     own: Option<u32>,
     heard: Option<u32>,
 ) -> Result<(), AllocError>
-    ensures ok { OnOk result (string_bytes remark.new
-        ≡ string_bytes remark.old ++ numbers_remark phase own heard) }
-    ensures err { OnErr result (string_bytes remark.new ≡ string_bytes remark.old) }
+    ensures ok { OnOk result (string_bytes text.new
+        ≡ string_bytes text.old ++ numbers_remark phase own heard) }
+    ensures err { OnErr result (string_bytes text.new ≡ string_bytes text.old) }
 {
     match phase {
         Phase::Ended(End::BadSequence) => {
             let line = numbers_line(alloc, own, heard)?;
-            remark.push_str(line.as_str())
+            text.push_str(line.as_str())
         }
         _ => Ok(()),
     }

@@ -1,38 +1,38 @@
 //! An end over a spool of Taylor UUCP, and the lock of the other system.
-ghost use Rattle.std.specs.Prelude.{◌≡◌, ◌≢◌, ◌<◌, ◌≤◌, ◌⊎◌, IfErr, IfOk, IsSome, OnErr, codes, false, string_bytes, true};
-ghost use Rattle.uug_failure.specs.Faults.{IsFolderFault, IsRunFault};
+ghost use Rattle.std.specs.Prelude.{◌≡◌, ◌≢◌, ◌<◌, ◌≤◌, Err, IfErr, IfOk, OnErr, codes, false, string_bytes, true};
+ghost use Rattle.uug_failure.specs.Faults.{IsFaultAtLine, IsFolderFault, IsSessionFault};
 ghost use Rattle.uug_spool.specs.SpoolNames.{is_system_name};
 ghost use Rattle.uug_spool_call.specs.Reported.{IsReported};
 ghost use Rattle.uug_stream.specs.Streams.{CountsFault};
 ghost use Rattle.uug_sys.specs.Callers.{other_than};
 ghost use Rattle.uug_sys.specs.SpoolCalls.{IsCallOf, line_fault};
-ghost use Rattle.uug_sys.specs.SpoolLocks.{CallsLater, GivesUp, Says, is_locked, lock_words};
+ghost use Rattle.uug_sys.specs.SpoolLocks.{CallsLater, Says, is_locked, lock_words};
 ghost use Rattle.uug_transfer.specs.Writing.{TakesFront};
 
 use crate::call::talk_at;
+use crate::end_run::EndRun;
 use crate::folder_kind::see_no_folder;
 use crate::hailed_line::HailedLine;
 use crate::numbers::meet_caller;
 use crate::session_mark::BROKEN_OFF;
 use crate::spool_lock::{
-    has_lock, is_held, is_in_use, is_locked, lock_system, lock_words, remark_locked, say,
+    has_lock, is_held, is_in_use, is_locked, lock_system, lock_words, locked_remark, say,
 };
 use std::alloc::{AllocError, Allocator};
 use std::fs;
 use std::fs::File;
-use std::net::{Net, TcpListener, TcpStream};
 use std::rt::{Env, Files};
 use std::time::Clock;
 use uug_disk::DeviceLock;
-use uug_failure::{Resource, RunFault, SystemFailure};
+use uug_failure::{Ended, Outcome, Resource, RunFault};
 use uug_port::{SilentLine, StandardStreams};
 use uug_session::{End, Phase, Side};
 use uug_spool::is_system_name;
 use uug_spool_call::{SpoolCall, talk_over_spool, tell_fault, tell_no_line};
 use uug_stream::{Output, ToolFault};
 use uug_talk::Name;
-use uug_task::{CallTask, Station, Terms};
-use uug_transfer::{EndLine, GreetedLine, LineMonitor, SessionObserver, SessionStatus};
+use uug_task::{CallTask, System};
+use uug_transfer::{EndLine, GreetedLine, LineMonitor, LineName, SessionObserver, SessionStatus};
 
 /// The word in place of a system's name that lets any system of the spool call.
 pub(crate) const ANY: &str = "*";
@@ -41,152 +41,114 @@ pub(crate) const ANY: &str = "*";
 const LOCKED: &str = "System already locked";
 
 /// Runs an end over a spool. A calling end locks the other system first.
-pub(crate) fn call_over_spool<A, R, W, O, B>(
-    alloc: A,
-    rt: &R,
-    task: &CallTask<'_>,
-    terms: Terms<'_>,
+pub(crate) fn call_over_spool<A, R, W, O>(
+    run: &EndRun<'_, A, R>,
+    line: LineName<'_>,
     streams: StandardStreams,
     observer: W,
     output: &mut O,
-    remark: &mut String<B>,
-    why: &mut Option<SystemFailure>,
-) -> Result<u8, ToolFault>
+) -> Outcome<u8, A>
 where
     A: Allocator + Copy,
-    R: Files<File = File>
-        + Net<Stream = TcpStream, Listener = TcpListener>
-        + Clock
-        + Env
-        + Eprint
-        + AllocGlobal
-        + Clone
-        + Drop,
+    R: System,
     W: SessionObserver + Drop,
     O: Output,
-    B: Allocator,
-    ensures status { IfOk result (λ status. status ≤ 1) }
-    ensures write { result ≡ Err ToolFault.Write
+    ensures status { IfOk result.answer (λ status. status ≤ 1) }
+    ensures write { result.answer ≡ Err (RunFault.Tool ToolFault.Write)
         → CountsFault (O.fault_count output.old) (O.fault_count output.new) }
-    ensures no_other { IfErr result IsRunFault }
-    ensures no_usage { result ≢ Err ToolFault.Usage }
-    ensures why { result ≡ Err ToolFault.Device → IsSome why.new }
+    ensures no_other { IfErr result.answer IsSessionFault }
 {
-    let Terms { line, station } = terms;
-    let terms = Terms { line, station };
-    if let Err(fault) = see_spool(alloc, rt, task) {
+    if let Err(fault) = see_spool(run.alloc, run.rt, run.task) {
         drop(observer);
-        return Err(fault.tell(why));
+        return Outcome::of(run.alloc, Err(fault));
     }
-    if task.side == Side::Called {
-        return talk_at(
-            alloc, rt, task, terms, streams, None, observer, output, remark, why,
-        );
+    if run.task.side == Side::Called {
+        return talk_at(run, line, streams, None, observer, output);
     }
-    let lock = lock_telling(alloc, rt, task, task.peer);
-    call_locked(
-        alloc, rt, task, terms, streams, lock, observer, output, remark, why,
-    )
+    let lock = lock_telling(run.alloc, run.rt, run.task, run.task.peer);
+    call_locked(run, line, streams, lock, observer, output)
 }
 
 /// Calls with the lock of the other system, if the end has got it.
-fn call_locked<A, R, W, O, B>(
-    alloc: A,
-    rt: &R,
-    task: &CallTask<'_>,
-    terms: Terms<'_>,
+fn call_locked<A, R, W, O>(
+    run: &EndRun<'_, A, R>,
+    line: LineName<'_>,
     streams: StandardStreams,
     lock: Result<DeviceLock<A>, RunFault>,
     observer: W,
     output: &mut O,
-    remark: &mut String<B>,
-    why: &mut Option<SystemFailure>,
-) -> Result<u8, ToolFault>
+) -> Outcome<u8, A>
 where
     A: Allocator + Copy,
-    R: Files<File = File>
-        + Net<Stream = TcpStream, Listener = TcpListener>
-        + Clock
-        + Env
-        + Eprint
-        + AllocGlobal
-        + Clone
-        + Drop,
+    R: System,
     W: SessionObserver + Drop,
     O: Output,
-    B: Allocator,
     requires lock { IfErr lock IsFolderFault }
-    ensures status { IfOk result (λ status. status ≤ 1) }
-    ensures write { result ≡ Err ToolFault.Write
+    ensures status { IfOk result.answer (λ status. status ≤ 1) }
+    ensures write { result.answer ≡ Err (RunFault.Tool ToolFault.Write)
         → CountsFault (O.fault_count output.old) (O.fault_count output.new) }
-    ensures no_other { IfErr result IsRunFault }
-    ensures no_usage { result ≢ Err ToolFault.Usage }
-    ensures why { result ≡ Err ToolFault.Device → IsSome why.new }
-    ensures calls_later { IfErr lock (λ fault. is_locked fault ≡ true → CallsLater task.now
-        result why.old why.new (string_bytes remark.old) (string_bytes remark.new)) }
-    ensures gives_up { IfErr lock (λ fault. is_locked fault ≡ false
-        → GivesUp fault result why.old why.new) }
+    ensures no_other { IfErr result.answer IsSessionFault }
+    ensures calls_later { IfErr lock (λ fault. is_locked fault ≡ true
+        → CallsLater run.now.task.now result.answer (string_bytes result.remark)) }
+    ensures gives_up { IfErr lock (λ fault. is_locked fault ≡ false → result.answer ≡ Err fault) }
     ensures silent { OnErr lock (O.written output.new ≡ O.written output.old) }
 {
-    let Terms { line, station } = terms;
-    let place = station.place;
     let lock = match lock {
         Ok(lock) => lock,
         Err(fault) => {
             drop(observer);
-            return call_later(alloc, rt, task, place.peer, fault, remark, why);
+            return call_later(run, fault);
         }
     };
-    let terms = Terms { line, station };
-    let result = talk_at(
-        alloc, rt, task, terms, streams, None, observer, output, remark, why,
-    );
-    if let Some(is_in_use) = line_fault(result, *why) {
-        tell_no_line(alloc, rt, &said_of(task), place.peer, is_in_use);
+    let outcome = talk_at(run, line, streams, None, observer, output);
+    if let Some(is_in_use) = line_fault(&outcome.answer) {
+        let peer = run.station.place.peer;
+        tell_no_line(run.alloc, run.rt, &said_of(run.task), peer, is_in_use);
     }
-    lock.release(rt);
-    result
+    lock.release(run.rt);
+    outcome
 }
 
 /// Handles a call of a system whose lock the end has not got. If another run has the lock, the system is to be called
 /// later.
-fn call_later<A, R, B>(
-    alloc: A,
-    rt: &R,
-    task: &CallTask<'_>,
-    system: Name,
+fn call_later<A: Allocator + Copy, R: System>(
+    run: &EndRun<'_, A, R>,
     fault: RunFault,
-    remark: &mut String<B>,
-    why: &mut Option<SystemFailure>,
-) -> Result<u8, ToolFault>
-where
-    A: Allocator + Copy,
-    R: Files<File = File> + Clock + Env + AllocGlobal,
-    B: Allocator,
+) -> Outcome<u8, A>
     requires fault { IsFolderFault fault }
-    ensures status { IfOk result (λ status. status ≤ 1) }
-    ensures no_other { IfErr result IsRunFault }
-    ensures no_write { result ≢ Err ToolFault.Write }
-    ensures no_usage { result ≢ Err ToolFault.Usage }
-    ensures why { result ≡ Err ToolFault.Device → IsSome why.new }
-    ensures calls_later { is_locked fault ≡ true → CallsLater task.now result why.old why.new
-        (string_bytes remark.old) (string_bytes remark.new) }
-    ensures gives_up { is_locked fault ≡ false → GivesUp fault result why.old why.new }
+    ensures status { IfOk result.answer (λ status. status ≤ 1) }
+    ensures no_write { result.answer ≢ Err (RunFault.Tool ToolFault.Write) }
+    ensures no_other { IfErr result.answer IsSessionFault }
+    ensures calls_later { is_locked fault ≡ true
+        → CallsLater run.now.task.now result.answer (string_bytes result.remark) }
+    ensures gives_up { is_locked fault ≡ false → result.answer ≡ Err fault }
 {
     if !is_locked(&fault) {
-        return Err(fault.tell(why));
+        return Outcome::of(run.alloc, Err(fault));
     }
-    tell_fault(alloc, rt, &said_of(task), system, LOCKED);
-    remark_locked(alloc, remark, task.locks, task.peer)?;
-    Ok(1)
+    let task = run.task;
+    tell_fault(
+        run.alloc,
+        run.rt,
+        &said_of(task),
+        run.station.place.peer,
+        LOCKED,
+    );
+    match locked_remark(run.alloc, task.locks, task.peer) {
+        Ok(remark) => Outcome {
+            answer: Ok(1),
+            remark,
+        },
+        Err(AllocError) => Outcome::of(run.alloc, Err(RunFault::Tool(ToolFault::Memory))),
+    }
 }
 
-/// Returns whether another run has the line, if a call with this result got no line. Else returns `None`.
-fn line_fault(answer: Result<u8, ToolFault>, why: Option<SystemFailure>) -> Option<bool>
-    ensures { result ≡ line_fault answer why }
+/// Returns whether another run has the line, if a call with this answer got no line. Else returns `None`.
+fn line_fault(answer: &Result<u8, RunFault>) -> Option<bool>
+    ensures { result ≡ line_fault answer.now }
 {
-    match (answer, why) {
-        (Err(ToolFault::Device), Some(failure)) => match failure.resource {
+    match answer {
+        Err(RunFault::System(failure)) => match failure.resource {
             Resource::Line => Some(is_in_use(failure.cause)),
             _ => None,
         },
@@ -210,50 +172,44 @@ fn see_spool<A: Allocator + Copy, R: Files>(
 
 /// Talks over the line of an end over a spool. A called end locks the other system during that.
 pub(crate) fn talk_in_spool<A, R, L, W, O>(
-    alloc: A,
-    rt: &R,
-    task: &CallTask<'_>,
-    mut station: Station,
+    run: &EndRun<'_, A, R>,
     line: &mut GreetedLine<LineMonitor<HailedLine<L>, W>, A>,
     output: &mut O,
-    why: &mut Option<SystemFailure>,
-) -> Result<u8, ToolFault>
+) -> Result<Ended, RunFault>
 where
     A: Allocator + Copy,
-    R: Files<File = File> + Clock + Env + Eprint + AllocGlobal + Clone + Drop,
+    R: System,
     L: EndLine,
     W: SessionObserver,
     O: Output,
-    ensures status { IfOk result (λ status. status ≤ 1) }
-    ensures write { result ≡ Err ToolFault.Write
+    ensures status { IfOk result (λ ended. ended.status ≤ 1) }
+    ensures write { result ≡ Err (RunFault.Tool ToolFault.Write)
         → CountsFault (O.fault_count output.old) (O.fault_count output.new) }
-    ensures no_other { IfErr result IsRunFault }
-    ensures no_usage { result ≢ Err ToolFault.Usage }
-    ensures reported { IfOk result (λ status. IsReported task.now.side status
+    ensures no_other { IfErr result IsFaultAtLine }
+    ensures reported { IfOk result (λ ended. IsReported run.now.task.now.side ended.status
         (O.written output.old) (O.written output.new)) }
-    ensures why { result ≡ Err ToolFault.Device
-        → IsSome why.new ⊎ (0 < L.fault_count line.new.line.line.line) }
+    ensures line { result ≡ Err (RunFault.Tool ToolFault.Device)
+        → 0 < L.fault_count line.new.line.line.line }
 {
-    if task.side == Side::Caller {
-        return talk_with(alloc, rt, task, &station, line, output, why);
+    if run.task.side == Side::Caller {
+        return talk_with(run, line, output);
     }
-    match system_at(alloc, rt, task, &station, line) {
-        Ok(Some(system)) => {
-            station.place.peer = system;
-            let lock = lock_caller(alloc, rt, task, &station, line);
+    match system_at(run, line)? {
+        Some(system) => {
+            let run = run.with_peer(system);
+            let lock = lock_caller(&run, line);
             let is_let_in = lock.is_ok();
-            let result = talk_locked(alloc, rt, task, &station, lock, line, output, why);
+            let ended = talk_locked(&run, lock, line, output);
             if !is_let_in {
                 line.note(over_in(Phase::Hail));
             }
-            result
+            ended
         }
         // One that has said something else is heard no more: it could say a name later.
-        Ok(None) => {
+        None => {
             line.note(over_in(Phase::Ended(End::HungUp)));
-            talk_to_nobody(alloc, rt, task, &station, output, why)
+            talk_to_nobody(run, output)
         }
-        Err(AllocError) => Err(ToolFault::Memory),
     }
 }
 
@@ -304,24 +260,21 @@ where
 /// Locks the system that has called. If another run has the lock, the caller is heard before it hears that: one whose
 /// words are not read may not read ours.
 fn lock_caller<A, R, L, W>(
-    alloc: A,
-    rt: &R,
-    task: &CallTask<'_>,
-    station: &Station,
+    run: &EndRun<'_, A, R>,
     line: &mut GreetedLine<LineMonitor<HailedLine<L>, W>, A>,
 ) -> Result<DeviceLock<A>, RunFault>
 where
     A: Allocator + Copy,
-    R: Files<File = File> + Clock + Env + AllocGlobal,
+    R: System,
     L: EndLine,
     W: SessionObserver,
     ensures { IfErr result IsFolderFault }
 {
-    let system = station.place.peer;
-    let lock = lock_telling(alloc, rt, task, system.as_str());
-    if task.peer != ANY && is_held(&lock) {
+    let place = &run.station.place;
+    let lock = lock_telling(run.alloc, run.rt, run.task, place.peer.as_str());
+    if run.task.peer != ANY && is_held(&lock) {
         // If any may call it was heard already.
-        let _ = meet_caller(alloc, &station.place, line, station.limits().greeting);
+        let _ = meet_caller(run.alloc, place, line, run.station.limits().greeting);
     }
     lock
 }
@@ -330,105 +283,92 @@ where
 /// and is hung up, and the next one may be let in. If there is no lock nothing is written to the line. Nothing is read
 /// there in either case.
 fn talk_locked<A, R, L, O>(
-    alloc: A,
-    rt: &R,
-    task: &CallTask<'_>,
-    station: &Station,
+    run: &EndRun<'_, A, R>,
     lock: Result<DeviceLock<A>, RunFault>,
     line: &mut L,
     output: &mut O,
-    why: &mut Option<SystemFailure>,
-) -> Result<u8, ToolFault>
+) -> Result<Ended, RunFault>
 where
     A: Allocator + Copy,
-    R: Files<File = File> + Clock + Env + Eprint + AllocGlobal + Clone + Drop,
+    R: System,
     L: EndLine,
     O: Output,
     requires lock { IfErr lock IsFolderFault }
-    ensures status { IfOk result (λ status. status ≤ 1) }
-    ensures write { result ≡ Err ToolFault.Write
+    ensures status { IfOk result (λ ended. ended.status ≤ 1) }
+    ensures write { result ≡ Err (RunFault.Tool ToolFault.Write)
         → CountsFault (O.fault_count output.old) (O.fault_count output.new) }
-    ensures no_other { IfErr result IsRunFault }
-    ensures no_usage { result ≢ Err ToolFault.Usage }
-    ensures reported { IfOk result (λ status. IsReported task.now.side status
+    ensures no_other { IfErr result IsFaultAtLine }
+    ensures reported { IfOk result (λ ended. IsReported run.now.task.now.side ended.status
         (O.written output.old) (O.written output.new)) }
-    ensures why { result ≡ Err ToolFault.Device
-        → IsSome why.new ⊎ (0 < L.fault_count line.new) }
-    ensures gives_up { IfErr lock (λ fault. is_locked fault ≡ false
-        → GivesUp fault result why.old why.new) }
+    ensures line { result ≡ Err (RunFault.Tool ToolFault.Device) → 0 < L.fault_count line.new }
+    ensures gives_up { IfErr lock (λ fault. is_locked fault ≡ false → result ≡ Err fault) }
     ensures silent { IfErr lock (λ fault. is_locked fault ≡ false
         → O.written output.new ≡ O.written output.old) }
     ensures unread { OnErr lock (L.received line.new ≡ L.received line.old) }
     ensures unwritten { IfErr lock (λ fault. is_locked fault ≡ false
         → L.taken line.new ≡ L.taken line.old) }
     ensures says { IfErr lock (λ fault. is_locked fault ≡ true → IfOk result (λ _.
-        Says (lock_words station.now.place.me) (L.taken line.old) (L.taken line.new)
+        Says (lock_words run.now.station.place.me) (L.taken line.old) (L.taken line.new)
         (L.writes line.old) (L.writes line.new)
         (L.fault_count line.old) (L.fault_count line.new))) }
-    ensures nothing_else { OnErr lock (TakesFront (lock_words station.now.place.me)
+    ensures nothing_else { OnErr lock (TakesFront (lock_words run.now.station.place.me)
         (L.taken line.old) (L.taken line.new)) }
 {
     match lock {
         Ok(lock) => {
-            let result = talk_with(alloc, rt, task, station, line, output, why);
-            lock.release(rt);
-            result
+            let ended = talk_with(run, line, output);
+            lock.release(run.rt);
+            ended
         }
-        Err(fault) => talk_unlocked(alloc, rt, task, station, fault, line, output, why),
+        Err(fault) => talk_unlocked(run, fault, line, output),
     }
 }
 
 /// Handles a system that has called and whose lock the end has not got. If another run has the lock, the caller hears
 /// `RLCK`, after the words with which each session begins. A greeted line takes those as said already.
 fn talk_unlocked<A, R, L, O>(
-    alloc: A,
-    rt: &R,
-    task: &CallTask<'_>,
-    station: &Station,
+    run: &EndRun<'_, A, R>,
     fault: RunFault,
     line: &mut L,
     output: &mut O,
-    why: &mut Option<SystemFailure>,
-) -> Result<u8, ToolFault>
+) -> Result<Ended, RunFault>
 where
     A: Allocator + Copy,
-    R: Files<File = File> + Clock + Env + Eprint + AllocGlobal + Clone + Drop,
+    R: System,
     L: EndLine,
     O: Output,
     requires fault { IsFolderFault fault }
-    ensures status { IfOk result (λ status. status ≤ 1) }
-    ensures reported { IfOk result (λ status. IsReported task.now.side status
-        (O.written output.old) (O.written output.new)) }
-    ensures write { result ≡ Err ToolFault.Write
+    ensures status { IfOk result (λ ended. ended.status ≤ 1) }
+    ensures write { result ≡ Err (RunFault.Tool ToolFault.Write)
         → CountsFault (O.fault_count output.old) (O.fault_count output.new) }
-    ensures no_other { IfErr result IsRunFault }
-    ensures no_usage { result ≢ Err ToolFault.Usage }
-    ensures why { result ≡ Err ToolFault.Device → IsSome why.new }
-    ensures gives_up { is_locked fault ≡ false → GivesUp fault result why.old why.new }
+    ensures no_other { IfErr result IsSessionFault }
+    ensures reported { IfOk result (λ ended. IsReported run.now.task.now.side ended.status
+        (O.written output.old) (O.written output.new)) }
+    ensures gives_up { is_locked fault ≡ false → result ≡ Err fault }
     ensures silent { is_locked fault ≡ false → O.written output.new ≡ O.written output.old }
     ensures unread { L.received line.new ≡ L.received line.old }
     ensures unwritten { is_locked fault ≡ false → L.taken line.new ≡ L.taken line.old }
     ensures says { is_locked fault ≡ true → IfOk result (λ _.
-        Says (lock_words station.now.place.me) (L.taken line.old) (L.taken line.new)
+        Says (lock_words run.now.station.place.me) (L.taken line.old) (L.taken line.new)
         (L.writes line.old) (L.writes line.new)
         (L.fault_count line.old) (L.fault_count line.new)) }
-    ensures nothing_else { TakesFront (lock_words station.now.place.me)
+    ensures nothing_else { TakesFront (lock_words run.now.station.place.me)
         (L.taken line.old) (L.taken line.new) }
 {
     if !is_locked(&fault) {
-        return Err(fault.tell(why));
+        return Err(fault);
     }
-    tell_fault(alloc, rt, &said_of(task), station.place.peer, LOCKED);
-    say_locked(alloc, rt, task.locks, station.place.peer);
-    let words = lock_words(alloc, &station.place.me)?;
+    let (alloc, rt, place) = (run.alloc, run.rt, run.station.place);
+    tell_fault(alloc, rt, &said_of(run.task), place.peer, LOCKED);
+    say_locked(alloc, rt, run.task.locks, place.peer);
+    let words = lock_words(alloc, &place.me)?;
     let _ = say(line, words.as_slice());
-    talk_to_nobody(alloc, rt, task, station, output, why)
+    talk_to_nobody(run, output)
 }
 
 /// Says on standard error that another run talks with this system, which has called.
 fn say_locked<A: Allocator + Copy, R: Eprint>(alloc: A, rt: &R, locks: &str, system: Name) {
-    let mut remark = String::new(alloc);
-    if remark_locked(alloc, &mut remark, locks, system.as_str()).is_ok() {
+    if let Ok(remark) = locked_remark(alloc, locks, system.as_str()) {
         let said = remark.as_str();
         let _ = eprint!(rt; "{said}");
     }
@@ -436,77 +376,57 @@ fn say_locked<A: Allocator + Copy, R: Eprint>(alloc: A, rt: &R, locks: &str, sys
 
 /// Runs the session of an end that has heard no caller's name, or only the name of one with which another run talks.
 /// That one's folders are not looked at.
-fn talk_to_nobody<A, R, O>(
-    alloc: A,
-    rt: &R,
-    task: &CallTask<'_>,
-    station: &Station,
-    output: &mut O,
-    why: &mut Option<SystemFailure>,
-) -> Result<u8, ToolFault>
+fn talk_to_nobody<A, R, O>(run: &EndRun<'_, A, R>, output: &mut O) -> Result<Ended, RunFault>
 where
     A: Allocator + Copy,
-    R: Files<File = File> + Clock + Env + Eprint + AllocGlobal + Clone + Drop,
+    R: System,
     O: Output,
-    ensures status { IfOk result (λ status. status ≤ 1) }
-    ensures write { result ≡ Err ToolFault.Write
+    ensures status { IfOk result (λ ended. ended.status ≤ 1) }
+    ensures write { result ≡ Err (RunFault.Tool ToolFault.Write)
         → CountsFault (O.fault_count output.old) (O.fault_count output.new) }
-    ensures no_other { IfErr result IsRunFault }
-    ensures no_usage { result ≢ Err ToolFault.Usage }
-    ensures reported { IfOk result (λ status. IsReported task.now.side status
+    ensures no_other { IfErr result IsSessionFault }
+    ensures reported { IfOk result (λ ended. IsReported run.now.task.now.side ended.status
         (O.written output.old) (O.written output.new)) }
-    ensures why { result ≡ Err ToolFault.Device → IsSome why.new }
 {
-    let mut station = *station;
-    station.place.peer = nobody();
-    talk_with(alloc, rt, task, &station, &mut SilentLine, output, why)
+    talk_with(&run.with_peer(nobody()), &mut SilentLine, output)
 }
 
 /// Runs the session of the end at its line.
 fn talk_with<A, R, L, O>(
-    alloc: A,
-    rt: &R,
-    task: &CallTask<'_>,
-    station: &Station,
+    run: &EndRun<'_, A, R>,
     line: &mut L,
     output: &mut O,
-    why: &mut Option<SystemFailure>,
-) -> Result<u8, ToolFault>
+) -> Result<Ended, RunFault>
 where
     A: Allocator + Copy,
-    R: Files<File = File> + Clock + Env + Eprint + AllocGlobal + Clone + Drop,
+    R: System,
     L: EndLine,
     O: Output,
-    ensures status { IfOk result (λ status. status ≤ 1) }
-    ensures write { result ≡ Err ToolFault.Write
+    ensures status { IfOk result (λ ended. ended.status ≤ 1) }
+    ensures write { result ≡ Err (RunFault.Tool ToolFault.Write)
         → CountsFault (O.fault_count output.old) (O.fault_count output.new) }
-    ensures no_other { IfErr result IsRunFault }
-    ensures no_usage { result ≢ Err ToolFault.Usage }
-    ensures reported { IfOk result (λ status. IsReported task.now.side status
+    ensures no_other { IfErr result IsFaultAtLine }
+    ensures reported { IfOk result (λ ended. IsReported run.now.task.now.side ended.status
         (O.written output.old) (O.written output.new)) }
-    ensures why { result ≡ Err ToolFault.Device
-        → IsSome why.new ⊎ (0 < L.fault_count line.new) }
+    ensures line { result ≡ Err (RunFault.Tool ToolFault.Device) → 0 < L.fault_count line.new }
 {
-    let call = said_of(task);
+    let call = said_of(run.task);
+    let limits = run.station.limits();
     talk_over_spool(
-        alloc,
-        rt,
+        run.alloc,
+        run.rt,
         &call,
-        station.place,
-        station.limits(),
+        run.station.place,
+        limits,
         line,
         output,
-        why,
     )
 }
 
 /// Returns the system that has called, if it has given a name. If any system of the spool may call, the end hears the
 /// caller first.
 fn system_at<A, R, L, W>(
-    alloc: A,
-    rt: &R,
-    task: &CallTask<'_>,
-    station: &Station,
+    run: &EndRun<'_, A, R>,
     line: &mut GreetedLine<LineMonitor<HailedLine<L>, W>, A>,
 ) -> Result<Option<Name>, AllocError>
 where
@@ -515,19 +435,16 @@ where
     L: EndLine,
     W: SessionObserver,
 {
-    if task.peer != ANY {
-        return Ok(Some(station.place.peer));
+    if run.task.peer != ANY {
+        return Ok(Some(run.station.place.peer));
     }
-    name_of_caller(alloc, rt, task, station, line)
+    name_of_caller(run, line)
 }
 
 /// Says the first words of a called end, and hears who calls. If that is no system of the spool, returns a name that
 /// the caller has not given, and the caller is refused.
 fn name_of_caller<A, R, L, W>(
-    alloc: A,
-    rt: &R,
-    task: &CallTask<'_>,
-    station: &Station,
+    run: &EndRun<'_, A, R>,
     line: &mut GreetedLine<LineMonitor<HailedLine<L>, W>, A>,
 ) -> Result<Option<Name>, AllocError>
 where
@@ -536,11 +453,12 @@ where
     L: EndLine,
     W: SessionObserver,
 {
+    let (alloc, station) = (run.alloc, &run.station);
     meet_caller(alloc, &station.place, line, station.limits().greeting)?;
     let Some(name) = line.line().line().caller() else {
         return Ok(None);
     };
-    let is_known = has_folder(alloc, rt, task.dir, &name)?;
+    let is_known = has_folder(alloc, run.rt, run.task.dir, &name)?;
     Ok(Some(name_at(&name, is_known)))
 }
 

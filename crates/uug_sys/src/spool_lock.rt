@@ -118,7 +118,7 @@ pub(crate) fn is_locked(fault: &RunFault) -> bool
 {
     match fault {
         RunFault::System(failure) => is_in_use(failure.cause),
-        RunFault::Tool(_) => false,
+        RunFault::Unread(_) | RunFault::Tool(_) => false,
     }
 }
 
@@ -138,18 +138,18 @@ pub(crate) fn is_held<L>(lock: &Result<L, RunFault>) -> bool
     }
 }
 
-/// Appends to the remark which system is locked, and by which file.
-pub(crate) fn remark_locked<A: Allocator, B: Allocator>(
+/// Returns the remark that a system is locked, and by which file.
+pub(crate) fn locked_remark<A: Allocator + Copy>(
     alloc: A,
-    remark: &mut String<B>,
     locks: &str,
     system: &str,
-) -> Result<(), AllocError>
-    ensures { OnOk result (string_bytes remark.new
-        ≡ string_bytes remark.old ++ locked_remark locks.now system.now) }
+) -> Result<String<A>, AllocError>
+    ensures { IfOk result (λ remark. string_bytes remark ≡ locked_remark locks.now system.now) }
 {
     let path = lock_path(alloc, locks, system)?;
-    add_locked(remark, system, path.as_str())
+    let mut remark = String::new(alloc);
+    add_locked(&mut remark, system, path.as_str())?;
+    Ok(remark)
 }
 
 /// Appends that this system is locked, and by which file.

@@ -1,13 +1,15 @@
-//! The task of one end, the terms in its words, and the end that is made and run for it.
+//! The task of one end, the terms in its words, the system under it, and the end that is made and run for it.
 #![tactic(auto)]
 
 mod end_parts;
 pub mod laws;
 mod places;
+mod system;
 mod task;
 
 pub use end_parts::{EndParts, FinishedEnd, begin_end, make_node};
 pub use places::place_in_pair;
+pub use system::System;
 pub use task::{
     CallTask, MOST_MIN, ReportPlace, SECONDS_MAX, SESSIONS_MAX, Station, Terms, WAIT_MAX,
     has_place, may_have, read_terms,

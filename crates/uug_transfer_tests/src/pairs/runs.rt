@@ -12,10 +12,10 @@ use std::os::unix::net::UnixListener;
 use std::process::Abort;
 use std::rt::{Env, Files};
 use std::{env, fs, io, process};
-use uug_disk::{SystemText, lock_dir};
-use uug_failure::{Cause, EndDir, EndText, Resource, SystemFailure};
-use uug_folder::TextFile;
-use uug_pair::{pair_run, pair_run_with_reason};
+use uug_disk::{SystemFolder, SystemText, lock_dir};
+use uug_failure::{Cause, EndDir, EndText, Resource, RunFault, SystemFailure};
+use uug_folder::{Folder, TextFile};
+use uug_pair::{PairRun, pair_run, pair_run_with_reason};
 use uug_refusal::Refusing;
 use uug_stream::ToolFault;
 use uug_talk::Name;
@@ -130,7 +130,7 @@ const ROWS: &[Row<'static>] = &[
         drop_every: None,
         flip_every: None,
         answer: Ok(1),
-        why: Why::Got(1, b"y", Cause::Refused(ErrorKind::NotFound, Some(2))),
+        why: Why::Nothing,
         printed: "caller peerclosed pending 1 struck 0 failed 0\n\
             called spoolfault pending 0 struck 0 failed 0\n",
         left: &[("a/jobs", b"send x y u\n"), ("b/jobs", b"")],
@@ -140,7 +140,7 @@ const ROWS: &[Row<'static>] = &[
         drop_every: None,
         flip_every: None,
         answer: Ok(1),
-        why: Why::Got(1, b"y", Cause::Refused(ErrorKind::NotADirectory, Some(20))),
+        why: Why::Nothing,
         printed: "caller peerclosed pending 1 struck 0 failed 0\n\
             called spoolfault pending 0 struck 0 failed 0\n",
         left: &[("a/jobs", b"send x y u\n"), ("b/got", b"g")],
@@ -150,7 +150,7 @@ const ROWS: &[Row<'static>] = &[
         drop_every: None,
         flip_every: None,
         answer: Ok(1),
-        why: Why::Got(1, b"y", Cause::Refused(ErrorKind::IsADirectory, Some(21))),
+        why: Why::Nothing,
         printed: "caller peerclosed pending 1 struck 0 failed 0\n\
             called spoolfault pending 0 struck 0 failed 0\n",
         left: &[("a/jobs", b"send x y u\n")],
@@ -513,17 +513,34 @@ impl Paths {
     }
 }
 
-/// Runs two ends over these folders and this socket.
+/// Runs two ends over these folders and this socket. Returns the answer, and the call of the system that failed if that
+/// is the reason.
 fn run_ends<A: Allocator + Copy>(
     alloc: A,
     rt: &(impl Files<File = File> + Net + Alloc + Clone + Drop),
     paths: &Paths,
     (drop_every, flip_every): Every,
     output: &mut ShortOutput,
-    why: &mut Option<SystemFailure>,
-) -> Result<u8, ToolFault> {
-    let (socket, a, b) = (paths.socket.as_str(), paths.a.as_str(), paths.b.as_str());
-    pair_run_with_reason(alloc, rt, socket, a, b, drop_every, flip_every, output, why)
+) -> (Result<u8, ToolFault>, Option<SystemFailure>) {
+    let run = PairRun {
+        socket: paths.socket.as_str(),
+        dir_a: paths.a.as_str(),
+        dir_b: paths.b.as_str(),
+        drop_every,
+        flip_every,
+    };
+    match pair_run_with_reason(alloc, rt, &run, output) {
+        Ok(status) => (Ok(status), None),
+        Err(fault) => (Err(fault.answer()), failure_in(fault)),
+    }
+}
+
+/// Returns the call of the system that failed, if that is the reason.
+fn failure_in(fault: RunFault) -> Option<SystemFailure> {
+    match fault {
+        RunFault::System(failure) | RunFault::Unread(failure) => Some(failure),
+        RunFault::Tool(_) => None,
+    }
 }
 
 /// Runs two ends over the folders `a` and `b` and the socket `socket` in this folder, and asks for no reason.
@@ -569,8 +586,7 @@ impl Row<'_> {
         let mut output = ShortOutput::new(0);
         let every = (self.drop_every, self.flip_every);
         let paths = Paths::within(rt, dir);
-        let mut why = None;
-        let answer = run_ends(rt.alloc(), rt, &paths, every, &mut output, &mut why);
+        let (answer, why) = run_ends(rt.alloc(), rt, &paths, every, &mut output);
         assert_same_at(rt, answer, self.answer, self.printed);
         assert_so_at(rt, self.why.is(why), self.printed);
         assert_same(rt, output.text(), self.printed.as_bytes());
@@ -613,6 +629,53 @@ fn moves_files_between_folders(rt: HostRuntime) {
     play_rows(&rt, dir.as_str());
 }
 
+/// What there is where a file comes to the folder `b`, and why it can't be kept there.
+const NOT_KEPT: &[(&[Given<'static>], Cause)] = &[
+    (
+        &[Given::Folder("b")],
+        Cause::Refused(ErrorKind::NotFound, Some(2)),
+    ),
+    (
+        &[Given::Folder("b"), Given::File("b/got", b"g")],
+        Cause::Refused(ErrorKind::NotADirectory, Some(20)),
+    ),
+    (
+        &[Given::Folder("b/got/y")],
+        Cause::Refused(ErrorKind::IsADirectory, Some(21)),
+    ),
+];
+
+/// Asserts that a file can't be put into `got` of the folder `b`, and that the failure says which file, and why.
+fn assert_not_kept(rt: &(impl Files<File = File> + Abort + AllocGlobal), dir: &str, cause: Cause) {
+    let path = within(rt, dir, "b");
+    let end = EndDir {
+        path: path.as_str(),
+        number: 1,
+    };
+    let mut folder = SystemFolder::new(rt.alloc(), rt, end).expect(rt, "memory");
+    let name = Name::new(b"y").expect(rt, "a name");
+    assert_so(rt, folder.put(&name, b"").is_err());
+    assert_so(rt, Why::Got(1, b"y", cause).is(folder.failure()));
+}
+
+fn put_where_nothing_is_kept(
+    rt: &(impl Files<File = File> + Net + Abort + AllocGlobal + Clone + Drop),
+    dir: &str,
+) {
+    for (given, cause) in NOT_KEPT {
+        place_all(rt, dir, given);
+        assert_not_kept(rt, dir, *cause);
+        remove(rt, dir);
+    }
+}
+
+// a failure that names another end, another file, or no cause
+#[test]
+fn says_why_a_file_is_not_kept(rt: HostRuntime) {
+    let dir = folder_path(&rt, process::id(rt.process()), "not_kept");
+    put_where_nothing_is_kept(&rt, dir.as_str());
+}
+
 /// Asserts that two ends read and send nothing if another run holds a folder, and that the remains of a run that was
 /// killed stay.
 fn assert_held(
@@ -626,8 +689,7 @@ fn assert_held(
     place(rt, dir, PART);
     let mut output = ShortOutput::new(0);
     let paths = Paths::within(rt, dir);
-    let mut why = None;
-    let answer = run_ends(rt.alloc(), rt, &paths, (None, None), &mut output, &mut why);
+    let (answer, why) = run_ends(rt.alloc(), rt, &paths, (None, None), &mut output);
     let plain = run_within(rt.alloc(), rt, dir, (None, None), &mut output);
     drop(lock);
     assert_same(rt, answer, Err(ToolFault::Device));

@@ -1,0 +1,30 @@
+//! The remarks on a bad line of jobs.
+
+use std::rt::Files;
+use uug_failure::RunFault;
+use uug_stream::ToolFault;
+use uug_sys::jobs_remark_at;
+use uug_words::full_remark;
+
+/// Returns what is wrong with a line of the jobs in this folder, if that is the fault. It is empty if none is bad. A
+/// remark that can't be made is left out.
+pub fn jobs_remark<R: Files + AllocGlobal>(rt: &R, dir: &str, fault: &RunFault) -> Option<String> {
+    match fault {
+        RunFault::Tool(ToolFault::Jobs(line)) => jobs_remark_at(rt.alloc(), rt, dir, *line).ok(),
+        _ => None,
+    }
+}
+
+/// Does the same for jobs that a person queues or cancels. If none is bad they are as many as may wait.
+pub fn waiting_remark<R: Files + AllocGlobal>(
+    rt: &R,
+    dir: &str,
+    fault: &RunFault,
+) -> Option<String> {
+    let said = jobs_remark(rt, dir, fault)?;
+    if said.is_empty() {
+        full_remark(rt.alloc(), dir).ok()
+    } else {
+        Some(said)
+    }
+}

@@ -1,0 +1,32 @@
+//! The run of one end.
+ghost use Rattle.std.specs.Prelude.{◌≡◌};
+
+use uug_talk::Name;
+use uug_task::{CallTask, Station};
+
+/// The parameters that the functions of a run share: its memory, the system, its task, and its station.
+#[derive(Drop)]
+pub(crate) struct EndRun<'a, A, R> {
+    pub(crate) alloc: A,
+    pub(crate) rt: &'a R,
+    pub(crate) task: &'a CallTask<'a>,
+    pub(crate) station: Station,
+}
+
+impl<'a, A: Copy, R> EndRun<'a, A, R> {
+    /// Returns the same run with this other end.
+    pub(crate) fn with_peer(&self, peer: Name) -> EndRun<'a, A, R>
+        ensures task { result.task ≡ self.now.task }
+        ensures me { result.station.place.me ≡ self.now.station.place.me }
+        ensures peer { result.station.place.peer ≡ peer }
+    {
+        let mut station = self.station;
+        station.place.peer = peer;
+        EndRun {
+            alloc: self.alloc,
+            rt: self.rt,
+            task: self.task,
+            station,
+        }
+    }
+}
