@@ -1,4 +1,4 @@
-ghost use Rattle.std.specs.Prelude.{IsTrue, ◌≡◌, ℕ, ◌<◌, ◌≤◌, nat_le, List, [], ◌∷◌, ◌++◌, length, map, Some, None, is_some, if◌then◌else◌, OnOk, OnErr};
+ghost use Rattle.std.specs.Prelude.{IsTrue, ◌≡◌, ℕ, ◌<◌, ◌≤◌, nat_le, List, [], ◌∷◌, ◌++◌, length, map, Some, None, is_some, if◌then◌else◌, MatchOption, OnOk, OnErr};
 ghost use Rattle.uug_conversation.specs.FileView.{shown_file};
 ghost use Rattle.std.specs.List.{list_all};
 ghost use Rattle.uug_conversation.specs.Holdings.{File, kept_file, to_give};
@@ -147,6 +147,14 @@ impl<A: Allocator + Copy> MemorySpool<A> {
         ensures { result ≡ is_some (held_by self.now).partials }
     {
         self.partials.is_some()
+    }
+
+    /// Returns what is held of files that were cut off. It is `None` if the end doesn't resume.
+    pub fn partials(&self) -> Option<&Partials<A>>
+        ensures { MatchOption result ((held_by self.now).partials ≡ None)
+            (λ held. (held_by self.now).partials ≡ Some held.now) }
+    {
+        self.partials.as_ref()
     }
 
     /// Forgets what is held of files that were cut off.

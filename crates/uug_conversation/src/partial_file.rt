@@ -20,7 +20,7 @@ pub struct PartialFile<A: Allocator> {
 
 impl<A: Allocator> PartialFile<A> {
     /// Returns whether it is of the file with this name and this announced digest.
-    pub(crate) fn is_of(&self, source: &Name, told: &FileDigest) -> bool
+    pub fn is_of(&self, source: &Name, told: &FileDigest) -> bool
         ensures { result ≡ is_key (partial_of self.now).key (key_of source.now told.now) }
     {
         self.source.as_bytes() == source.as_bytes() && is_same(&self.told, told)

@@ -48,6 +48,13 @@ impl<A: Allocator> Partials<A> {
         bytes_under(self.files.as_slice(), source, told)
     }
 
+    /// Returns the files, in the order in which they were put.
+    pub fn files(&self) -> &[PartialFile<A>]
+        ensures { partials_of result.now ≡ self.now }
+    {
+        self.files.as_slice()
+    }
+
     /// Holds these bytes of a file, in place of those that were held of it. Without memory nothing changes.
     pub fn put(&mut self, file: PartialFile<A>) -> Result<(), AllocError>
         ensures ok { OnOk result (self.new ≡ put (partial_of file) self.old) }
