@@ -4,7 +4,7 @@ use Rattle.std.specs.Prelude.{IfErr, IfOk, IsSome}
 use Rattle.uug_stream.specs.declared.fault.ToolFault.{ToolFault}
 use Rattle.uug_stream.specs.declared.fault.ToolFault.TheVariants as faults
 use Rattle.uug_failure.specs.Failures.{fault_with}
-use Rattle.uug_failure.specs.Faults.{IsFaultAtLine, IsSessionFault}
+use Rattle.uug_failure.specs.Faults.{IsFaultAtLine}
 use Rattle.uug_failure.specs.Outcomes.{ended_of}
 use Rattle.uug_failure.specs.declared.failure.SystemFailure.{SystemFailure}
 use Rattle.uug_failure.specs.declared.outcome.Ended.{Ended}
@@ -83,16 +83,3 @@ no_other_of (Err fault) failure h = with_no_other fault failure h
 pub ended_no_other : (answer : Result ℕ ToolFault) (failure : Option SystemFailure) (r : Result Ended RunFault)
     → r ≡ ended_of answer failure → IfErr answer (λ (fault : ToolFault). IsFaultAtLine (Tool fault)) → IfErr r IsFaultAtLine
 ended_no_other answer failure r is h = subst (λ (x : Result Ended RunFault). IfErr x IsFaultAtLine) (sym is) (no_other_of answer failure h)
-
--- a line that has not failed
-pub never_the_line : {T : Type 0} (r : Result T RunFault) → IfErr r IsFaultAtLine → (r ≡ Err (Tool faults.Device) → ⊥) → IfErr r IsSessionFault
-never_the_line (Ok done) h calm = tt
-never_the_line (Err (System failure)) h calm = tt
-never_the_line (Err (Unread failure)) h calm = h
-never_the_line (Err (Tool faults.Device)) h calm = absurd (calm refl)
-never_the_line (Err (Tool faults.Read)) h calm = h
-never_the_line (Err (Tool faults.Write)) h calm = tt
-never_the_line (Err (Tool faults.Memory)) h calm = tt
-never_the_line (Err (Tool faults.Usage)) h calm = h
-never_the_line (Err (Tool (faults.Script line))) h calm = h
-never_the_line (Err (Tool (faults.Jobs line))) h calm = tt

@@ -1,14 +1,11 @@
 -- What a run answers behind its session, by what the session has come to.
-use Rattle.std.proofs.Common.{◌≡◌, ◌<◌, ◌≤◌, ℕ, Bool, true, false, Result, Ok, Err, refl, subst, sym, ◌∙◌, lit≤, arith}
+use Rattle.std.proofs.Common.{◌≡◌, ◌≤◌, ℕ, Bool, true, false, Result, Ok, Err, subst, sym, ◌∙◌, lit≤}
 use Rattle.std.specs.Prelude.{IfErr, IfOk}
-use Rattle.uug_failure.specs.Faults.{IsFaultAtLine, IsSessionFault}
-use Rattle.uug_failure.proofs.OutcomeLemmas.{never_the_line}
-use Rattle.uug_failure.specs.declared.outcome.Ended.{Ended}
-use Rattle.uug_failure.specs.declared.run_fault.RunFault.{RunFault}
+use Rattle.uug_failure.specs.Faults.{IsFaultAtLine}
 use Rattle.uug_failure.specs.declared.run_fault.RunFault.TheVariants.{Tool}
 use Rattle.uug_stream.specs.declared.fault.ToolFault.{ToolFault}
 use Rattle.uug_stream.specs.declared.fault.ToolFault.TheVariants as faults
-use Rattle.uug_sys.specs.EndAnswers.{answer_with, status_of}
+use Rattle.uug_sys.specs.EndAnswers.{answer_with}
 use Rattle.uug_transfer.specs.EndOver.{IsEndFault}
 
 pub with_well : (has_failed : Bool) (answer : Result ℕ ToolFault) (x : Result ℕ ToolFault) → x ≡ answer_with has_failed answer
@@ -45,32 +42,3 @@ pub with_no_other : (has_failed : Bool) (answer x : Result ℕ ToolFault) → x 
     → IfErr answer IsEndFault → IfErr x (λ (fault : ToolFault). IsFaultAtLine (Tool fault))
 with_no_other has_failed answer x is h =
     subst (λ (r : Result ℕ ToolFault). IfErr r (λ (fault : ToolFault). IsFaultAtLine (Tool fault))) (sym is) (no_other_of has_failed answer h)
-
--- ---- the status
-
-well_of : (ended : Result Ended RunFault) → IfOk ended (λ (e : Ended). e.status ≤ 1) → IfOk (status_of ended) (λ (status : ℕ). status ≤ 1)
-well_of (Ok ended) h = h
-well_of (Err fault) h = h
-
-pub told_well : (ended : Result Ended RunFault) (r : Result ℕ RunFault) → r ≡ status_of ended
-    → IfOk ended (λ (e : Ended). e.status ≤ 1) → IfOk r (λ (status : ℕ). status ≤ 1)
-told_well ended r is h = subst (λ (x : Result ℕ RunFault). IfOk x (λ (n : ℕ). n ≤ 1)) (sym is) (well_of ended h)
-
-told_err_of : (ended : Result Ended RunFault) (fault : RunFault) → status_of ended ≡ Err fault → ended ≡ Err fault
-told_err_of (Ok ended) fault e = absurd (cc e)
-told_err_of (Err other) fault e = cc e
-
-pub told_err : (ended : Result Ended RunFault) (r : Result ℕ RunFault) (fault : RunFault) → r ≡ status_of ended
-    → r ≡ Err fault → ended ≡ Err fault
-told_err ended r fault is e = told_err_of ended fault (sym is ∙ e)
-
-no_line_of : (ended : Result Ended RunFault) → IfErr ended IsSessionFault → IfErr (status_of ended) IsSessionFault
-no_line_of (Ok ended) h = tt
-no_line_of (Err fault) h = h
-
--- of a line that has never failed
-pub told_no_other : (ended : Result Ended RunFault) (r : Result ℕ RunFault) (count : ℕ) → r ≡ status_of ended
-    → IfErr ended IsFaultAtLine → (ended ≡ Err (Tool faults.Device) → 0 < count) → count ≡ 0 → IfErr r IsSessionFault
-told_no_other ended r count is h line calm =
-    subst (λ (x : Result ℕ RunFault). IfErr x IsSessionFault) (sym is)
-    (no_line_of ended (never_the_line ended h (λ device. let failed = line device in omega (arith, failed, calm))))

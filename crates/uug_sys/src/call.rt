@@ -8,13 +8,13 @@ ghost use Rattle.uug_task.specs.Tasks.{IsTask};
 
 use crate::answer::answer_at;
 use crate::end_run::EndRun;
-use crate::failing_line::{FailingLine, remark_failure};
+use crate::failing_line::{FailingLine, failure_remark};
 use crate::fault_log::{log_failure, log_unoffered};
 use crate::folder_kind::see_no_spool;
 use crate::hailed_line::HailedLine;
-use crate::job_remark::{remark_failed, remark_put_off};
+use crate::job_remark::{failed_remark, put_off_remark};
 use crate::large_files::large_files;
-use crate::number_remark::remark_numbers;
+use crate::number_remark::numbers_remark;
 use crate::numbers::{Numbers, meet, read_numbers};
 use crate::parts::{SystemParts, failure_of, read_parts};
 use crate::resumed::hold_left_in;
@@ -426,9 +426,8 @@ fn told<A: Allocator + Copy, R: System>(
     let Outcome { answer, mut remark } = ended;
     let (answer, failure) = status_and_failure(answer, line);
     log_failure(run.alloc, run.rt, run.task, &failure);
-    // A remark for which there is no memory is left out.
     let (line, dir) = (run.task.line, run.task.dir);
-    let _ = remark_failure(run.alloc, &mut remark, line, dir, failure);
+    add_part(&mut remark, failure_remark(run.alloc, line, dir, failure));
     Outcome { answer, remark }
 }
 
@@ -566,7 +565,7 @@ where
 }
 
 /// Returns the remark on a session that is over: why jobs have failed or were put off, and which numbers the ends have
-/// if they differ. What there is no memory for is left out.
+/// if they differ.
 fn remark_on<A: Allocator + Copy, R, S: Spool>(
     run: &EndRun<'_, A, R>,
     numbers: Numbers,
@@ -575,13 +574,22 @@ fn remark_on<A: Allocator + Copy, R, S: Spool>(
 ) -> String<A> {
     let (alloc, task) = (run.alloc, run.task);
     let (phase, queue) = (node.phase(), node.queue());
+    let (failed, pending) = (queue.failed(), queue.pending());
     let mut remark = String::new(alloc);
-    let failed = queue.failed();
-    let _ = remark_failed(alloc, &mut remark, task.dir, large, node.spool(), failed);
-    let pending = queue.pending();
-    let _ = remark_put_off(alloc, &mut remark, phase, task.tells_digests, pending);
-    let _ = remark_numbers(alloc, &mut remark, phase, numbers.begins, numbers.heard);
+    let given_up = failed_remark(alloc, task.dir, large, node.spool(), failed);
+    add_part(&mut remark, given_up);
+    let put_off = put_off_remark(alloc, phase, task.tells_digests, pending);
+    add_part(&mut remark, put_off);
+    let differ = numbers_remark(alloc, phase, numbers.begins, numbers.heard);
+    add_part(&mut remark, differ);
     remark
+}
+
+/// Appends a part of a remark, if there is memory for it.
+fn add_part<A: Allocator>(remark: &mut String<A>, part: Result<String<A>, AllocError>) {
+    if let Ok(part) = part {
+        let _ = remark.push_str(part.as_str());
+    }
 }
 
 /// Returns the answer of a session, which is 1 if it counts as one that is not done.

@@ -1,5 +1,5 @@
 //! A line that ends if it fails.
-ghost use Rattle.std.specs.Prelude.{◌≡◌, ◌≤◌, ◌++◌, None, IfOk, OnErr, OnOk, length, string_bytes};
+ghost use Rattle.std.specs.Prelude.{◌≡◌, ◌≤◌, ◌++◌, None, IfOk, OnOk, length, string_bytes};
 ghost use Rattle.uug_sys.specs.LineEnds.{failure_remark, outcome_then, taken_then};
 ghost use Rattle.uug_transfer.specs.ReadOutcomes.{IsWithin};
 
@@ -103,22 +103,18 @@ fn outcome_then(read: Result<ReadOutcome, LineFailed>, is_cut: bool, _buffer: &[
     }
 }
 
-/// Appends to a text why the line of this name, or this folder, has failed, if it has. Out of memory leaves the
-/// text unchanged.
-pub(crate) fn remark_failure<A: Allocator, B: Allocator>(
+/// Returns a line that says why the line of this name, or this folder, has failed, if it has. Else returns nothing.
+pub(crate) fn failure_remark<A: Allocator>(
     alloc: A,
-    text: &mut String<B>,
     line: &str,
     dir: &str,
     failure: Option<SystemFailure>,
-) -> Result<(), AllocError>
-    ensures ok { OnOk result (string_bytes text.new
-        ≡ string_bytes text.old ++ failure_remark line.now dir.now failure) }
-    ensures err { OnErr result (string_bytes text.new ≡ string_bytes text.old) }
+) -> Result<String<A>, AllocError>
+    ensures { IfOk result (λ remark. string_bytes remark
+        ≡ failure_remark line.now dir.now failure) }
 {
-    let Some(failure) = failure else {
-        return Ok(());
-    };
-    let reason = reason_line(alloc, "", line, dir, "", failure)?;
-    text.push_str(reason.as_str())
+    match failure {
+        Some(failure) => reason_line(alloc, "", line, dir, "", failure),
+        None => Ok(String::new(alloc)),
+    }
 }

@@ -1,5 +1,5 @@
 //! Remarks about the jobs that an end has given up, and those that its session put off.
-ghost use Rattle.std.specs.Prelude.{◌≡◌, ◌∷◌, [], ◌++◌, IfOk, OnErr, OnOk, codes, string_bytes};
+ghost use Rattle.std.specs.Prelude.{◌≡◌, ◌∷◌, [], ◌++◌, IfOk, OnOk, codes, string_bytes};
 ghost use Rattle.uug_scan.specs.Detailed.{escaped};
 ghost use Rattle.uug_sys.specs.JobRemarks.{failed_remark, failed_words, job_line, local_lack, not_taken_words, path_lack, put_off_lines, put_off_remark, put_off_words, refused_words, source_of, target_of};
 ghost use Rattle.uug_talk.specs.Lines.{ended};
@@ -12,49 +12,41 @@ use uug_reason::add_escaped;
 use uug_session::{End, Job, Phase, Spool};
 use uug_talk::Name;
 
-/// Appends to a text why each of these jobs of the folder `dir` was given up. `large` are the names of the files in
-/// `send` that are too large to be sent. Out of memory leaves the text unchanged.
-pub(crate) fn remark_failed<A: Allocator + Copy, S: Spool, B: Allocator>(
+/// Returns a line for each of these jobs of the folder `dir`: why it was given up. `large` are the names of the files in
+/// `send` that are too large to be sent.
+pub(crate) fn failed_remark<A: Allocator + Copy, S: Spool>(
     alloc: A,
-    text: &mut String<B>,
     dir: &str,
     large: &[Name],
     spool: &S,
     jobs: &[Job],
-) -> Result<(), AllocError>
-    ensures ok { OnOk result (string_bytes text.new
-        ≡ string_bytes text.old
-        ++ failed_remark (escaped dir.now) large.now (S.holdings spool.now) jobs.now) }
-    ensures err { OnErr result (string_bytes text.new ≡ string_bytes text.old) }
+) -> Result<String<A>, AllocError>
+    ensures { IfOk result (λ remark. string_bytes remark
+        ≡ failed_remark (escaped dir.now) large.now (S.holdings spool.now) jobs.now) }
 {
     let mut shown = String::new(alloc);
     add_escaped(&mut shown, dir.as_bytes())?;
-    let mut lines = String::new(alloc);
-    add_failed(&mut lines, alloc, shown.as_str(), large, spool, jobs)?;
-    text.push_str(lines.as_str())
+    let mut remark = String::new(alloc);
+    add_failed(&mut remark, alloc, shown.as_str(), large, spool, jobs)?;
+    Ok(remark)
 }
 
-/// Appends to a text that each of these pending jobs was put off, if the session of their end ended as done. Out of
-/// memory leaves the text unchanged.
-pub(crate) fn remark_put_off<A: Allocator, B: Allocator>(
+/// Returns a line for each of these pending jobs, which were put off, if the session of their end ended as done. Else
+/// returns nothing.
+pub(crate) fn put_off_remark<A: Allocator>(
     alloc: A,
-    text: &mut String<B>,
     phase: Phase,
     tells_digests: bool,
     pending: &[Job],
-) -> Result<(), AllocError>
-    ensures ok { OnOk result (string_bytes text.new
-        ≡ string_bytes text.old ++ put_off_remark phase tells_digests pending.now) }
-    ensures err { OnErr result (string_bytes text.new ≡ string_bytes text.old) }
+) -> Result<String<A>, AllocError>
+    ensures { IfOk result (λ remark. string_bytes remark
+        ≡ put_off_remark phase tells_digests pending.now) }
 {
-    match phase {
-        Phase::Ended(End::Done) => {
-            let mut lines = String::new(alloc);
-            add_put_off(&mut lines, tells_digests, pending)?;
-            text.push_str(lines.as_str())
-        }
-        _ => Ok(()),
+    let mut remark = String::new(alloc);
+    if let Phase::Ended(End::Done) = phase {
+        add_put_off(&mut remark, tells_digests, pending)?;
     }
+    Ok(remark)
 }
 
 /// Returns the line of a job of the folder `dir` that was given up, with the reason.

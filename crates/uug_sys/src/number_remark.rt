@@ -1,29 +1,23 @@
 //! The remark about two ends with different numbers of their conversations, for a person who can fix that.
-ghost use Rattle.std.specs.Prelude.{◌≡◌, ◌++◌, IfOk, OnErr, OnOk, string_bytes};
+ghost use Rattle.std.specs.Prelude.{◌≡◌, IfOk, string_bytes};
 ghost use Rattle.uug_sys.specs.NumberRemarks.{heard_words, numbers_line, numbers_remark, own_words};
 
 use std::alloc::{AllocError, Allocator};
 use uug_session::{End, Phase};
 
-/// Appends to a text the number of this end, and the one heard from the other end, if the session ended because
-/// they differ. Out of memory leaves the text unchanged.
-pub(crate) fn remark_numbers<A: Allocator + Copy, B: Allocator>(
+/// Returns a line with the number of this end, and the one heard from the other end, if the session ended because they
+/// differ. Else returns nothing.
+pub(crate) fn numbers_remark<A: Allocator + Copy>(
     alloc: A,
-    text: &mut String<B>,
     phase: Phase,
     own: Option<u32>,
     heard: Option<u32>,
-) -> Result<(), AllocError>
-    ensures ok { OnOk result (string_bytes text.new
-        ≡ string_bytes text.old ++ numbers_remark phase own heard) }
-    ensures err { OnErr result (string_bytes text.new ≡ string_bytes text.old) }
+) -> Result<String<A>, AllocError>
+    ensures { IfOk result (λ remark. string_bytes remark ≡ numbers_remark phase own heard) }
 {
     match phase {
-        Phase::Ended(End::BadSequence) => {
-            let line = numbers_line(alloc, own, heard)?;
-            text.push_str(line.as_str())
-        }
-        _ => Ok(()),
+        Phase::Ended(End::BadSequence) => numbers_line(alloc, own, heard),
+        _ => Ok(String::new(alloc)),
     }
 }
 
