@@ -531,14 +531,17 @@ fn run_ends<A: Allocator + Copy>(
     };
     match pair_run_with_reason(alloc, rt, &run, output) {
         Ok(status) => (Ok(status), None),
-        Err(fault) => (Err(fault.answer()), failure_in(fault)),
+        Err(fault) => {
+            let failure = failure_in(&fault);
+            (Err(fault.answer()), failure)
+        }
     }
 }
 
 /// Returns the call of the system that failed, if that is the reason.
-fn failure_in(fault: RunFault) -> Option<SystemFailure> {
+fn failure_in(fault: &RunFault) -> Option<SystemFailure> {
     match fault {
-        RunFault::System(failure) | RunFault::Unread(failure) => Some(failure),
+        RunFault::System(failure) | RunFault::Unread(failure) => Some(*failure),
         RunFault::Tool(_) => None,
     }
 }
