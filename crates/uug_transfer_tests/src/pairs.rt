@@ -8,6 +8,7 @@ mod jobs;
 mod memory_folder;
 mod memory_jobs;
 mod memory_line;
+mod not_kept;
 mod over_memory;
 pub mod runs;
 mod short_output;

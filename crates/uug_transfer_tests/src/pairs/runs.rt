@@ -12,13 +12,12 @@ use std::os::unix::net::UnixListener;
 use std::process::Abort;
 use std::rt::{Env, Files};
 use std::{env, fs, io, process};
-use uug_disk::{SystemFolder, SystemText, lock_dir};
+use uug_disk::{SystemText, lock_dir};
 use uug_failure::{Cause, EndDir, EndText, Resource, RunFault, SystemFailure};
-use uug_folder::{Folder, TextFile};
+use uug_folder::TextFile;
 use uug_pair::{PairRun, pair_run, pair_run_with_reason};
 use uug_refusal::Refusing;
 use uug_stream::ToolFault;
-use uug_talk::Name;
 
 /// A thing that there is before a run, beside the folder `a/send`. `a` and `b` are the folders of the two ends.
 #[derive(Clone, Copy)]
@@ -56,8 +55,6 @@ enum Why {
     Dir(usize, Cause),
     Jobs(usize, Cause),
     Send(usize, Cause),
-    /// On the file of this name in `got`.
-    Got(usize, &'static [u8], Cause),
 }
 
 /// Returns the failure of a call on this resource, of the end of this number, with this cause.
@@ -78,10 +75,6 @@ impl Why {
             Why::Dir(end, cause) => why_of(end, Resource::Dir, cause),
             Why::Jobs(end, cause) => why_of(end, Resource::Text(EndText::Jobs), cause),
             Why::Send(end, cause) => why_of(end, Resource::Send, cause),
-            Why::Got(end, name, cause) => match Name::new(name) {
-                Ok(name) => why_of(end, Resource::Got(name), cause),
-                Err(_) => return false,
-            },
         };
         said == wanted
     }
@@ -630,53 +623,6 @@ fn play_rows(rt: &(impl Files<File = File> + Net + Abort + AllocGlobal + Clone +
 fn moves_files_between_folders(rt: HostRuntime) {
     let dir = folder_path(&rt, process::id(rt.process()), "rows");
     play_rows(&rt, dir.as_str());
-}
-
-/// What there is where a file comes to the folder `b`, and why it can't be kept there.
-const NOT_KEPT: &[(&[Given<'static>], Cause)] = &[
-    (
-        &[Given::Folder("b")],
-        Cause::Refused(ErrorKind::NotFound, Some(2)),
-    ),
-    (
-        &[Given::Folder("b"), Given::File("b/got", b"g")],
-        Cause::Refused(ErrorKind::NotADirectory, Some(20)),
-    ),
-    (
-        &[Given::Folder("b/got/y")],
-        Cause::Refused(ErrorKind::IsADirectory, Some(21)),
-    ),
-];
-
-/// Asserts that a file can't be put into `got` of the folder `b`, and that the failure says which file, and why.
-fn assert_not_kept(rt: &(impl Files<File = File> + Abort + AllocGlobal), dir: &str, cause: Cause) {
-    let path = within(rt, dir, "b");
-    let end = EndDir {
-        path: path.as_str(),
-        number: 1,
-    };
-    let mut folder = SystemFolder::new(rt.alloc(), rt, end).expect(rt, "memory");
-    let name = Name::new(b"y").expect(rt, "a name");
-    assert_so(rt, folder.put(&name, b"").is_err());
-    assert_so(rt, Why::Got(1, b"y", cause).is(folder.failure()));
-}
-
-fn put_where_nothing_is_kept(
-    rt: &(impl Files<File = File> + Net + Abort + AllocGlobal + Clone + Drop),
-    dir: &str,
-) {
-    for (given, cause) in NOT_KEPT {
-        place_all(rt, dir, given);
-        assert_not_kept(rt, dir, *cause);
-        remove(rt, dir);
-    }
-}
-
-// a failure that names another end, another file, or no cause
-#[test]
-fn says_why_a_file_is_not_kept(rt: HostRuntime) {
-    let dir = folder_path(&rt, process::id(rt.process()), "not_kept");
-    put_where_nothing_is_kept(&rt, dir.as_str());
 }
 
 /// Asserts that two ends read and send nothing if another run holds a folder, and that the remains of a run that was
