@@ -3,3 +3,4 @@ pub mod ReasonHints
 pub mod Reasons
 pub mod JobsWords
 pub mod HeardWords
+pub mod LargeWords

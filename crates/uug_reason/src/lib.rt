@@ -8,9 +8,11 @@ mod heard;
 mod hint;
 mod jobs;
 mod kind;
+mod large;
 mod reason;
 
 pub use escape::add_escaped;
 pub use heard::{Heard, heard_remark};
 pub use jobs::{add_quoted, jobs_remark};
+pub use large::large_line;
 pub use reason::reason_line;

@@ -2,6 +2,7 @@
 #![tactic(auto)]
 
 mod arrivals;
+mod large_files;
 mod notices;
 mod public_files;
 mod removable;
@@ -12,6 +13,7 @@ mod spool_end;
 mod telling;
 mod work;
 
+pub use large_files::tell_large;
 pub use resumed::hold_left;
 pub use session::talk_over_spool;
 pub use spool_call::SpoolCall;

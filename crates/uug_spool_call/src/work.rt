@@ -33,7 +33,7 @@ use uug_spool_disk::{SpoolPaths, list_room, read_source, read_spot, read_whole};
 use uug_talk::{NAME_MAX, Name, split_line};
 
 /// The most bytes of a C. file.
-const COMMANDS_MAX: usize = 1_048_576;
+pub(crate) const COMMANDS_MAX: usize = 1_048_576;
 
 /// Only this system may read the text of a command that is run with a file.
 const TEXT_MODE: u16 = 0o600;
@@ -183,7 +183,7 @@ pub(crate) fn read_work<A: Allocator + Copy, R: Files<File = File> + Alloc + Clo
 }
 
 /// The names of the C. files, in the order in which they are taken.
-fn work_names<A: Allocator + Copy, R: Files + Alloc + Clone + Drop>(
+pub(crate) fn work_names<A: Allocator + Copy, R: Files + Alloc + Clone + Drop>(
     alloc: A,
     rt: &R,
     paths: &SpoolPaths<A>,

@@ -90,11 +90,7 @@ impl<A: Allocator> SpoolPaths<A> {
     }
 
     /// Returns the path of a file.
-    pub(crate) fn file<B: Allocator + Copy>(
-        &self,
-        alloc: B,
-        spot: &Spot,
-    ) -> Result<String<B>, AllocError>
+    pub fn file<B: Allocator + Copy>(&self, alloc: B, spot: &Spot) -> Result<String<B>, AllocError>
         ensures { IfOk result (λ path. string_bytes path ≡ file_path self.now spot.now) }
     {
         let room = self.room(alloc, spot.room)?;

@@ -13,7 +13,7 @@ use crate::fault_log::{log_failure, log_unoffered};
 use crate::folder_kind::see_no_spool;
 use crate::hailed_line::HailedLine;
 use crate::job_remark::{failed_remark, put_off_remark};
-use crate::large_files::large_files;
+use crate::large_files::{large_files, tell_large_files};
 use crate::number_remark::numbers_remark;
 use crate::numbers::{Numbers, meet, read_numbers};
 use crate::parts::{SystemParts, failure_of, read_parts};
@@ -122,7 +122,7 @@ where
 }
 
 /// Locks the end's folder, and checks that its number and its jobs can be read. Returns the lock.
-fn lock_and_look<A: Allocator + Copy, R: Files<File = File> + Alloc + Clone + Drop>(
+fn lock_and_look<A: Allocator + Copy, R: System>(
     alloc: A,
     rt: &R,
     task: &CallTask<'_>,
@@ -140,8 +140,8 @@ fn lock_and_look<A: Allocator + Copy, R: Files<File = File> + Alloc + Clone + Dr
 }
 
 /// Checks that the folder is no spool, that the number and the jobs can be read, that the folders exist that they need,
-/// and that what a session writes there can be written.
-fn look<A: Allocator + Copy, R: Files<File = File>>(
+/// and that what a session writes there can be written. Then tells of files of jobs that are too large to be sent.
+fn look<A: Allocator + Copy, R: System>(
     alloc: A,
     rt: &R,
     task: &CallTask<'_>,
@@ -154,6 +154,10 @@ fn look<A: Allocator + Copy, R: Files<File = File>>(
     let jobs = open_jobs(alloc, rt, lock, task.end_dir())?;
     let is_numbered = numbers.begins.is_some();
     let seen = see_dir(alloc, rt, lock.dir(), jobs.queue.pending(), is_numbered);
+    if seen.is_ok() {
+        // What there is no memory for is left out.
+        let _ = tell_large_files(alloc, rt, task, jobs.queue.pending());
+    }
     drop(jobs);
     seen
 }

@@ -28,7 +28,7 @@ use uug_failure::{Ended, Outcome, Resource, RunFault};
 use uug_port::{SilentLine, StandardStreams};
 use uug_session::{End, Phase, Side};
 use uug_spool::is_system_name;
-use uug_spool_call::{SpoolCall, talk_over_spool, tell_fault, tell_no_line};
+use uug_spool_call::{SpoolCall, talk_over_spool, tell_fault, tell_large, tell_no_line};
 use uug_stream::{Output, ToolFault};
 use uug_talk::Name;
 use uug_task::{CallTask, System};
@@ -63,6 +63,7 @@ where
         return Outcome::of(run.alloc, Err(fault));
     }
     if run.task.side == Side::Called {
+        tell_large_files(run);
         return talk_at(run, line, streams, None, observer, output);
     }
     let lock = lock_telling(run.alloc, run.rt, run.task, run.task.peer);
@@ -100,6 +101,7 @@ where
             return call_later(run, fault);
         }
     };
+    tell_large_files(run);
     let outcome = talk_at(run, line, streams, None, observer, output);
     if let Some(is_in_use) = line_fault(&outcome.answer) {
         let peer = run.station.place.peer;
@@ -107,6 +109,15 @@ where
     }
     lock.release(run.rt);
     outcome
+}
+
+/// Tells of the files that wait for the other system and are too large to be sent. If any system may call, it is not
+/// known yet which they are.
+fn tell_large_files<A: Allocator + Copy, R: System>(run: &EndRun<'_, A, R>) {
+    if run.task.peer != ANY {
+        let peer = run.station.place.peer;
+        tell_large(run.alloc, run.rt, &said_of(run.task), peer);
+    }
 }
 
 /// Handles a call of a system whose lock the end has not got. If another run has the lock, the system is to be called

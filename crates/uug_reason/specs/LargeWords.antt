@@ -1,0 +1,10 @@
+-- The words for a file of a job that is over the limit of its own end (this project's profile).
+use Rattle.std.specs.Fmt.{decimal}
+use Rattle.std.specs.Prelude.{ℕ, List, ◌++◌, codes}
+use Rattle.uug_talk.specs.Lines.{ended}
+
+-- the path as it is shown, the size and the limit, as a line
+abbrev pub large_line : (shown : List ℕ) → (size limit : ℕ) → List ℕ
+large_line shown size limit =
+    codes "uucpair: " ++ (shown ++ (codes ": " ++ (decimal size ++ (codes " bytes, and the limit is "
+    ++ (decimal limit ++ ended (codes " (--file-limit); the job will be given up"))))))
