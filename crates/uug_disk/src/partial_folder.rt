@@ -17,7 +17,7 @@ use std::time::Clock;
 use std::{fs, io};
 use uug_digest::{FileDigest, TELLING_MAX};
 use uug_failure::Cause;
-use uug_folder::{partial_text, read_partial};
+use uug_folder::{Allowance, partial_text, read_partial};
 use uug_session::{PartialFile, Partials};
 use uug_talk::FILE_LIMIT_MAX;
 
@@ -27,8 +27,8 @@ const DIGITS: usize = 64;
 /// The maximum number of bytes of such a file: a line, and its end, and the bytes of a file.
 const PARTIAL_MAX: usize = TELLING_MAX + 1 + FILE_LIMIT_MAX;
 
-/// The seconds after which such a file is removed that has not grown: 30 days.
-const AGE_MAX: u64 = 2_592_000;
+/// The seconds of a day.
+const DAY: u64 = 86_400;
 
 /// Returns whether a name is that of such a file.
 fn is_partial(name: &str) -> bool
@@ -43,17 +43,18 @@ fn are_digits(name: &[u8]) -> bool
     name.iter().all(|b| b.is_ascii_hexdigit())
 }
 
-/// Reads the files that an end holds in the folder at `path`, up to `most` bytes. Removes what it has no room for, what
-/// has not grown for 30 days, and incomplete files that killed runs left. What can't be read is not held. Without a
-/// folder there, or with a link to one, nothing is held.
+/// Reads the files that an end holds in the folder at `path`, as many as this allowance lets it hold. Removes what it
+/// has no room for, what has not grown for too many days, and incomplete files that killed runs left. What can't be
+/// read is not held. Without a folder there, or with a link to one, nothing is held.
 pub fn read_partials<A: Allocator + Copy, R: Files + Clock + Alloc + Clone + Drop>(
     alloc: A,
     rt: &R,
     path: &str,
-    most: u64,
+    allowance: Allowance,
 ) -> Result<Partials<A>, AllocError> {
     let mut held = Partials::new(alloc);
-    let mut room = most;
+    let mut left = allowance;
+    left.bytes = allowance.held();
     let Ok(entries) = entries_in(rt, path) else {
         return Ok(held);
     };
@@ -64,7 +65,7 @@ pub fn read_partials<A: Allocator + Copy, R: Files + Clock + Alloc + Clone + Dro
         if is_part(entry.file_name()) {
             remove_part(rt, &entry);
         }
-        if let Some(file) = read_entry(alloc, rt, &entry, &mut room)? {
+        if let Some(file) = read_entry(alloc, rt, &entry, &mut left)? {
             held.put(file)?;
         }
     }
@@ -86,16 +87,16 @@ fn see_no_link<R: Files>(rt: &R, path: &str) -> io::Result<()> {
     }
 }
 
-/// Returns what an entry of that folder holds, if it is such a file. Its bytes are taken from `room`.
+/// Returns what an entry of that folder holds, if it is such a file. Its bytes are taken from what is left.
 fn read_entry<A: Allocator + Copy, R: Files + Clock + Drop, B: Allocator>(
     alloc: A,
     rt: &R,
     entry: &DirEntry<R, B>,
-    room: &mut u64,
+    left: &mut Allowance,
 ) -> Result<Option<PartialFile<A>>, AllocError>
-    ensures { room.new ≤ room.old }
+    ensures { left.new.bytes ≤ left.old.bytes }
 {
-    if !is_partial(entry.file_name()) || !is_of_use(rt, entry, room).unwrap_or(false) {
+    if !is_partial(entry.file_name()) || !is_of_use(rt, entry, left).unwrap_or(false) {
         return Ok(None);
     }
     match read_file(alloc, rt, entry.path().as_str(), PARTIAL_MAX) {
@@ -111,10 +112,10 @@ fn read_entry<A: Allocator + Copy, R: Files + Clock + Drop, B: Allocator>(
 fn is_of_use<R: Files + Clock + Drop, B: Allocator>(
     rt: &R,
     entry: &DirEntry<R, B>,
-    room: &mut u64,
+    left: &mut Allowance,
 ) -> io::Result<bool>
     requires { is_partial (dir_entry_name entry.now) ≡ true }
-    ensures { room.new ≤ room.old }
+    ensures { left.new.bytes ≤ left.old.bytes }
 {
     let metadata = entry.metadata()?;
     if !metadata.is_file() {
@@ -123,12 +124,12 @@ fn is_of_use<R: Files + Clock + Drop, B: Allocator>(
     let is_old = metadata
         .modified()?
         .elapsed(rt)
-        .is_ok_and(|age| age.as_secs() > AGE_MAX);
-    if is_old || metadata.len() > *room {
+        .is_ok_and(|age| age.as_secs() > u64::from(left.days) * DAY);
+    if is_old || metadata.len() > left.bytes {
         fs::remove_file(rt, entry.path().as_str())?;
         return Ok(false);
     }
-    *room -= metadata.len();
+    left.bytes -= metadata.len();
     Ok(true)
 }
 

@@ -4,7 +4,7 @@ ghost use Rattle.uug_digest.specs.declared.telling.TheConstants.{TELLING_MAX};
 use uug_digest::TELLING_MAX;
 use uug_session::FileLimit;
 
-/// The allowance of an end for the files that it reads for a session.
+/// The allowance of an end for the files that it reads for a session, and for those that it holds.
 #[derive(Clone, Copy)]
 pub struct Allowance {
     /// The bytes that the files of its jobs may have together, and those that its other files may have. The first file
@@ -12,6 +12,8 @@ pub struct Allowance {
     pub bytes: u64,
     /// The size of the greatest file that it gives or takes.
     pub limit: FileLimit,
+    /// The days for which it holds a file that was cut off and does not grow.
+    pub days: u32,
 }
 
 impl Allowance {

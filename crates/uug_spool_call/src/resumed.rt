@@ -31,7 +31,7 @@ where
         return Ok(None);
     }
     let path = paths.partial(alloc)?;
-    let held = read_partials(alloc, rt, path.as_str(), call.allowance.held())?;
+    let held = read_partials(alloc, rt, path.as_str(), call.allowance)?;
     Ok(Some(held))
 }
 

@@ -24,6 +24,7 @@ pub record IsCallOf (task : CallTask) (call : SpoolCall) : Type 0 where
   pub thinning : call.thinning ≡ thinning_with task.is_every_ack
   pub bytes : call.allowance.bytes ≡ task.most
   pub limit : IsTask task → call.allowance.limit.bytes ≡ task.file_limit
+  pub days : call.allowance.days ≡ task.keep_days
   pub is_loud : call.is_loud ≡ task.is_loud
 
 -- ---- where there is no line

@@ -26,7 +26,7 @@ where
         return Ok(None);
     }
     let path = partial_path(alloc, task.dir)?;
-    let held = read_partials(alloc, rt, path.as_str(), task.allowance().held())?;
+    let held = read_partials(alloc, rt, path.as_str(), task.allowance())?;
     Ok(Some(held))
 }
 

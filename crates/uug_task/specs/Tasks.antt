@@ -22,7 +22,7 @@ use Rattle.uug_task.specs.declared.task.CallTask.{CallTask}
 use Rattle.uug_task.specs.declared.task.Terms.{Terms}
 use Rattle.uug_task.specs.declared.end_parts.EndParts.{EndParts}
 use Rattle.uug_port.specs.Timers.{IsSpeed, packets_of}
-use Rattle.uug_task.specs.declared.task.TheConstants.{MOST_MIN, SECONDS_MAX, SESSIONS_MAX, WAIT_MAX}
+use Rattle.uug_task.specs.declared.task.TheConstants.{KEEP_MAX, MOST_MIN, SECONDS_MAX, SESSIONS_MAX, WAIT_MAX}
 
 -- Whether an end may have so many sessions: more than one only where it is called at a socket.
 abbrev pub may_have : (sessions : ℕ) → Side → LineShown → Bool
@@ -44,6 +44,7 @@ pub record IsTask (task : CallTask) : Type 0 where
   pub size : IsSize task.size
   pub most : MOST_MIN ≤ task.most
   pub file_limit : IsLimit task.file_limit
+  pub keep_days : (0 < task.keep_days) × (task.keep_days ≤ KEEP_MAX)
   pub line : line_of task.line.now ≢ None
   pub turns : IfSome (line_of task.line.now) (λ line. IsTrue (may_have task.sessions task.side line))
   pub me : IsName task.me.now

@@ -25,6 +25,9 @@ pub const WAIT_MAX: u32 = 1_000_000_000;
 /// The maximum number of sessions of an end that is called at a socket.
 pub const SESSIONS_MAX: u32 = 1_000_000;
 
+/// The maximum days for which an end holds a file that was cut off and does not grow.
+pub const KEEP_MAX: u32 = 3_650;
+
 /// The seconds that an end waits to be called at a socket by default: a day.
 const WAIT: u32 = 86_400;
 
@@ -79,6 +82,8 @@ pub struct CallTask<'a> {
     pub most: u32,
     /// The size of the greatest file that it gives or takes, in bytes.
     pub file_limit: u32,
+    /// The days for which it holds a file that was cut off and does not grow.
+    pub keep_days: u32,
     /// Set if its folder is a spool of Taylor UUCP.
     pub is_spool: bool,
     /// The public folder of a spool, if one is named.
@@ -122,10 +127,11 @@ impl<'a> CallTask<'a> {
         read_terms(self).is_some()
     }
 
-    /// Returns how much of its files its end reads for a session.
+    /// Returns how much of its files its end reads for a session, and how long it holds others.
     pub fn allowance(&self) -> Allowance
         ensures bytes { result.bytes ≡ self.now.most }
         ensures limit { IsTask self.now → result.limit.bytes ≡ self.now.file_limit }
+        ensures days { result.days ≡ self.now.keep_days }
     {
         let limit = match FileLimit::new(self.file_limit as usize) {
             Some(limit) => limit,
@@ -134,6 +140,7 @@ impl<'a> CallTask<'a> {
         Allowance {
             bytes: u64::from(self.most),
             limit,
+            days: self.keep_days,
         }
     }
 
@@ -214,6 +221,7 @@ pub fn read_terms<'a>(task: &CallTask<'a>) -> Option<Terms<'a>>
         || !is_within(Some(task.sessions), 1, SESSIONS_MAX)
         || task.most < MOST_MIN
         || FileLimit::new(task.file_limit as usize).is_none()
+        || !is_within(Some(task.keep_days), 1, KEEP_MAX)
     {
         return None;
     }

@@ -162,6 +162,7 @@ pub record IsEndIn (entries : Entries) (task : CallTask) : Type 0 where
   pub log : IsWordIn entries (codes "log") task.log
   pub most : task.most ≡ number_or_zero entries (codes "most")
   pub file_limit : task.file_limit ≡ number_or_zero entries (codes "file-limit")
+  pub keep_days : task.keep_days ≡ number_or_zero entries (codes "keep-partials")
   pub is_spool : task.is_spool ≡ is_given entries (codes "spool")
   pub is_fail_status : task.is_fail_status ≡ is_given entries (codes "fail-status")
   pub public : IsWordIn entries (codes "public") task.public

@@ -5,11 +5,11 @@ use Rattle.uug_conversation.specs.Holdings.{IsLimit}
 use Rattle.uug_port.specs.Timers.{IsSpeed}
 use Rattle.uug_task.specs.Tasks.{has_place, may_have}
 use Rattle.uug_task.specs.declared.task.CallTask.{CallTask}
-use Rattle.uug_task.specs.declared.task.TheConstants.{MOST_MIN, SECONDS_MAX, SESSIONS_MAX, WAIT_MAX}
+use Rattle.uug_task.specs.declared.task.TheConstants.{KEEP_MAX, MOST_MIN, SECONDS_MAX, SESSIONS_MAX, WAIT_MAX}
 use Rattle.uug_talk.specs.Name.{IsName}
 use Rattle.uug_transfer.specs.LineNames.{line_of}
 use Rattle.uug_words.specs.declared.part.Part.{Part}
-use Rattle.uug_words.specs.declared.part.Part.TheVariants.{Seconds, Speed, Wait, Sessions, Window, Size, Most, FileLimit, Line, Me, Peer, Place, Turns}
+use Rattle.uug_words.specs.declared.part.Part.TheVariants.{Seconds, Speed, Wait, Sessions, Window, Size, Most, FileLimit, KeepDays, Line, Me, Peer, Place, Turns}
 
 -- this part is as a task has to have it that may be run
 abbrev pub IsRight : CallTask → Part → Type 0
@@ -21,6 +21,7 @@ IsRight task Window = IsWindow task.window
 IsRight task Size = IsSize task.size
 IsRight task Most = MOST_MIN ≤ task.most
 IsRight task FileLimit = IsLimit task.file_limit
+IsRight task KeepDays = (0 < task.keep_days) × (task.keep_days ≤ KEEP_MAX)
 IsRight task Line = line_of task.line.now ≢ None
 IsRight task Me = IsName task.me.now
 IsRight task Peer = IsName task.peer.now
@@ -31,7 +32,7 @@ abbrev pub RightTimes : CallTask → Type 0
 RightTimes task = IsRight task Seconds × IsRight task Speed × IsRight task Wait × IsRight task Sessions
 
 abbrev pub RightNumbers : CallTask → Type 0
-RightNumbers task = RightTimes task × IsRight task Window × IsRight task Size × IsRight task Most × IsRight task FileLimit
+RightNumbers task = RightTimes task × IsRight task Window × IsRight task Size × IsRight task Most × IsRight task FileLimit × IsRight task KeepDays
 
 -- all parts in front of it are right
 abbrev pub RightBefore : CallTask → Part → Type 0
@@ -43,6 +44,7 @@ RightBefore task Window = RightTimes task
 RightBefore task Size = RightTimes task × IsRight task Window
 RightBefore task Most = RightTimes task × IsRight task Window × IsRight task Size
 RightBefore task FileLimit = RightTimes task × IsRight task Window × IsRight task Size × IsRight task Most
+RightBefore task KeepDays = RightTimes task × IsRight task Window × IsRight task Size × IsRight task Most × IsRight task FileLimit
 RightBefore task Line = RightNumbers task
 RightBefore task Me = RightNumbers task × IsRight task Line
 RightBefore task Peer = RightNumbers task × IsRight task Line × IsRight task Me

@@ -113,6 +113,7 @@ file_rules =
     ∷ word_rule (codes "report") ∷ word_rule (codes "log")
     ∷ number_rule (codes "most") (codes "67108864")
     ∷ number_rule (codes "file-limit") (codes "67108864")
+    ∷ number_rule (codes "keep-partials") (codes "30")
     ∷ flag_rule (codes "spool") ∷ word_rule (codes "public")
     ∷ word_rule (codes "stats")
     ∷ verbose_rule ∷ []

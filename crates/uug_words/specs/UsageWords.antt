@@ -6,7 +6,7 @@ use Rattle.std.specs.Option.{option_map}
 use Rattle.std.specs.Path.{rsplit_once}
 use Rattle.uug_words.specs.Parts.{IsFirstWrong}
 use Rattle.uug_words.specs.declared.part.Part.{Part}
-use Rattle.uug_words.specs.declared.part.Part.TheVariants.{Seconds, Speed, Wait, Sessions, Window, Size, Most, FileLimit, Line, Me, Peer, Place, Turns}
+use Rattle.uug_words.specs.declared.part.Part.TheVariants.{Seconds, Speed, Wait, Sessions, Window, Size, Most, FileLimit, KeepDays, Line, Me, Peer, Place, Turns}
 use Rattle.uug_scan.specs.Detailed.{escaped}
 use Rattle.uug_task.specs.Tasks.{IsTask}
 use Rattle.uug_task.specs.declared.task.CallTask.{CallTask}
@@ -56,6 +56,7 @@ part_words task Window = range_words (codes "window") (Some task.window) (codes 
 part_words task Size = range_words (codes "size") (Some task.size) (codes "32, 64, 128, 256, 512, 1024, 2048 or 4096")
 part_words task Most = range_words (codes "most") (Some task.most) (codes "1048576 or more")
 part_words task FileLimit = range_words (codes "file-limit") (Some task.file_limit) (codes "1 to 268435456")
+part_words task KeepDays = range_words (codes "keep-partials") (Some task.keep_days) (codes "1 to 3650")
 part_words task Line = line_words task.line.now
 part_words task Me = name_words task.me.now
 part_words task Peer = peer_words task.peer.now

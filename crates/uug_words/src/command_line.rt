@@ -169,6 +169,7 @@ fn end_task<'a>(side: Side, matches: &ArgMatches<'a>) -> CallTask<'a>
         log: word(matches, "log"),
         most: number(matches, "most").unwrap_or(0),
         file_limit: number(matches, "file-limit").unwrap_or(0),
+        keep_days: number(matches, "keep-partials").unwrap_or(0),
         is_spool: is_given(matches, "spool"),
         public: word(matches, "public"),
         stats: word(matches, "stats"),

@@ -187,6 +187,9 @@ pub const MOST: &str =
 
 pub const FILE_LIMIT: &str = "How many bytes the greatest file has that it gives or takes";
 
+pub const KEEP_PARTIALS: &str =
+    "How many days it holds what has come of a file that was cut off and does not grow";
+
 pub const SPOOL: &str = "DIR is a spool of Taylor UUCP, and this end is there in uucico's place";
 
 pub const PUBLIC: &str = "With --spool: the public folder; without it uucppublic beside DIR";

@@ -7,7 +7,9 @@ ghost use Rattle.uug_words.specs.Parts.{IsFirstWrong, IsRight};
 use uug_link::{Announce, WINDOW_MAX};
 use uug_port::{SPEED_MAX, SPEED_MIN};
 use uug_talk::{FILE_LIMIT_MAX, Name};
-use uug_task::{CallTask, MOST_MIN, SECONDS_MAX, SESSIONS_MAX, WAIT_MAX, has_place, may_have};
+use uug_task::{
+    CallTask, KEEP_MAX, MOST_MIN, SECONDS_MAX, SESSIONS_MAX, WAIT_MAX, has_place, may_have,
+};
 use uug_transfer::read_line_name;
 
 /// A part of the task of one end.
@@ -29,6 +31,8 @@ pub enum Part {
     Most,
     /// The bytes of the greatest file that it gives or takes.
     FileLimit,
+    /// The days for which it holds a file that was cut off.
+    KeepDays,
     /// The name of its line.
     Line,
     /// Its name.
@@ -69,6 +73,9 @@ pub fn wrong_part(task: &CallTask<'_>) -> Option<Part>
     if !is_right(task, Part::FileLimit) {
         return Some(Part::FileLimit);
     }
+    if !is_right(task, Part::KeepDays) {
+        return Some(Part::KeepDays);
+    }
     if !is_right(task, Part::Line) {
         return Some(Part::Line);
     }
@@ -100,6 +107,7 @@ fn is_right(task: &CallTask<'_>, part: Part) -> bool
         Part::Size => is_size(task.size),
         Part::Most => task.most >= MOST_MIN,
         Part::FileLimit => is_within(Some(task.file_limit), 1, FILE_LIMIT_MAX as u32),
+        Part::KeepDays => is_within(Some(task.keep_days), 1, KEEP_MAX),
         Part::Line => read_line_name(task.line).is_some(),
         Part::Me => Name::new(task.me.as_bytes()).is_ok(),
         Part::Peer => Name::new(task.peer.as_bytes()).is_ok(),

@@ -21,6 +21,9 @@ const MOST: &str = "67108864";
 /// The default for the bytes of the greatest file that an end gives or takes.
 const FILE_LIMIT: &str = "67108864";
 
+/// The default days for which an end holds a file that was cut off.
+const KEEP_DAYS: &str = "30";
+
 /// The default number of sessions of a called end.
 const SESSIONS: &str = "1";
 
@@ -245,6 +248,13 @@ fn with_files<'a>(alloc: Global, command: Command<'a>) -> Result<Command<'a>, Al
         .arg(named(alloc, "log", "FILE", help::LOG))?
         .arg(number(alloc, "most", "BYTES", help::MOST, MOST))?
         .arg(number(alloc, "file-limit", "BYTES", help::FILE_LIMIT, FILE_LIMIT))?
+        .arg(number(
+            alloc,
+            "keep-partials",
+            "DAYS",
+            help::KEEP_PARTIALS,
+            KEEP_DAYS,
+        ))?
         .arg(flag(alloc, "spool", help::SPOOL))?
         .arg(named(alloc, "public", "FOLDER", help::PUBLIC))?
         .arg(named(alloc, "stats", "FILE", help::STATS))?

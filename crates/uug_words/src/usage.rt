@@ -88,6 +88,7 @@ fn add_part<A: Allocator>(
         ),
         Part::Most => add_range(text, "most", Some(task.most), "1048576 or more"),
         Part::FileLimit => add_range(text, "file-limit", Some(task.file_limit), "1 to 268435456"),
+        Part::KeepDays => add_range(text, "keep-partials", Some(task.keep_days), "1 to 3650"),
         Part::Line => add_line(text, task.line),
         Part::Me => add_name(text, task.me),
         Part::Peer => add_peer(text, task.peer),

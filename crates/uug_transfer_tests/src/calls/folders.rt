@@ -128,6 +128,7 @@ fn given_at(
     let allowance = Allowance {
         bytes: most,
         limit: FileLimit::standard(),
+        days: 30,
     };
     let given = read_given(rt.alloc(), rt, &lock, queue.pending(), allowance);
     drop(lock);

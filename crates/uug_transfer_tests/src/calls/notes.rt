@@ -10,8 +10,8 @@ use std::time::Clock;
 use std::{fs, process};
 use uug_digest::FileDigest;
 use uug_disk::{PartialNotes, hold_partial, read_partials};
-use uug_folder::Notebook;
-use uug_session::PartialFile;
+use uug_folder::{Allowance, Notebook};
+use uug_session::{FileLimit, PartialFile};
 use uug_talk::Name;
 
 /// The bytes that come before the first are written down.
@@ -46,7 +46,12 @@ fn assert_held(
     front: usize,
     behind: usize,
 ) {
-    let held = read_partials(rt.alloc(), rt, dir, 1_000_000).expect(rt, "memory");
+    let allowance = Allowance {
+        bytes: 1_000_000,
+        limit: FileLimit::standard(),
+        days: 30,
+    };
+    let held = read_partials(rt.alloc(), rt, dir, allowance).expect(rt, "memory");
     let count = front.saturating_add(behind);
     assert_same(rt, held.held(&source(rt), &told()).len(), count);
 }

@@ -10,7 +10,8 @@ returns c before is =
     let log = adds_behind report c.in_ok-arg-4.ensures c.named-2.ensures in
     let most = adds_behind log c.in_ok-arg-5.ensures c.number.ensures in
     let limit = adds_behind most c.in_ok-arg-6.ensures c.number-2.ensures in
-    let spool = adds_behind limit c.in_ok-arg-7.ensures c.flag-2.ensures in
-    let public = adds_behind spool c.in_ok-arg-8.ensures c.named-3.ensures in
-    let stats = adds_behind public c.in_ok-arg-9.ensures c.named-4.ensures in
-    IfOk-weaker c.arg-10.result _ _ (λ made step. (adds_behind stats step c.verbose.ensures).is) c.arg-10.ensures
+    let days = adds_behind limit c.in_ok-arg-7.ensures c.number-3.ensures in
+    let spool = adds_behind days c.in_ok-arg-8.ensures c.flag-2.ensures in
+    let public = adds_behind spool c.in_ok-arg-9.ensures c.named-3.ensures in
+    let stats = adds_behind public c.in_ok-arg-10.ensures c.named-4.ensures in
+    IfOk-weaker c.arg-11.result _ _ (λ made step. (adds_behind stats step c.verbose.ensures).is) c.arg-11.ensures
