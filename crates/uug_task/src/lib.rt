@@ -11,6 +11,6 @@ pub use end_parts::{EndParts, FinishedEnd, begin_end, make_node};
 pub use places::place_in_pair;
 pub use system::System;
 pub use task::{
-    CallTask, MOST_MIN, ReportPlace, SECONDS_MAX, SESSIONS_MAX, Station, Terms, WAIT_MAX,
+    CallTask, KEEP_MAX, MOST_MIN, ReportPlace, SECONDS_MAX, SESSIONS_MAX, Station, Terms, WAIT_MAX,
     has_place, may_have, read_terms,
 };
