@@ -199,9 +199,10 @@ mistake "the same of the called end of a pair" 2 "$jobs 1"$'\n''b/jobs: line 1: 
 
 # ---- jobs that fail
 
-# failing NAME SAID JOB: the job of a call fails, and SAID is what the caller says of it.
+# failing NAME SAID JOB [BEFORE]: the job of a call fails, and SAID is what the caller says of it; BEFORE is what it says before.
 failing() {
-    local name=$1 ended=0 answerer report
+    local name=$1 ended=0 answerer report want="uucpair: $3: $2"
+    [ $# -lt 4 ] || want="uucpair: $4"$'\n'"$want"
     folders "$3"
     head -c 1048577 /dev/zero >"$work/a/send/large"
     chmod a+r "$work/a/send/large"
@@ -213,7 +214,7 @@ failing() {
         ended=$?
     wait "$answerer" || true
     report="caller done pending 0 struck 0 failed 1"$'\n'"caller failed $3"
-    if [ "$ended" -eq 0 ] && [ "$(cat "$work/said")" = "uucpair: $3: $2" ] && [ "$(cat "$work/printed")" = "$report" ]; then
+    if [ "$ended" -eq 0 ] && [ "$(cat "$work/said")" = "$want" ] && [ "$(cat "$work/printed")" = "$report" ]; then
         passed=$((passed + 1))
     else
         failed=$((failed + 1))
@@ -222,13 +223,22 @@ failing() {
 }
 
 failing "no such file" "no file a/send/none" "send none ~/y me"
-failing "a file that is too large" "a/send/large is larger than --file-limit" "send large ~/y me"
+failing "a file that is too large" "a/send/large is larger than --file-limit" "send large ~/y me" \
+    "a/send/large: 1048577 bytes, and the limit is 1048576 (--file-limit); the job will be given up"
 failing "a path for a file" "a source is a name: NAME or ~/NAME" "send send/x ~/y me"
 failing "a target below a folder" "refused by the other end: in a folder a target is a name, NAME or ~/NAME" "send x ~/dir/y me"
 failing "a target here that is hidden" "a target is a name: NAME or ~/NAME, without a dot in front" "request y .y me"
 failing "no such file at the other end" \
     "not given by the other end: no such file in its send, or one that may not go; or not to be put in its place here" \
     "request none ~/y me"
+
+# Nobody answers, and a file that is too large is told of all the same, once for both its jobs.
+folders "send large ~/y me" "send x x me" "send large ~/z me"
+head -c 1048577 /dev/zero >"$work/a/send/large"
+chmod a+r "$work/a/send/large"
+call_of unix:none a --file-limit 1048576
+mistake "a file that is too large, and nobody there" 3 "a/send/large: 1048577 bytes, and the limit is 1048576 (--file-limit); \
+the job will be given up"$'\n'"${fault}unix:none: no such file or directory" "${call[@]}"
 
 # counted STATUS WORD..: a call of which a job fails ends so.
 counted() {
@@ -558,6 +568,10 @@ call_of unix:s a --speed 299
 mistake "a line that is too slow" 2 "${usage}speed 299 is not 300 to 10000000" "${call[@]}"
 call_of unix:s a --most 1048575
 mistake "no room for files" 2 "${usage}most 1048575 is not 1048576 or more" "${call[@]}"
+call_of unix:s a --keep-partials 3651
+mistake "too many days" 2 "${usage}keep-partials 3651 is not 1 to 3650" "${call[@]}"
+call_of unix:s a --keep-partials 0
+mistake "no day" 2 "${usage}keep-partials 0 is not 1 to 3650" "${call[@]}"
 mistake "no time to be called" 2 "${usage}wait 0 is not 1 to 1000000000" answer unix:s a --me alpha --peer beta --wait 0
 call_of tcp:127.0.0.1 a
 mistake "no port" 2 "${usage}tcp:127.0.0.1 has no port of 0 to 65535" "${call[@]}"

@@ -207,6 +207,11 @@ def one_line(lock, caller):
     return text_of(lock)
 
 
+def too_large(path, size, limit):
+    """What is said of a file of a job that is over the limit of its own end."""
+    return f"{path}: {size} bytes, and the limit is {limit} (--file-limit); the job will be given up"
+
+
 @scene()
 def large_files(one):
     """Files of more than a MiB go both ways; one over the limit of its taker is refused before it comes, and one over that of its giver
@@ -220,12 +225,13 @@ def large_files(one):
     one.row("both ways", (caller.all(), called.all()), ((0, report("caller", struck=1), ""), (0, report("called", struck=1), "")))
     one.row("they are whole", [text_of(ends.at(end, "got/large")) == text for end in ("alpha", "beta")], [True, True])
     job = "send large other me"
-    for who, limits, why in (("taker", {"answer": ["--file-limit", "4999999"]}, "refused by the other end"),
-                             ("giver", {"call": ["--file-limit", "4999999"]}, "alpha/send/large is larger than --file-limit")):
+    for who, limits, why, before in (("taker", {"answer": ["--file-limit", "4999999"]}, "refused by the other end", []),
+                                     ("giver", {"call": ["--file-limit", "4999999"]}, "alpha/send/large is larger than --file-limit",
+                                      [too_large("alpha/send/large", 5_000_000, 4_999_999)])):
         ends.jobs("alpha", job)
         caller, called = ends.talk(**limits)
         one.row(f"over the limit of its {who}", (caller.all(), called.status),
-                ((0, report("caller", failed=[job]), said(f"{job}: {why}")), 0))
+                ((0, report("caller", failed=[job]), said(*before, f"{job}: {why}")), 0))
     one.row("none of them came", names_in(ends.at("beta", "got")), ["large"])
     ends.jobs("alpha", job)
     limit = ["--file-limit", "5000000"]
@@ -245,8 +251,10 @@ def files_about_as_large_as_they_may_be(one):
             ends.jobs("alpha", *(f"send {name} {name} me" for name in sizes))
             caller, called = ends.talk(**{who: ["--file-limit", str(limit)]})
             why = "alpha/send/more is larger than --file-limit" if who == "call" else "refused by the other end"
+            before = [too_large("alpha/send/more", limit + 1, limit)] if who == "call" else []
             job = "send more more me"
-            one.row(f"{limit}, {who}", (caller.all(), called.status), ((0, report("caller", struck=2, failed=[job]), said(f"{job}: {why}")), 0))
+            one.row(f"{limit}, {who}", (caller.all(), called.status),
+                    ((0, report("caller", struck=2, failed=[job]), said(*before, f"{job}: {why}")), 0))
             one.row(f"what has come, {limit}, {who}", {name: len(text_of(ends.at("beta", f"got/{name}"))) for name in names_in(ends.at("beta", "got"))},
                     {"less": limit - 1, "just": limit})
             for name in names_in(ends.at("beta", "got")):
@@ -266,9 +274,11 @@ def the_sizes_of_files(one):
     caller, called = ends.talk(call=limit, answer=limit)
     one.row("call", caller.all(), (0, report("caller", struck=3, failed=["send more-alpha more me",
             "request more-beta asked me"]),
-                                   said("send more-alpha more me: alpha/send/more-alpha is larger than --file-limit", f"request more-beta asked me: {NOT_GIVEN}")))
+                                   said(too_large("alpha/send/more-alpha", 1_048_577, 1_048_576),
+                                        "send more-alpha more me: alpha/send/more-alpha is larger than --file-limit", f"request more-beta asked me: {NOT_GIVEN}")))
     one.row("answer", called.all(), (0, report("called", struck=3, failed=["send more-beta more me"]),
-            said("send more-beta more me: beta/send/more-beta is larger than --file-limit")))
+            said(too_large("beta/send/more-beta", 1_048_577, 1_048_576),
+                 "send more-beta more me: beta/send/more-beta is larger than --file-limit")))
     for end, other in (("alpha", "beta"), ("beta", "alpha")):
         found = {name: text_of(ends.at(end, f"got/{name}")) for name in names_in(ends.at(end, "got"))}
         expected = {name: filler(name + other, size) for name, size in sizes.items() if name != "more"}

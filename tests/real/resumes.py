@@ -257,7 +257,7 @@ def a_disk_on_which_nothing_can_be_held(one):
 
 @scene()
 def old_files_that_are_held(one):
-    """What has not grown for 30 days goes, and what a killed run left in the middle of writing."""
+    """What has not grown for 30 days goes, or for as many as are told, and what a killed run left in the middle of writing."""
     text = filler("old", 9000)
     ends = ends_with(one, old=text)
     cut(one, ends, 5000)
@@ -265,13 +265,15 @@ def old_files_that_are_held(one):
     day = 86_400
     write(ends.at("beta", "partial/.part.1.0"), "left\n")
     write(ends.at("beta", "partial/mine"), "mine\n")
-    for days, is_there in ((29, True), (31, False)):
+    held = read(path)
+    for days, words, is_there in ((29, [], True), (31, [], False), (31, ["--keep-partials", "32"], True), (3, ["--keep-partials", "2"], False)):
+        write(path, held)
         now = os.stat(path).st_ctime
         os.utime(path, (now - days * day, now - days * day))
         os.utime(ends.at("beta", "partial/mine"), (now - days * day, now - days * day))
         ends.jobs("alpha")
-        ends.talk()
-        one.row(f"behind {days} days", names_in(ends.at("beta", "partial")), [digest(text), "mine"] if is_there else ["mine"])
+        ends.talk(answer=words)
+        one.row(f"behind {days} days {words}", names_in(ends.at("beta", "partial")), [digest(text), "mine"] if is_there else ["mine"])
 
 
 def kill_at(one, ends, giver, who, most):
