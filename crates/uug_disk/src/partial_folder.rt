@@ -121,10 +121,11 @@ fn is_of_use<R: Files + Clock + Drop, B: Allocator>(
     if !metadata.is_file() {
         return Ok(false);
     }
+    let age_max = u64::from(left.days) * DAY;
     let is_old = metadata
         .modified()?
         .elapsed(rt)
-        .is_ok_and(|age| age.as_secs() > u64::from(left.days) * DAY);
+        .is_ok_and(|age| age.as_secs() > age_max);
     if is_old || metadata.len() > left.bytes {
         fs::remove_file(rt, entry.path().as_str())?;
         return Ok(false);
