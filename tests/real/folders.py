@@ -8,7 +8,7 @@ import time
 import tty
 from datetime import datetime, timedelta, timezone
 
-from suite import Ends, FRONT, filler, free_port, masked, names_in, report, said, scene, text_of, wait_until, write
+from suite import Ends, FRONT, filler, free_port, masked, names_in, report, said, scene, text_of, too_large, wait_until, write
 
 NOT_GIVEN = ("not given by the other end: no such file in its send, or one that may not go; "
              "or not to be put in its place here")
@@ -205,11 +205,6 @@ def one_line(lock, caller):
     mine = f"{caller.process.pid:10d}\n"
     wait_until(lambda: text_of(lock) == mine or caller.process.poll() is not None, 5)
     return text_of(lock)
-
-
-def too_large(path, size, limit):
-    """What is said of a file of a job that is over the limit of its own end."""
-    return f"{path}: {size} bytes, and the limit is {limit} (--file-limit); the job will be given up"
 
 
 @scene()

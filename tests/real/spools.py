@@ -4,7 +4,7 @@ import os
 import re
 import stat
 
-from suite import fill_disk, filler, files_below, listens_at, masked, names_in, report, said, scene, text_of, wait_until, write
+from suite import fill_disk, filler, files_below, listens_at, masked, names_in, report, said, scene, text_of, too_large, wait_until, write
 
 NOBODY = 65534
 AS_NOBODY = ("setpriv", f"--reuid={NOBODY}", f"--regid={NOBODY}", "--clear-groups") if os.geteuid() == 0 else ()
@@ -857,6 +857,10 @@ def commands_that_are_given_up(one):
     nodes.mail("alpha", "0009", "well\n")
     caller, called = nodes.talk(call=["--file-limit", "1048576"])
     one.row("call", (caller.status, caller.out.splitlines()[0]), (0, "caller done pending 0 struck 2 failed 4"))
+    large = [too_large(f"{nodes.at('alpha', 'spool')}/beta/D./D.{number}", 1_048_577, 1_048_576) for number in ("0007", "0008")]
+    one.row("what is told first", caller.err, said(*large))
+    one.row("and first in the log", [line.partition("ERROR: ")[2] for line in nodes.log("alpha")[:2]],
+            [line.replace(one.work, "WORK") for line in large])
     there = nodes.there("alpha")
     mails = [text for name, text in sorted(there.items()) if "/D./" in name]
     one.row("who has mail", [text.split("\n")[1] for text in mails], ["To: first@alpha", "To: second@alpha"])

@@ -384,6 +384,11 @@ def said(*lines):
     return "".join(f"{FRONT}{line}\n" for line in lines)
 
 
+def too_large(path, size, limit):
+    """What is said of a file of a job that is over the limit of its own end."""
+    return f"{path}: {size} bytes, and the limit is {limit} (--file-limit); the job will be given up"
+
+
 @contextlib.contextmanager
 def shared(program):
     """Makes a copy of the program that anybody may run."""
