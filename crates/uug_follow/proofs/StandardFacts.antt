@@ -1,13 +1,16 @@
--- What is counted of a few packets, so that a wrong definition does not check.
-use Rattle.std.proofs.Common.{◌≡◌, ℕ, List, [], ◌∷◌, codes, Some, None, refl}
+-- What is counted of a few packets, and the lines, so that a wrong definition does not check.
+use Rattle.std.proofs.Common.{◌≡◌, ℕ, List, [], ◌∷◌, codes, Option, Some, None, refl}
 use Rattle.std.specs.Fmt.{digits}
 use Rattle.uug_packet.specs.Packet.{rj, rr, srj, control, carry}
 use Rattle.uug_reader.specs.Cut.{Item, found, bad}
 use Rattle.uug_follow.specs.Lines.{counts_line, news_line, progress_line}
 use Rattle.uug_follow.specs.Losses.{next_message, passed_with}
+use Rattle.uug_follow.specs.Paces.{pace_after, pace_from, percent, rate}
 use Rattle.uug_follow.specs.Watched.{nothing_yet}
+use Rattle.uug_follow.specs.declared.pace.Mark.{Mark}
 use Rattle.uug_follow.specs.declared.passed.Passed.{Passed}
-use Rattle.uug_follow.specs.declared.transfer.News.TheVariants.{Begins, Ends}
+use Rattle.uug_follow.specs.declared.transfer.FileProgress.{FileProgress}
+use Rattle.uug_follow.specs.declared.transfer.News.TheVariants.{Begins, Resumes, Ends}
 use Rattle.uug_follow.specs.declared.transfer.Outcome.TheVariants.{Done, TooLarge, Differs}
 use Rattle.uug_follow.specs.declared.transfer.Transfer.{Transfer}
 use Rattle.uug_follow.specs.declared.transfer.Wish.TheVariants.{Send, Request}
@@ -51,14 +54,64 @@ ours = record { way = Out; wish = Send; source = codes "x"; target = codes "y" }
 abbrev theirs : Transfer
 theirs = record { way = In; wish = Request; source = codes "~/q"; target = codes "q" }
 
+abbrev so_far : Transfer → (position : ℕ) → (size : Option ℕ) → FileProgress
+so_far job position size = record { job = job; position = position; size = size }
+
+abbrev long : Transfer
+long = record { way = In; wish = Request; source = codes "~/backup-of-monday.tar"; target = codes "q" }
+
 record AreLines : Type 0 where
   begins : news_line 3 0 (Begins ours) ≡ codes "uucpair: 3 s: send x y\n"
   ends : news_line 12 9 (Ends theirs Done 400) ≡ codes "uucpair: 12 s: peer's request ~/q q: done 400 bytes in 9 s\n"
   differs : news_line 12 9 (Ends ours Differs 400) ≡ codes "uucpair: 12 s: send x y: wrong digest 400 bytes in 9 s\n"
   too_large : news_line 1 0 (Ends ours TooLarge 0) ≡ codes "uucpair: 1 s: send x y: refused, maybe for its size 0 bytes in 0 s\n"
-  goes_on : progress_line 5 ours 64 ≡ codes "uucpair: 5 s: send x: 64 bytes"
+  resumes : news_line 2 0 (Resumes ours 30720) ≡ codes "uucpair: 2 s: send x y: resumed at 30720\n"
+  goes_on : progress_line 95 118 (so_far ours 30720 (Some 60000))
+      ≡ codes "uucpair: 95 s: send x: 30720 of 60000 bytes, 51%, 118 B/s, 248 s left"
+  stands : progress_line 95 0 (so_far ours 30720 (Some 60000)) ≡ codes "uucpair: 95 s: send x: 30720 of 60000 bytes, 51%, 0 B/s"
+  of_no_size : progress_line 5 32 (so_far ours 64 None) ≡ codes "uucpair: 5 s: send x: 64 bytes, 32 B/s"
+  of_long_name : progress_line 95 118 (so_far long 30720 (Some 60000))
+      ≡ codes "uucpair: 95 s: peer's request ~/backup-of-monday.tar: 51%, 118 B/s, 248 s left"
   all : counts_line (codes "wrote") 1234 (of 1 2 3 4).counts ≡ codes "uucpair: wrote 1234 bytes rejects 2 repeats 3 damaged 4\n"
 
 lines : AreLines
 unfolding digits
-lines = record { begins = refl; ends = refl; differs = refl; too_large = refl; goes_on = refl; all = refl }
+lines = record {
+  begins = refl;
+  ends = refl;
+  differs = refl;
+  too_large = refl;
+  resumes = refl;
+  goes_on = refl;
+  stands = refl;
+  of_no_size = refl;
+  of_long_name = refl;
+  all = refl;
+}
+
+abbrev at : (second position : ℕ) → Mark
+at second position = record { second = second; position = position }
+
+record ArePaces : Type 0 where
+  soon : pace_after (pace_from (at 3 0)) (at 12 1000) ≡ pace_from (at 3 0)
+  later : (pace_after (pace_from (at 3 0)) (at 13 1000)).newer ≡ at 13 1000
+  older : (pace_after (pace_from (at 3 0)) (at 13 1000)).older ≡ at 3 0
+  at_once : rate 1000 0 ≡ 0
+  in_time : rate 1000 10 ≡ 100
+  part : percent 30720 60000 ≡ 51
+  all : percent 60000 60000 ≡ 100
+  more : percent 61000 60000 ≡ 100
+  of_nothing : percent 0 0 ≡ 100
+
+paces : ArePaces
+paces = record {
+  soon = refl;
+  later = refl;
+  older = refl;
+  at_once = refl;
+  in_time = refl;
+  part = refl;
+  all = refl;
+  more = refl;
+  of_nothing = refl;
+}

@@ -1,3 +1,4 @@
 pub mod Lines
 pub mod Losses
+pub mod Paces
 pub mod Watched

@@ -2,10 +2,13 @@
 ghost use Rattle.std.specs.Prelude.{◌≡◌, length};
 ghost use Rattle.uug_follow.specs.Losses.{bytes_with};
 
-use crate::transfer::{News, Outcome, Transfer};
+use crate::transfer::{FileProgress, News, Outcome, Transfer};
 use crate::way::Way;
-use uug_digest::{FileDigest, told_by_answer, told_by_order};
-use uug_talk::{Answer, BadText, FILE_MAX, Order, is_held, read_answer, read_order, read_wished};
+use uug_digest::{FileDigest, position_told, told_by_answer, told_by_order};
+use uug_talk::{Answer, BadText, Order, is_held, read_answer, read_order, read_wished};
+
+/// The size of the greatest file that an end takes for which no other limit is set.
+const USUAL_LIMIT: u32 = 67_108_864;
 
 /// The present job, and the progress of its file.
 #[derive(Clone, Copy)]
@@ -15,27 +18,37 @@ pub(crate) struct Exchange {
     told: Option<FileDigest>,
     /// The direction in which a file goes now.
     file: Option<Way>,
+    /// The position from which its file is sent.
+    start: u32,
     /// The number of bytes of the job's file that have passed, up to the greatest number that fits.
     bytes: u64,
     /// True if the end takes its job as done when the other end has the file already.
     is_lenient: bool,
+    /// The size of the greatest file that the end takes.
+    limit: u32,
 }
 
 impl Exchange {
     /// Makes an exchange in which nothing was said yet.
-    pub(crate) fn new(is_lenient: bool) -> Self {
+    pub(crate) fn new(is_lenient: bool, limit: u32) -> Self {
         Exchange {
             job: None,
             told: None,
             file: None,
+            start: 0,
             bytes: 0,
             is_lenient,
+            limit,
         }
     }
 
-    /// Returns the present job, and the number of bytes of its file that have passed.
-    pub(crate) fn job(&self) -> Option<(Transfer, u64)> {
-        Some((self.job?, self.bytes))
+    /// Returns how far the file of the present job is.
+    pub(crate) fn progress(&self) -> Option<FileProgress> {
+        Some(FileProgress {
+            job: self.job?,
+            position: self.bytes.saturating_add(u64::from(self.start)),
+            size: self.told.map(|told| told.size),
+        })
     }
 
     /// Returns whether a file goes this way now: the next message is a part of it.
@@ -59,10 +72,12 @@ impl Exchange {
             Ok(order) => self.begin(way, &order, told_by_order(text)),
             Err(_) => {
                 let answer = self.read(text).ok()?;
-                if let Answer::GiveYes(_) = answer {
-                    self.told = told_by_answer(text);
+                match answer {
+                    Answer::GiveYes(_) => self.told = told_by_answer(text),
+                    Answer::SendYes => self.start = position_told(text),
+                    _ => {}
                 }
-                self.take_answer(answer, is_held(text) && self.is_lenient)
+                self.take_answer(way, answer, is_held(text) && self.is_lenient)
             }
         }
     }
@@ -79,6 +94,7 @@ impl Exchange {
     fn begin(&mut self, way: Way, order: &Order, told: Option<FileDigest>) -> Option<News> {
         self.job = Transfer::of(way, order);
         self.told = told;
+        self.start = 0;
         self.bytes = 0;
         let job = self.job?;
         Some(News::Begins(job))
@@ -86,14 +102,11 @@ impl Exchange {
 
     /// Takes an answer of one of the ends, which may hold the file already. CN4 reports a received file that differs
     /// from its digest, if one was announced.
-    fn take_answer(&mut self, answer: Answer, held: bool) -> Option<News> {
+    fn take_answer(&mut self, way: Way, answer: Answer, held: bool) -> Option<News> {
         match answer {
-            Answer::SendYes | Answer::GiveYes(_) => {
-                self.file = Some(self.job?.file_way());
-                None
-            }
+            Answer::SendYes | Answer::GiveYes(_) => self.begin_file(),
             Answer::DoneYes | Answer::DoneYesMaster => self.end(Outcome::Done),
-            Answer::SendNever if self.is_too_large() => self.end(Outcome::TooLarge),
+            Answer::SendNever if self.is_too_large(way) => self.end(Outcome::TooLarge),
             Answer::SendNever | Answer::GiveNever | Answer::DoneNever => self.end(Outcome::Never),
             Answer::SendLater if held => self.end(Outcome::Done),
             Answer::DoneLater if self.told.is_some() => self.end(Outcome::Differs),
@@ -102,10 +115,25 @@ impl Exchange {
         }
     }
 
-    /// Returns whether the announced size of the file is more than an end takes.
-    fn is_too_large(&self) -> bool {
+    /// Begins the file of the present job, or goes on with it.
+    fn begin_file(&mut self) -> Option<News> {
+        let job = self.job?;
+        self.file = Some(job.file_way());
+        if self.start == 0 {
+            return None;
+        }
+        Some(News::Resumes(job, self.start))
+    }
+
+    /// Returns whether the announced size of the file is more than the end takes whose answer went this way. The limit
+    /// of the other end is not known, so it counts as the usual one.
+    fn is_too_large(&self, way: Way) -> bool {
+        let limit = match way {
+            Way::Out => self.limit,
+            Way::In => USUAL_LIMIT,
+        };
         match &self.told {
-            Some(told) => FILE_MAX < told.size as usize,
+            Some(told) => limit < told.size,
             None => false,
         }
     }

@@ -4,12 +4,14 @@
 mod exchange;
 mod lines;
 mod observer;
+mod pace;
 mod passed;
 mod transfer;
 mod way;
 
 pub use lines::{counts_line, news_line, progress_line};
 pub use observer::{Journal, Observer};
+pub use pace::{Mark, Pace};
 pub use passed::{Counts, Passed};
-pub use transfer::{News, Outcome, Transfer, Wish};
+pub use transfer::{FileProgress, News, Outcome, Transfer, Wish};
 pub use way::Way;

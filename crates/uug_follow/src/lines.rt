@@ -1,14 +1,19 @@
 //! The lines that report a job, the progress of its file, and losses.
 ghost use Rattle.std.specs.Prelude.{◌≡◌, IfOk, string_bytes};
-ghost use Rattle.uug_follow.specs.Lines.{begin_line, counts_line, end_line, job_words, lost_words};
-ghost use Rattle.uug_follow.specs.Lines.{news_line, outcome_word, outcome_words, progress_line, whose, wish_word};
+ghost use Rattle.uug_follow.specs.Lines.{begin_line, counts_line, end_line, file_line, job_line, job_words};
+ghost use Rattle.uug_follow.specs.Lines.{left_words, lost_words, news_line, outcome_word, outcome_words, pace_words};
+ghost use Rattle.uug_follow.specs.Lines.{progress_line, resume_line, resumed_words, sized_line, whose, wish_word};
 
+use crate::pace::percent;
 use crate::passed::Counts;
-use crate::transfer::{News, Outcome, Transfer, Wish};
+use crate::transfer::{FileProgress, News, Outcome, Transfer, Wish};
 use crate::way::Way;
 use std::alloc::{AllocError, Allocator};
 
-/// Returns the line of a job that begins or ends in this second of the session. One that ends has taken `took` seconds.
+/// The columns of a terminal. A line of progress that fills them is made shorter, as far as its names allow.
+const COLUMNS: usize = 80;
+
+/// Returns the line of what becomes of a job in this second of the session. One that ends has taken `took` seconds.
 pub fn news_line<A: Allocator + Copy>(
     alloc: A,
     seconds: u64,
@@ -19,6 +24,7 @@ pub fn news_line<A: Allocator + Copy>(
 {
     match news {
         News::Begins(job) => begin_line(alloc, seconds, job),
+        News::Resumes(job, position) => resume_line(alloc, seconds, job, *position),
         News::Ends(job, outcome, bytes) => end_line(alloc, seconds, took, job, *outcome, *bytes),
     }
 }
@@ -50,6 +56,26 @@ fn begin_line<A: Allocator + Copy>(
     Ok(line)
 }
 
+/// Returns the position at which a job goes on.
+fn resumed_words<A: Allocator + Copy>(alloc: A, position: u32) -> Result<String<A>, AllocError>
+    ensures { IfOk result (λ words. string_bytes words ≡ resumed_words position) }
+{
+    let words = format!(in alloc; ": resumed at {position}")?;
+    Ok(words)
+}
+
+fn resume_line<A: Allocator + Copy>(
+    alloc: A,
+    seconds: u64,
+    job: &Transfer,
+    position: u32,
+) -> Result<String<A>, AllocError>
+    ensures { IfOk result (λ line. string_bytes line ≡ resume_line seconds job.now position) }
+{
+    let resumed = resumed_words(alloc, position)?;
+    job_line(alloc, seconds, job, resumed.as_str())
+}
+
 /// Returns the outcome of a job, with its bytes and its seconds.
 fn outcome_words<A: Allocator + Copy>(
     alloc: A,
@@ -75,26 +101,111 @@ fn end_line<A: Allocator + Copy>(
     ensures { IfOk result (λ line. string_bytes line
         ≡ end_line seconds took job.now outcome bytes) }
 {
-    let words = job_words(alloc, seconds, job)?;
     let ended = outcome_words(alloc, took, outcome, bytes)?;
-    let (words, target, ended) = (words.as_str(), job.target.as_str(), ended.as_str());
-    let line = format!(in alloc; "{words} {target}{ended}\n")?;
-    Ok(line)
+    job_line(alloc, seconds, job, ended.as_str())
 }
 
-/// Returns the progress of a job's file in this second of the session: a line without a line feed.
-pub fn progress_line<A: Allocator + Copy>(
+/// Returns the line of a job with these words at its end.
+fn job_line<A: Allocator + Copy>(
     alloc: A,
     seconds: u64,
     job: &Transfer,
-    bytes: u64,
+    ending: &str,
 ) -> Result<String<A>, AllocError>
-    ensures { IfOk result (λ line. string_bytes line ≡ progress_line seconds job.now bytes) }
+    ensures { IfOk result (λ line. string_bytes line ≡ job_line seconds job.now ending.now) }
 {
     let words = job_words(alloc, seconds, job)?;
-    let words = words.as_str();
-    let line = format!(in alloc; "{words}: {bytes} bytes")?;
+    let (words, target) = (words.as_str(), job.target.as_str());
+    let line = format!(in alloc; "{words} {target}{ending}\n")?;
     Ok(line)
+}
+
+/// Returns how far the file of a job is in this second of the session, and the bytes a second at which it goes: a line
+/// without a line feed.
+pub fn progress_line<A: Allocator + Copy>(
+    alloc: A,
+    seconds: u64,
+    rate: u64,
+    progress: &FileProgress,
+) -> Result<String<A>, AllocError>
+    ensures { IfOk result (λ line. string_bytes line ≡ progress_line seconds rate progress.now) }
+{
+    let words = job_words(alloc, seconds, &progress.job)?;
+    file_line(
+        alloc,
+        words.as_str(),
+        rate,
+        progress.position,
+        progress.size,
+    )
+}
+
+/// Returns the line of a file, whose size may be announced.
+fn file_line<A: Allocator + Copy>(
+    alloc: A,
+    words: &str,
+    rate: u64,
+    position: u64,
+    size: Option<u32>,
+) -> Result<String<A>, AllocError>
+    ensures { IfOk result (λ line. string_bytes line ≡ file_line words.now rate position size) }
+{
+    match size {
+        Some(size) => sized_line(alloc, words, rate, position, size),
+        None => {
+            let line = format!(in alloc; "{words}: {position} bytes, {rate} B/s")?;
+            Ok(line)
+        }
+    }
+}
+
+/// Returns the line of a file of this size: without the bytes, where it would be too long with them.
+fn sized_line<A: Allocator + Copy>(
+    alloc: A,
+    words: &str,
+    rate: u64,
+    position: u64,
+    size: u32,
+) -> Result<String<A>, AllocError>
+    ensures { IfOk result (λ line. string_bytes line
+        ≡ sized_line words.now rate position size) }
+{
+    let pace = pace_words(alloc, rate, position, size)?;
+    let pace = pace.as_str();
+    let line = format!(in alloc; "{words}: {position} of {size} bytes, {pace}")?;
+    if line.len() < COLUMNS {
+        return Ok(line);
+    }
+    let short = format!(in alloc; "{words}: {pace}")?;
+    Ok(short)
+}
+
+/// Returns the part of a file that has passed, and how fast it goes.
+fn pace_words<A: Allocator + Copy>(
+    alloc: A,
+    rate: u64,
+    position: u64,
+    size: u32,
+) -> Result<String<A>, AllocError>
+    ensures { IfOk result (λ words. string_bytes words ≡ pace_words rate position size) }
+{
+    let percent = percent(position, size);
+    let left = left_words(alloc, u64::from(size).saturating_sub(position), rate)?;
+    let left = left.as_str();
+    let words = format!(in alloc; "{percent}%, {rate} B/s{left}")?;
+    Ok(words)
+}
+
+/// Returns how long the rest of a file takes at this rate: nothing if nothing goes.
+fn left_words<A: Allocator + Copy>(alloc: A, rest: u64, rate: u64) -> Result<String<A>, AllocError>
+    ensures { IfOk result (λ words. string_bytes words ≡ left_words rest rate) }
+{
+    if rate == 0 {
+        return Ok(String::new(alloc));
+    }
+    let seconds = rest / rate;
+    let words = format!(in alloc; ", {seconds} s left")?;
+    Ok(words)
 }
 
 fn lost_words<A: Allocator + Copy>(alloc: A, counts: Counts) -> Result<String<A>, AllocError>

@@ -10,7 +10,7 @@ ghost use Rattle.uug_follow.specs.Watched.{Sees, nothing_yet, passing};
 
 use crate::exchange::Exchange;
 use crate::passed::{Counts, Passed};
-use crate::transfer::{News, Transfer};
+use crate::transfer::{FileProgress, News};
 use crate::way::Way;
 use std::alloc::{AllocError, Allocator};
 use std::marker::Model;
@@ -19,7 +19,7 @@ use uug_talk::{Gather, Progress};
 
 /// A journal of the reports of an observer.
 pub trait Journal {
-    /// Notes that a job has begun, or ended.
+    /// Notes what becomes of a job.
     fn note(&mut self, news: &News);
 }
 
@@ -65,16 +65,16 @@ impl<A: Allocator> Model for Observer<A> {
 }
 
 impl<A: Allocator + Copy> Observer<A> {
-    /// Makes an observer that has seen nothing of the session, of an end that is lenient or not. No other call takes
-    /// memory, except for a text of a command that is longer than one packet.
-    pub fn new(alloc: A, is_lenient: bool) -> Result<Self, AllocError>
+    /// Makes an observer that has seen nothing of the session, of an end that is lenient or not and takes files up to
+    /// this limit. No other call takes memory, except for a text of a command that is longer than one packet.
+    pub fn new(alloc: A, is_lenient: bool, limit: u32) -> Result<Self, AllocError>
         ensures outward { IfOk result (λ observer. observer.outward ≡ nothing_yet) }
         ensures inward { IfOk result (λ observer. observer.inward ≡ nothing_yet) }
     {
         Ok(Observer {
             outward: Stream::new(alloc)?,
             inward: Stream::new(alloc)?,
-            exchange: Exchange::new(is_lenient),
+            exchange: Exchange::new(is_lenient, limit),
         })
     }
 
@@ -98,9 +98,9 @@ impl<A: Allocator + Copy> Observer<A> {
         }
     }
 
-    /// Returns the present job, and the number of bytes of its file that have passed.
-    pub fn job(&self) -> Option<(Transfer, u64)> {
-        self.exchange.job()
+    /// Returns how far the file of the present job is.
+    pub fn progress(&self) -> Option<FileProgress> {
+        self.exchange.progress()
     }
 }
 

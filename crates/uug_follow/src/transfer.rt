@@ -50,7 +50,7 @@ pub enum Outcome {
     Done,
     /// It will never be sent, given, or put in its place.
     Never,
-    /// It is refused for good, and the announced size of its file is more than an end takes by default.
+    /// It is refused for good, and the announced size of its file may be more than that end takes.
     TooLarge,
     /// It may be later.
     Later,
@@ -58,10 +58,22 @@ pub enum Outcome {
     Differs,
 }
 
-/// The beginning or the end of a job.
+/// What becomes of a job.
 #[derive(Clone, Copy, Debug, PartialEq, Eq)]
 pub enum News {
     Begins(Transfer),
-    /// The outcome, and the number of bytes of its file that have passed.
+    /// Its file is sent from this position on: an earlier session has brought what is before it.
+    Resumes(Transfer, u32),
+    /// The outcome, and the number of bytes of its file that have passed in this session.
     Ends(Transfer, Outcome, u64),
+}
+
+/// How far the file of a job is.
+#[derive(Clone, Copy)]
+pub struct FileProgress {
+    pub job: Transfer,
+    /// The number of bytes of the file that have passed in this session and before.
+    pub position: u64,
+    /// The announced size of the file.
+    pub size: Option<u32>,
 }

@@ -23,6 +23,8 @@ use uug_transfer::{ReadOutcome, SessionObserver, SessionStatus};
 pub struct SystemObserver<'a, R, A: Allocator> {
     alloc: A,
     is_lenient: bool,
+    /// The size of the greatest file that this end takes.
+    file_limit: u32,
     /// None without `-v` or a log.
     observer: Option<Observer<A>>,
     tellers: Tellers<'a, R, A>,
@@ -56,13 +58,14 @@ impl<'a, R: Eprint + Clock, A: Allocator + Copy> SystemObserver<'a, R, A> {
         log: Option<SessionLog<'a, R, A>>,
     ) -> Result<Self, AllocError> {
         let observer = if task.is_loud || log.is_some() {
-            Some(Observer::new(alloc, task.is_lenient)?)
+            Some(Observer::new(alloc, task.is_lenient, task.file_limit)?)
         } else {
             None
         };
         Ok(SystemObserver {
             alloc,
             is_lenient: task.is_lenient,
+            file_limit: task.file_limit,
             observer,
             tellers: Tellers {
                 is_loud: task.is_loud,
@@ -86,7 +89,7 @@ impl<'a, R: Eprint + Clock, A: Allocator + Copy> SystemObserver<'a, R, A> {
     /// Starts over after a session, as nothing was seen yet of the next one.
     fn begin_anew(&mut self) {
         if self.observer.is_some() {
-            self.observer = Observer::new(self.alloc, self.is_lenient).ok();
+            self.observer = Observer::new(self.alloc, self.is_lenient, self.file_limit).ok();
         }
         self.phase = None;
         self.has_met = false;
@@ -178,8 +181,8 @@ impl<'a, R: Eprint + Clock, A: Allocator + Copy> SystemObserver<'a, R, A> {
             return;
         };
         observer.see(way, piece, &mut self.tellers);
-        if let Some((job, bytes)) = observer.job() {
-            self.tellers.show_progress(&job, bytes);
+        if let Some(progress) = observer.progress() {
+            self.tellers.show_progress(&progress);
         }
     }
 }

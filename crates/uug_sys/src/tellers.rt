@@ -3,7 +3,7 @@
 use crate::voice::Voice;
 use std::alloc::{AllocError, Allocator};
 use std::time::Clock;
-use uug_follow::{Journal, News, Transfer};
+use uug_follow::{FileProgress, Journal, News};
 use uug_log::{SessionLog, words_of};
 use uug_session::{End, Phase, phase_word};
 use uug_talk::Name;
@@ -55,10 +55,10 @@ impl<R: Eprint + Clock, A: Allocator + Copy> Tellers<'_, R, A> {
         }
     }
 
-    /// Shows how much of the file of a job has passed.
-    pub(crate) fn show_progress(&mut self, job: &Transfer, bytes: u64) {
+    /// Shows how far the file of a job is.
+    pub(crate) fn show_progress(&mut self, progress: &FileProgress) {
         if self.is_loud {
-            self.voice.show_progress(job, bytes);
+            self.voice.show_progress(progress);
         }
     }
 

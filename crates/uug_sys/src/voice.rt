@@ -2,7 +2,9 @@
 
 use std::alloc::{AllocError, Allocator};
 use std::time::{Clock, Instant};
-use uug_follow::{Counts, Journal, News, Transfer, counts_line, news_line, progress_line};
+use uug_follow::{
+    Counts, FileProgress, Journal, Mark, News, Pace, counts_line, news_line, progress_line,
+};
 use uug_session::phase_word;
 use uug_transfer::SessionStatus;
 
@@ -21,6 +23,8 @@ pub(crate) struct Voice<'a, R, A: Allocator> {
     since: Option<Instant>,
     /// The second of the session in which the current job began.
     begun: u64,
+    /// How fast its file goes.
+    pace: Pace,
     /// The second of the session in which the job's line of progress was last written, if that is still seen.
     shown: Option<u64>,
     /// Messages about jobs, held back until the results are on the disk.
@@ -35,6 +39,10 @@ impl<'a, R: Eprint + Clock, A: Allocator + Copy> Voice<'a, R, A> {
             at_terminal,
             since: Instant::now(rt).ok(),
             begun: 0,
+            pace: Pace::new(Mark {
+                second: 0,
+                position: 0,
+            }),
             shown: None,
             held: String::new(alloc),
         }
@@ -104,9 +112,9 @@ impl<'a, R: Eprint + Clock, A: Allocator + Copy> Voice<'a, R, A> {
         self.say(format!(in self.alloc; "uucpair: {silences} timeouts\n"));
     }
 
-    /// Shows how far the file of the job is, at a terminal, once a second from its second one on.
-    pub(crate) fn show_progress(&mut self, job: &Transfer, bytes: u64) {
-        if !self.at_terminal || bytes == 0 {
+    /// Shows how far a file is, at a terminal, once a second from the job's second one on.
+    pub(crate) fn show_progress(&mut self, progress: &FileProgress) {
+        if !self.at_terminal || progress.position == 0 {
             return;
         }
         let seconds = self.seconds();
@@ -116,17 +124,41 @@ impl<'a, R: Eprint + Clock, A: Allocator + Copy> Voice<'a, R, A> {
         };
         if is_due {
             self.wipe();
-            self.say(progress_line(self.alloc, seconds, job, bytes));
+            self.say_progress(seconds, progress);
             self.shown = Some(seconds);
         }
+    }
+
+    /// Says how far a file is, and how fast it goes.
+    fn say_progress(&mut self, seconds: u64, progress: &FileProgress) {
+        let now = Mark {
+            second: seconds,
+            position: progress.position,
+        };
+        self.pace.take(now);
+        let rate = self.pace.rate(now);
+        self.say(progress_line(self.alloc, seconds, rate, progress));
+    }
+
+    /// Notes that a file begins in this second, or goes on at this position.
+    fn begin_file(&mut self, seconds: u64, position: u64) {
+        self.pace = Pace::new(Mark {
+            second: seconds,
+            position,
+        });
     }
 }
 
 impl<R: Eprint + Clock, A: Allocator + Copy> Journal for Voice<'_, R, A> {
     fn note(&mut self, news: &News) {
         let seconds = self.seconds();
-        if let News::Begins(_) = news {
-            self.begun = seconds;
+        match news {
+            News::Begins(_) => {
+                self.begun = seconds;
+                self.begin_file(seconds, 0);
+            }
+            News::Resumes(_, position) => self.begin_file(seconds, u64::from(*position)),
+            News::Ends(..) => {}
         }
         let took = seconds.saturating_sub(self.begun);
         if let Ok(line) = news_line(self.alloc, seconds, took, news) {

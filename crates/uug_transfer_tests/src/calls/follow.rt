@@ -5,7 +5,9 @@ use crate::calls::assertions::{assert_same, assert_same_at};
 use arrayvec::ArrayVec;
 use std::alloc::Global;
 use std::process::Abort;
-use uug_follow::{Journal, News, Observer, Outcome, Way, news_line};
+use uug_follow::{
+    FileProgress, Journal, Mark, News, Observer, Outcome, Pace, Way, news_line, progress_line,
+};
 use uug_packet::{PACKET_MAX, Packet, Seq, encode};
 
 /// The number of jobs that began, and how they ended, with all bytes of their files.
@@ -22,6 +24,7 @@ impl Journal for Notes {
     fn note(&mut self, news: &News) {
         match news {
             News::Begins(_) => self.begun = self.begun.saturating_add(1),
+            News::Resumes(_, _) => {}
             News::Ends(_, outcome, bytes) => {
                 self.bytes = self.bytes.saturating_add(*bytes);
                 match outcome {
@@ -37,6 +40,9 @@ impl Journal for Notes {
         }
     }
 }
+
+/// The limit of files of the end.
+const LIMIT: u32 = 0x10_0000;
 
 /// A message in one direction.
 type Said = (Way, &'static [u8]);
@@ -220,7 +226,7 @@ fn show<J: Journal>(
 }
 
 fn follow(rt: &impl Abort, alloc: Global, is_lenient: bool, said: &[Said]) -> Notes {
-    let mut observer = Observer::new(alloc, is_lenient).expect(rt, "memory for both ways");
+    let mut observer = Observer::new(alloc, is_lenient, LIMIT).expect(rt, "memory for both ways");
     let mut notes = NOTHING;
     show(rt, said, &mut observer, &mut notes);
     drop(observer);
@@ -388,7 +394,53 @@ const ORDERS: &[(&[Said], &str)] = &[
         "uucpair: 0 s: request x y\n\
         uucpair: 0 s: request x y: wrong digest 2 bytes in 0 s\n",
     ),
-    // more bytes are announced than an end takes, and then as many as it takes
+    // a file goes on where an earlier session was cut off, and the bytes of this session are counted
+    (
+        &[
+            SEND,
+            (Way::In, b"SY 0x00000003\0"),
+            (Way::Out, b"de"),
+            (Way::Out, b""),
+            (Way::In, b"CY\0"),
+            SEND_Q,
+            (Way::In, b"SY\0"),
+            (Way::Out, b"fgh"),
+            (Way::Out, b""),
+            (Way::In, b"CY\0"),
+            OTHERS_SEND,
+            (Way::Out, b"SY 0x00000001\0"),
+            (Way::In, b""),
+            (Way::Out, b"CY\0"),
+        ],
+        "uucpair: 0 s: send x y\n\
+        uucpair: 0 s: send x y: resumed at 3\n\
+        uucpair: 0 s: send x y: done 2 bytes in 0 s\n\
+        uucpair: 0 s: send q z\n\
+        uucpair: 0 s: send q z: done 3 bytes in 0 s\n\
+        uucpair: 0 s: peer's send p w\n\
+        uucpair: 0 s: peer's send p w: resumed at 1\n\
+        uucpair: 0 s: peer's send p w: done 0 bytes in 0 s\n",
+    ),
+    // the other end refuses a file of more bytes than an end usually takes, and then one of as many
+    (
+        &[
+            (Way::Out, b"S x y u - x 0644 \"\" 0x4000001 "),
+            (Way::Out, HASH),
+            (Way::Out, HASH_GOES_ON),
+            (Way::Out, HASH_ENDS),
+            (Way::In, b"SN2\0"),
+            (Way::Out, b"S x y u - x 0644 \"\" 0x4000000 "),
+            (Way::Out, HASH),
+            (Way::Out, HASH_GOES_ON),
+            (Way::Out, HASH_ENDS),
+            (Way::In, b"SN2\0"),
+        ],
+        "uucpair: 0 s: send x y\n\
+        uucpair: 0 s: send x y: refused, maybe for its size 0 bytes in 0 s\n\
+        uucpair: 0 s: send x y\n\
+        uucpair: 0 s: send x y: refused 0 bytes in 0 s\n",
+    ),
+    // more bytes are announced than this end takes, and then as many as it takes
     (
         &[
             (Way::In, b"S p w u - p 0644 \"\" 0x100001 "),
@@ -425,7 +477,7 @@ const ORDERS: &[(&[Said], &str)] = &[
 ];
 
 fn tell(rt: &impl Abort, alloc: Global, said: &[Said], lines: &mut Lines) {
-    let mut observer = Observer::new(alloc, false).expect(rt, "memory for both ways");
+    let mut observer = Observer::new(alloc, false, LIMIT).expect(rt, "memory for both ways");
     show(rt, said, &mut observer, lines);
     drop(observer);
 }
@@ -444,5 +496,81 @@ fn assert_told(rt: &impl Abort, alloc: Global, said: &[Said], text: &str) {
 fn news_of_several_jobs_come_in_order(rt: HostRuntime) {
     for (said, text) in ORDERS {
         assert_told(&rt, rt.alloc(), said, text);
+    }
+}
+
+/// The messages on the line, and how far the file of the job is then: no line, or one of a rate of 1 byte a second.
+const PARTS: &[(&[Said], &str)] = &[
+    (&[], ""),
+    (&[SEND], "uucpair: 9 s: send x: 0 bytes, 1 B/s"),
+    (
+        &[SEND, (Way::In, b"SY\0"), (Way::Out, b"abc")],
+        "uucpair: 9 s: send x: 3 bytes, 1 B/s",
+    ),
+    // what came before counts, and the size is announced
+    (
+        &[
+            (Way::In, b"S p w u - p 0644 \"\" 0x14 "),
+            (Way::In, HASH),
+            (Way::In, HASH_GOES_ON),
+            (Way::In, HASH_ENDS),
+            (Way::Out, b"SY 0x0000000a\0"),
+            (Way::In, b"de"),
+        ],
+        "uucpair: 9 s: peer's send p: 12 of 20 bytes, 60%, 1 B/s, 8 s left",
+    ),
+    // a job that has ended has no file
+    (&[SEND, (Way::In, b"SN2\0")], ""),
+];
+
+fn line_of(rt: &impl Abort, alloc: Global, progress: Option<FileProgress>) -> String {
+    match progress {
+        Some(progress) => { progress_line(alloc, 9, 1, &progress).expect(rt, "memory for a line") }
+        None => String::new(alloc),
+    }
+}
+
+fn assert_part(rt: &impl Abort, alloc: Global, said: &[Said], line: &str) {
+    let mut observer = Observer::new(alloc, false, LIMIT).expect(rt, "memory for both ways");
+    let mut notes = NOTHING;
+    show(rt, said, &mut observer, &mut notes);
+    let seen = line_of(rt, alloc, observer.progress());
+    assert_same(rt, seen.as_bytes(), line.as_bytes());
+    drop(observer);
+}
+
+#[test]
+fn a_file_is_so_far(rt: HostRuntime) {
+    for (said, line) in PARTS {
+        assert_part(&rt, rt.alloc(), said, line);
+    }
+}
+
+/// Marks of a file, one after the other, and the rate at each.
+const MARKS: &[(u64, u64, u64)] = &[
+    (3, 500, 0),
+    (5, 700, 100),
+    (13, 1500, 100),
+    // the mark of 13 is the older one from 23 on
+    (22, 1500, 52),
+    (23, 1500, 0),
+    (24, 1610, 10),
+    // a clock that fails gives 0
+    (0, 1700, 0),
+];
+
+#[test]
+fn a_rate_is_of_the_last_seconds(rt: HostRuntime) {
+    let mut pace = Pace::new(Mark {
+        second: 3,
+        position: 500,
+    });
+    for (second, position, rate) in MARKS {
+        let now = Mark {
+            second: *second,
+            position: *position,
+        };
+        pace.take(now);
+        assert_same(&rt, pace.rate(now), *rate);
     }
 }
