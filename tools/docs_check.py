@@ -2,7 +2,7 @@
 """Compares what the documents say with the sources: tools/docs_check.py.
 
 Exits 1, with a line for each thing that is not there. In README.md, CHANGELOG.md, CONTRIBUTING.md, docs/*.md and
-the man pages docs/*.[15]:
+the man pages docs/*.[158]:
 
     - a path in backticks is there, as it is written or as the end of a path;
     - a crate is one of crates.txt, and ARCHITECTURE has a row for each;
@@ -42,7 +42,7 @@ OPERATING = "docs/OPERATING.md"
 PERFORMANCE = "docs/PERFORMANCE.md"
 PROOFS = "docs/PROOFS.md"
 PROTOCOL = "docs/PROTOCOL.md"
-MAN_PAGES = (".1", ".5")
+MAN_PAGES = (".1", ".5", ".8")
 CODE = re.compile(r"`([^`\n]+)`")
 CLAUSE = re.compile(r"\s*//[/!] (What|Whether|How|Who|Whose|Which|Where|When|Why|So many|Of|As|Behind|Nothing|None)\b")
 CLAUSES_MAX = 20

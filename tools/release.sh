@@ -1,6 +1,7 @@
 #!/usr/bin/env bash
 # Makes what is given to others: uucpair-VERSION-x86_64-linux.tar.gz and a Debian package, each with the program, its man
-# pages, and the documents, examples and files of packaging/ where their links look for each other.
+# pages, and the documents, examples and files of packaging/ where their links look for each other. The package also installs
+# what takes uucico's place, and uucpair-replace-uucico, which it undoes before it is removed.
 #
 #     tools/release.sh FOLDER [PROGRAM]
 #
@@ -29,14 +30,15 @@ version_of_sources() {
     sed -n 's/^pub const VERSION: &str = "\(.*\)";$/\1/p' "$root/crates/uug_words/src/tools.rt"
 }
 
-# put_documents FOLDER: as they lie in the repository. Anybody may read them, and run what can be run.
-put_documents() {
+# put_files FOLDER BASE PATH..: these of a folder of the repository, and all below them. Anybody may read them, and run what can
+# be run.
+put_files() {
     local file mode
     while read -r file; do
         mode=644
-        [ ! -x "$root/$file" ] || mode=755
-        install -Dm "$mode" "$root/$file" "$1/$file"
-    done < <(git -C "$root" ls-files "${documents[@]}")
+        [ ! -x "$2/$file" ] || mode=755
+        install -Dm "$mode" "$2/$file" "$1/$file"
+    done < <(git -C "$2" ls-files "${@:3}")
 }
 
 # as_of_commit FOLDER: everything below it is as old as the commit.
@@ -46,7 +48,7 @@ as_of_commit() {
 
 make_archive() {
     local top=$work/$name
-    put_documents "$top"
+    put_files "$top" "$root" "${documents[@]}"
     install -m 755 "$program" "$top/uucpair"
     tar -C "$work" --sort=name --mtime="@$SOURCE_DATE_EPOCH" --owner=0 --group=0 --numeric-owner --format=gnu -c "$name" |
         gzip -9n >"$folder/$name.tar.gz"
@@ -65,7 +67,7 @@ Architecture: amd64
 Maintainer: $maintainer
 Installed-Size: $(du -sk --apparent-size "$top/usr" | cut -f 1)
 Depends: libc6 (>= $(needed_libc))
-Suggests: uucp, python3-serial, python3-pexpect
+Suggests: uucp, python3, python3-serial, python3-pexpect
 Section: comm
 Priority: optional
 Description: UUCP's g protocol: transfer, list and play sessions
@@ -73,7 +75,20 @@ Description: UUCP's g protocol: transfer, list and play sessions
  over a socket or a serial line, queues jobs for that, moves files between
  two folders, lists the packets in a stream of bytes, and plays sessions of
  two ends over a line that corrupts, drops and breaks as a script tells it to.
+ .
+ The command uucpair-replace-uucico has it take the place of the package uucp's
+ uucico, and give it back.
 CONTROL
+}
+
+# What dpkg runs before it removes the package, or puts a newer one in its place.
+write_prerm() {
+    cat <<'PRERM'
+#!/bin/sh
+# No removal leaves a system without a uucico. An upgrade changes nothing.
+set -e
+[ "$1" != remove ] || uucpair-replace-uucico --undo
+PRERM
 }
 
 # What Debian wants to know of a version, of the newest part of CHANGELOG.md.
@@ -99,16 +114,20 @@ COPYRIGHT
 make_package() {
     local top=$work/package
     local shared=$top/usr/share/doc/uucpair manual=$top/usr/share/man page
-    put_documents "$shared"
-    mkdir -p "$top/usr/bin" "$manual"/man{1,5} "$top/DEBIAN"
+    put_files "$shared" "$root" "${documents[@]}"
+    put_files "$top/usr/lib/uucpair" "$root/packaging" uucico uucp_site
+    mkdir -p "$top"/usr/{bin,sbin} "$manual"/man{1,5,8} "$top/DEBIAN"
     install -m 755 "$program" "$top/usr/bin/uucpair"
     strip "$top/usr/bin/uucpair"
-    for page in "$root"/docs/*.[15]; do
+    install -m 755 "$root/packaging/replace-uucico.sh" "$top/usr/sbin/uucpair-replace-uucico"
+    for page in "$root"/docs/*.[158]; do
         gzip -9n <"$page" >"$manual/man${page##*.}/${page##*/}.gz"
     done
     write_debian_changelog | gzip -9n >"$shared/changelog.gz"
     write_copyright >"$shared/copyright"
     write_control >"$top/DEBIAN/control"
+    write_prerm >"$top/DEBIAN/prerm"
+    chmod 755 "$top/DEBIAN/prerm"
     (cd "$top" && find usr -type f | sort | xargs md5sum) >"$top/DEBIAN/md5sums"
     as_of_commit "$top"
     dpkg-deb --root-owner-group -Zgzip -z9 -b "$top" "$folder/uucpair_${version}_amd64.deb" >/dev/null
