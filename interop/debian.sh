@@ -1,8 +1,8 @@
 #!/usr/bin/env bash
-# The lines of README that put the program in uucico's place on Debian, in a root that `debootstrap` makes anew. Then mail goes both
-# ways: a user of that machine, who is not uucp, queues one for beta by `uux`, which has it sent at once; and beta's uucico calls
-# the machine. Beta is Debian's package here, with its own settings. In the end uucico is put back. Needs root, and Debian's
-# packages (apt-get install debootstrap uucp socat). Run by hand:
+# The lines of README that put the program in uucico's place on Debian, with the package that tools/release.sh makes, in a root that
+# `debootstrap` makes anew. Then mail goes both ways: a user of that machine, who is not uucp, queues one for beta by `uux`, which
+# has it sent at once; and beta's uucico calls the machine. Beta is Debian's package here, with its own settings. In the end uucico
+# is put back. Needs root, and Debian's packages (apt-get install debootstrap uucp socat binutils). Run by hand:
 #     interop/debian.sh [PROGRAM]
 # PROGRAM is crates/uucpair/out/uucpair where none is named; libraries that it needs come with it. BASE is a folder with the root,
 # which is made where it is missing; MIRROR (http://deb.debian.org/debian) and SUITE (stable) are for that. It ends with status 1
@@ -48,13 +48,10 @@ make_machine() {
             mv "$base.part" "$base" || return 1
     fi
     cp -a "$base" "$machine" && mount -t proc proc "$machine/proc" && mount --bind /dev "$machine/dev" || return 1
-    install -m 755 "$program" "$machine/usr/bin/uucpair"
     for library in $(ldd "$program" | grep -o '/[^ ]*'); do
         [ -e "$machine$library" ] || install -D "$library" "$machine$library"
     done
-    mkdir "$machine/tmp/packaging"
-    cp -r "$root"/packaging/{uucico,uucp_site} "$machine/tmp/packaging"
-    there useradd joe
+    "$root/tools/release.sh" "$machine/tmp" "$program" && there useradd joe
 }
 
 # lines_of_readme: those of the section, but the last two, which queue a mail and look at what became of it
@@ -78,6 +75,12 @@ stand_in() {
         printf '#!/bin/sh\ncat >>/var/spool/uucppublic/mails\n' >"$machine/usr/$path/rmail"
         chmod 755 "$machine/usr/$path/rmail"
     done
+}
+
+# of_root: what root calls belongs to uucp, whom a file of root's would stop. Nobody answers yet.
+of_root() {
+    ! there uucico -D -r1 -s beta && there grep 'Connection refused' /var/log/uucp/Log || return 1
+    [ -z "$(find "$machine"/var/{spool,log}/uucp -user root)" ] && rm "$machine/var/spool/uucp/.Status/beta"
 }
 
 # make_beta: the other system, which `uucico` serves at the port
@@ -150,14 +153,21 @@ called() {
 }
 
 put_back() {
-    there rm -r /usr/lib/uucp/uucico /usr/lib/uucp/uucp_site && there dpkg-divert --rename --remove /usr/lib/uucp/uucico &&
-        there /usr/sbin/uucico --version | grep 'Taylor UUCP'
+    there uucpair-replace-uucico --undo && there uucico --version | grep 'Taylor UUCP' && is_as_packaged || return 1
+    there uucpair-replace-uucico && there uucico --version | grep uucpair || return 1
+    there apt-get -y remove uucpair && there uucico --version | grep 'Taylor UUCP' && is_as_packaged
+}
+
+# is_as_packaged: nothing of the package uucp has changed
+is_as_packaged() {
+    [ -z "$(there dpkg --verify uucp)" ] && [ "$(there stat -c '%a %U' /usr/lib/uucp/uucico)" = '6755 uucp' ]
 }
 
 port=$((20000 + RANDOM % 20000))
 back=$((port + 1))
 part "a fresh root" make_machine
 part "the lines of README" put_in_place
+part "a call of root" of_root
 make_beta
 part "mail of a user, and mail for one" of_joe
 part "what the programs of the package say" what_it_says

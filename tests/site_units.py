@@ -11,6 +11,7 @@ from __future__ import annotations
 
 import contextlib
 import os
+import pwd
 import socket
 import subprocess
 import sys
@@ -645,6 +646,17 @@ def rows_of_options(folder: Path) -> Iterator[Row]:
 def rows_of_program(folder: Path) -> Iterator[Row]:
     for user, login in ((0, "Ufar"), (program.owner_of_package(), "Ufar"), (54321, None)):
         yield f"-u of user {user}", program.forced_login("Ufar", user), login
+    uucp = pwd.getpwuid(program.owner_of_package())
+    groups = sorted(os.getgrouplist(uucp.pw_name, uucp.pw_gid))
+    yield "root goes on as uucp", ids_of_root(), f"{(uucp.pw_uid,) * 3} {(uucp.pw_gid,) * 3} {groups}\n"
+
+
+def ids_of_root() -> str:
+    """Returns the numbers with which root goes on, in a process of its own."""
+    shows = "print(os.getresuid(), os.getresgid(), sorted(os.getgroups()))"
+    text = f"import os; from uucp_site import program; program.become_uucp(); {shows}"
+    words = [sys.executable, "-B", "-c", text]
+    return subprocess.run(words, cwd=ROOT / "packaging", stdout=subprocess.PIPE, text=True, check=True).stdout
 
 
 def rows_of_calls(folder: Path) -> Iterator[Row]:

@@ -3,6 +3,7 @@ from __future__ import annotations
 
 import contextlib
 import os
+import pwd
 import sys
 import syslog
 from pathlib import Path
@@ -41,6 +42,7 @@ def keep_errors(path: Path) -> None:
 def run(words: list[str]) -> int:
     """Runs what these words ask for. Returns the status: 0 where all went well."""
     try:
+        become_uucp()
         return run_options(options_of(words))
     except SiteError as fault:
         complain(fault)
@@ -80,6 +82,20 @@ def owner_of_package() -> int:
         return os.stat(paths.UUXQT).st_uid
     except OSError:
         return 0
+
+
+def become_uucp() -> None:
+    """Has root go on as the user uucp, as a set-uid uucico does: what root wrote, uux and uucp could not write again."""
+    owner = owner_of_package()
+    if os.geteuid() != 0 or owner == 0:
+        return
+    try:
+        user = pwd.getpwuid(owner)
+        os.initgroups(user.pw_name, user.pw_gid)
+        os.setgid(user.pw_gid)
+        os.setuid(owner)
+    except (KeyError, OSError) as fault:
+        raise SiteError("uucico", "root can't become uucp here", "run it as that user") from fault
 
 
 def call(options: Options) -> int:
