@@ -203,9 +203,8 @@ there_and_back() {
         says "is uucpair's already" && is_replaced 1 &&
         says "is Taylor UUCP's again" --undo && is_taylors 1 &&
         says "is not uucpair's" --undo && is_taylors 1 || return 1
-    mkdir -p "$received" && touch "$received/D.1" && replace && replace --undo 2>&1 >/dev/null | grep 'empty /var/spool/uucp/.Received'
-    rm -r "$clean/var/spool"
-    is_taylors 1
+    mkdir -p "$received" && touch "$received/D.1" && replace || return 1
+    replace --undo 2>&1 >/dev/null | grep 'empty /var/spool/uucp/.Received' && rm -r "$clean/var/spool" && is_taylors 1
 }
 
 # An upgrade of either package changes nothing, and what comes back is the newer one.
