@@ -11,11 +11,12 @@ use Rattle.uug_line.specs.Told.{SpelledEnd, SpelledReport}
 use Rattle.uug_line.specs.Spelled.{spelled}
 use Rattle.uug_line.specs.WholeReport.{WholeReport}
 use Rattle.uug_line.specs.World.{report_of_world}
+use Rattle.uug_script.specs.declared.report.HeldFile.{HeldFile}
 use Rattle.uug_script.specs.declared.report.SessionNumbers.{SessionNumbers}
 use Rattle.uug_script.specs.IsScript.{IsScript}
 use Rattle.uug_script.specs.ReportText.{EndResult, RunResult, report_text}
 use Rattle.uug_script.specs.Script.{ScriptSays}
-use Rattle.uug_play.specs.Numbers.{session_numbers, end_result, result_of, status_of_result}
+use Rattle.uug_play.specs.Numbers.{session_numbers, held_files, end_result, result_of, status_of_result}
 use Rattle.uug_play.specs.Played.{setup_said, holdings_said, IsPlayed, IsPlayedVerbosely}
 use Rattle.uug_play.specs.Reasons.{given_by, holdings_in, reasons_text}
 use Rattle.uug_play.specs.Settled.{IsRunOfScript}
@@ -23,6 +24,11 @@ use Rattle.uug_play.specs.Settled.{IsRunOfScript}
 abbrev pub result_by : List SessionNumbers → EndResult → EndResult → LineVerdict → RunResult
 result_by sessions caller called verdict =
     record { sessions = sessions; caller = caller; called = called; verdict = verdict }
+
+-- an end's part, where what is shown as held is what it holds
+pub end_is : (shown : EndResult) (has : Belongings) (held : List HeldFile) → shown ≡ record (end_result has) { held = held } →
+    held ≡ held_files has.partials → shown ≡ end_result has
+end_is shown has held is h = is ∙ ap (λ (x : List HeldFile). record (end_result has) { held = x }) h
 
 -- each part of what is shown comes from the report
 pub result_is : (report : SpelledReport) (sessions : List SessionNumbers) (told : List (AtBoth SpelledEnd))

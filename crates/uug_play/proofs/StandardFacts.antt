@@ -7,6 +7,7 @@ use Rattle.uug_session.specs.declared.phase.Phase.{Phase}
 use Rattle.uug_session.specs.declared.phase.Phase.TheVariants.{Closing, Ended}
 use Rattle.uug_conversation.specs.Holdings.{Holdings, Kept, kept_file}
 use Rattle.uug_conversation.specs.MemoryHoldings.{holdings_of, no_holdings}
+use Rattle.uug_conversation.specs.Partial.{Partial}
 use Rattle.uug_conversation.specs.declared.side.Side.TheVariants.{Caller, Called}
 use Rattle.uug_line.specs.declared.verdict.LineVerdict.{LineVerdict}
 use Rattle.uug_line.specs.declared.verdict.LineVerdict.TheVariants.{Clean, Fooled}
@@ -14,6 +15,7 @@ use Rattle.uug_line.specs.Belongings.{Belongings}
 use Rattle.uug_line.specs.Told.{EndNow, SpelledEnd, SpelledReport}
 use Rattle.uug_conversation.specs.Sides.{AtBoth}
 use Rattle.uug_script.specs.ReportText.{RunResult}
+use Rattle.uug_script.specs.declared.report.HeldFile.{HeldFile}
 use Rattle.uug_talk.specs.Lines.{ended}
 use Rattle.uug_play.specs.declared.reasons.Reason.TheVariants.{NoFile, NoFileThere, Refused, NoPlace, NoPlaceThere, PutOff, Differs, Over, GoesOn}
 use Rattle.uug_play.specs.Numbers.{result_of, status_of_result}
@@ -41,12 +43,19 @@ job = Send (codes "x") (codes "y") (codes "u") None
 abbrev stored : List Kept
 stored = kept_file (codes "y") 420 [] ∷ []
 
+-- of a file of which six bytes were told
+abbrev cut_off : (source bytes : List ℕ) → Partial
+cut_off source bytes = record { key = record { source = source; told = record { size = 6; hash = [] } }; bytes = bytes }
+
+abbrev held : (name : List ℕ) → (size : ℕ) → HeldFile
+held name size = record { name = name; size = size }
+
 -- jobs that were skipped are pending, too
 abbrev some_jobs : Belongings
 some_jobs = record {
   lists = record { passed = job ∷ []; ahead = job ∷ job ∷ []; struck = job ∷ []; failed = job ∷ job ∷ [] };
   kept = [];
-  partials = None;
+  partials = Some (cut_off (codes "x") (codes "hello") ∷ cut_off (codes "D.1") [] ∷ []);
   number = Some 7;
 }
 
@@ -73,8 +82,8 @@ shown = record {
     caller = record { sent = 3; taken = 1; most = 5; phase = Closing };
     called = record { sent = 0; taken = 0; most = 0; phase = Ended HungUp };
   } ∷ [];
-  caller = record { pending = 3; struck = 1; failed = 2; stored = []; number = Some 7 };
-  called = record { pending = 0; struck = 0; failed = 0; stored = stored; number = None };
+  caller = record { pending = 3; struck = 1; failed = 2; stored = []; held = held (codes "x") 5 ∷ held (codes "D.1") 0 ∷ []; number = Some 7 };
+  called = record { pending = 0; struck = 0; failed = 0; stored = stored; held = []; number = None };
   verdict = Fooled 14 Called;
 }
 

@@ -1,13 +1,15 @@
 -- What is shown of a run, and how the program ends then (this project's profile).
-use Rattle.std.specs.Prelude.{ℕ, ◌-◌, Bool, false, List, length, map, slice_get, Option, Some, None, if◌then◌else◌, ◌&&◌}
+use Rattle.std.specs.Prelude.{ℕ, ◌-◌, Bool, false, List, [], length, map, slice_get, Option, Some, None, if◌then◌else◌, ◌&&◌}
 use Rattle.uug_conversation.specs.Jobs.{pending}
 use Rattle.uug_session.specs.Phases.{is_done}
 use Rattle.uug_line.specs.declared.verdict.LineVerdict.{LineVerdict}
 use Rattle.uug_line.specs.declared.verdict.LineVerdict.TheVariants.{Clean, Fooled}
 use Rattle.uug_line.specs.Belongings.{Belongings}
+use Rattle.uug_conversation.specs.Partial.{Partial}
 use Rattle.uug_conversation.specs.Sides.{AtBoth}
 use Rattle.uug_line.specs.Told.{SpelledEnd, SpelledReport}
 use Rattle.uug_script.specs.declared.report.EndNumbers.{EndNumbers}
+use Rattle.uug_script.specs.declared.report.HeldFile.{HeldFile}
 use Rattle.uug_script.specs.declared.report.SessionNumbers.{SessionNumbers}
 use Rattle.uug_script.specs.ReportText.{EndResult, RunResult}
 
@@ -18,13 +20,24 @@ end_numbers e = record { sent = length e.sent; taken = length e.taken; most = e.
 abbrev pub session_numbers : AtBoth SpelledEnd → SessionNumbers
 session_numbers s = record { caller = end_numbers s.at_caller; called = end_numbers s.at_called }
 
--- how many of an end's jobs are pending, done and given up, the files that it has stored, and the number that it keeps
+-- how many bytes have come of a file that was cut off, and its name at its giver
+abbrev pub held_file : Partial → HeldFile
+held_file p = record { name = p.key.source; size = length p.bytes }
+
+-- of an end that does not resume none
+abbrev pub held_files : Option (List Partial) → List HeldFile
+held_files None = []
+held_files (Some ps) = map held_file ps
+
+-- how many of an end's jobs are pending, done and given up, the files that it has stored, what it holds of others, and the number
+-- that it keeps
 abbrev pub end_result : Belongings → EndResult
 end_result b = record {
   pending = length (pending b.lists);
   struck = length b.lists.struck;
   failed = length b.lists.failed;
   stored = b.kept;
+  held = held_files b.partials;
   number = b.number;
 }
 

@@ -1,6 +1,7 @@
 //! Sessions played from a script: two ends over a noisy line, and the report of what they did.
 #![tactic(auto)]
 
+mod held;
 mod play;
 mod played;
 mod reasons;

@@ -9,11 +9,13 @@ ghost use Rattle.uug_play.specs.Played.{IsPlayed, IsPlayedVerbosely, IsScriptFau
 ghost use Rattle.uug_play.specs.Reasons.{holdings_in, reasons_text};
 ghost use Rattle.uug_play.specs.Settled.{IsRunOfScript};
 
+use crate::held::held_files;
 use crate::reasons::add_reasons;
 use std::alloc::{AllocError, Allocator};
 use uug_line::{EndReport, LineVerdict, Report, SessionReport, run};
 use uug_script::{
-    EndNumbers, ScriptFault, SessionNumbers, ShownEnd, ShownReport, add_report, read_script,
+    EndNumbers, HeldFile, ScriptFault, SessionNumbers, ShownEnd, ShownReport, add_report,
+    read_script,
 };
 use uug_session::{MemorySpool, Node};
 use uug_stream::ToolFault;
@@ -68,9 +70,12 @@ fn session_numbers<A: Allocator>(
     Ok(numbers)
 }
 
-/// Returns the numbers of an end's jobs, the files that it stored, and the number that it keeps.
-fn shown_end<A: Allocator + Copy>(node: &Node<MemorySpool<A>, A>) -> ShownEnd<'_, A>
-    ensures { end_shown result ≡ end_result (owned_by node.now) }
+/// Returns the numbers of an end's jobs, the files that it stored, these that it holds, and the number that it keeps.
+fn shown_end<'a, A: Allocator + Copy>(
+    node: &'a Node<MemorySpool<A>, A>,
+    held: &'a [HeldFile],
+) -> ShownEnd<'a, A>
+    ensures { end_shown result ≡ record (end_result (owned_by node.now)) { held = held.now } }
 {
     let queue = node.queue();
     ShownEnd {
@@ -78,6 +83,7 @@ fn shown_end<A: Allocator + Copy>(node: &Node<MemorySpool<A>, A>) -> ShownEnd<'_
         struck: queue.struck().len(),
         failed: queue.failed().len(),
         stored: node.spool().stored(),
+        held,
         number: node.number(),
     }
 }
@@ -102,11 +108,15 @@ pub fn shown<A: Allocator + Copy>(alloc: A, report: &Report<A>) -> Result<Played
     ensures status { IfOk result (λ played.
         played.status ≡ status_of_result (result_of report.now.told)) }
 {
+    let caller = report.caller();
+    let called = report.called();
     let sessions = session_numbers(alloc, report.sessions())?;
+    let caller_holds = held_files(alloc, caller)?;
+    let called_holds = held_files(alloc, called)?;
     let shown = ShownReport {
         sessions: &sessions,
-        caller: shown_end(report.caller()),
-        called: shown_end(report.called()),
+        caller: shown_end(caller, &caller_holds),
+        called: shown_end(called, &called_holds),
         verdict: report.verdict(),
     };
     let mut text = String::new(alloc);

@@ -1,11 +1,15 @@
 //! Tests of a player beyond the clauses: scripts and reports from outside, the phases of the ends, running out of
 //! memory, failing streams, and noisy lines.
 
+mod errands;
 mod faults;
 mod lent_ends;
+mod limits;
 mod memory;
 mod noisy_lines;
+mod numbers;
 mod reports;
+mod resumed_lists;
 mod settled;
 
 /// The caller sends a file. The line breaks after the called end has stored it and before the caller knows.

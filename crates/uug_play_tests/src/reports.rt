@@ -47,6 +47,7 @@ fn shown<A: Allocator>(struck: usize, stored: &[Stored<A>]) -> ShownEnd<'_, A> {
         struck,
         failed: 0,
         stored,
+        held: &[],
         number: None,
     }
 }

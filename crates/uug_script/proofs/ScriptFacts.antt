@@ -17,7 +17,7 @@ use Rattle.uug_script.specs.declared.field.Field.TheVariants as fields
 use Rattle.uug_script.specs.Complaints.{missing, too_many, unknown, wrong}
 use Rattle.uug_script.specs.Meaning.{digest, resume, event, lenient, limit, number, of_end, quiet, short}
 use Rattle.uug_script.specs.ReadLine.{line_of}
-use Rattle.uug_script.specs.ReportText.{RunResult, report_text, stored_line, verdict_line}
+use Rattle.uug_script.specs.ReportText.{RunResult, report_text, stored_line, held_text, verdict_line}
 use Rattle.uug_script.specs.Script.{ScriptSays, flow_events}
 use Rattle.uug_script.specs.ScriptOf.{script_of}
 
@@ -155,8 +155,8 @@ numbers sent taken = record { sent = sent; taken = taken; most = 1; phase = Ende
 abbrev done : RunResult
 done = record {
   sessions = record { caller = numbers 4 3; called = numbers 3 4 } ∷ [];
-  caller = record { pending = 0; struck = 1; failed = 0; stored = []; number = None };
-  called = record { pending = 0; struck = 0; failed = 0; stored = kept_file (codes "y") 420 [] ∷ []; number = None };
+  caller = record { pending = 0; struck = 1; failed = 0; stored = []; held = []; number = None };
+  called = record { pending = 0; struck = 0; failed = 0; stored = kept_file (codes "y") 420 [] ∷ []; held = []; number = None };
   verdict = Clean;
 }
 
@@ -172,7 +172,7 @@ a_report = refl
 
 abbrev done_by_number : RunResult
 done_by_number = record done {
-  caller = record { pending = 0; struck = 1; failed = 0; stored = []; number = Some 8 };
+  caller = record { pending = 0; struck = 1; failed = 0; stored = []; held = []; number = Some 8 };
 }
 
 numbered_report : report_text done_by_number
@@ -190,3 +190,8 @@ fooled = refl
 a_stored_file : stored_line Called (kept_file (codes "y") 7 (0 ∷ 171 ∷ [])) ≡ ended (codes "called stored y 0007 00ab")
 unfolding hex_on_literals
 a_stored_file = refl
+
+some_held : held_text Called (record { name = codes "x"; size = 5 } ∷ record { name = codes "D.1"; size = 0 } ∷ [])
+    ≡ ended (codes "called holds x 5") ++ ended (codes "called holds D.1 0")
+unfolding digits
+some_held = refl

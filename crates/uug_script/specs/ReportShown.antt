@@ -11,6 +11,7 @@ end_shown e = record {
   struck = e.struck;
   failed = e.failed;
   stored = map kept_of e.stored.now;
+  held = e.held.now;
   number = e.number;
 }
 

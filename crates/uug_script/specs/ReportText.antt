@@ -6,6 +6,7 @@ use Rattle.uug_conversation.specs.Holdings.{Kept}
 use Rattle.uug_talk.specs.Mode.{mode_digits}
 use Rattle.uug_talk.specs.Lines.{ended}
 use Rattle.uug_script.specs.declared.report.EndNumbers.{EndNumbers}
+use Rattle.uug_script.specs.declared.report.HeldFile.{HeldFile}
 use Rattle.uug_script.specs.declared.report.SessionNumbers.{SessionNumbers}
 use Rattle.uug_conversation.specs.declared.side.Side.{Side}
 use Rattle.uug_conversation.specs.declared.side.Side.TheVariants.{Caller, Called}
@@ -13,13 +14,14 @@ use Rattle.uug_line.specs.declared.verdict.LineVerdict.{LineVerdict}
 use Rattle.uug_line.specs.declared.verdict.LineVerdict.TheVariants.{Clean, Fooled}
 use Rattle.uug_session.specs.PhaseWords.{phase_word, side_word}
 
--- what became of an end's jobs, how many of each, the files that it has stored, in order, and the number of its next
--- conversation, where it keeps one
+-- what became of an end's jobs, how many of each, the files that it has stored, in order, what it holds of files that were cut
+-- off, where it resumes, and the number of its next conversation, where it keeps one
 pub record EndResult : Type 0 where
   pub pending : ℕ
   pub struck : ℕ
   pub failed : ℕ
   pub stored : List Kept
+  pub held : List HeldFile
   pub number : Option ℕ
 
 pub record RunResult : Type 0 where
@@ -62,6 +64,14 @@ abbrev pub stored_text : Side → List Kept → List ℕ
 stored_text side [] = []
 stored_text side (f ∷ more) = stored_line side f ++ stored_text side more
 
+-- SIDE holds NAME BYTES
+abbrev pub held_line : Side → HeldFile → List ℕ
+held_line side f = ended (side_word side ++ codes " holds " ++ f.name ++ codes " " ++ decimal f.size)
+
+abbrev pub held_text : Side → List HeldFile → List ℕ
+held_text side [] = []
+held_text side (f ∷ more) = held_line side f ++ held_text side more
+
 -- SIDE number N, where a number is kept
 abbrev pub number_line : Side → Option ℕ → List ℕ
 number_line side None = []
@@ -76,4 +86,5 @@ abbrev pub report_text : RunResult → List ℕ
 report_text r =
     sessions_text 1 r.sessions ++ jobs_line Caller r.caller ++ jobs_line Called r.called
     ++ stored_text Caller r.caller.stored ++ stored_text Called r.called.stored
+    ++ held_text Caller r.caller.held ++ held_text Called r.called.held
     ++ number_line Caller r.caller.number ++ number_line Called r.called.number ++ verdict_line r.verdict

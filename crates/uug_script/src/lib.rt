@@ -19,5 +19,5 @@ pub use fault::ScriptFault;
 pub use job_words::add_job_words;
 pub use line::{BYTES_MAX, TURNS_MAX};
 pub use remark::script_remark;
-pub use report::{EndNumbers, SessionNumbers, ShownEnd, ShownReport, add_report};
+pub use report::{EndNumbers, HeldFile, SessionNumbers, ShownEnd, ShownReport, add_report};
 pub use script::{Script, read_script};

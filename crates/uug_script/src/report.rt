@@ -3,13 +3,13 @@ ghost use Rattle.std.specs.Prelude.{◌≡◌, ◌≤◌, ◌++◌, OnErr, OnOk,
 ghost use Rattle.uug_conversation.specs.MemoryHoldings.{kept_of};
 ghost use Rattle.uug_talk.specs.Mode.{mode_digits};
 ghost use Rattle.uug_session.specs.PhaseWords.{side_word, end_word, phase_word};
-ghost use Rattle.uug_script.specs.ReportText.{end_line, session_text, sessions_text, jobs_line, hex_text, stored_line, stored_text, number_line, verdict_line, report_text};
+ghost use Rattle.uug_script.specs.ReportText.{end_line, session_text, sessions_text, jobs_line, hex_text, stored_line, stored_text, held_line, held_text, number_line, verdict_line, report_text};
 ghost use Rattle.uug_script.specs.ReportShown.{end_shown, report_shown};
 
 use std::alloc::{AllocError, Allocator};
 use uug_line::{LineVerdict, Side};
 use uug_session::{Phase, Stored, phase_word, side_word};
-use uug_talk::mode_digits;
+use uug_talk::{Name, mode_digits};
 
 /// The counts of one end in one session.
 #[derive(Clone, Copy, Debug)]
@@ -33,7 +33,17 @@ pub struct SessionNumbers {
     pub called: EndNumbers,
 }
 
-/// The numbers of an end's jobs, the files that it has stored, in order, and the number that it keeps.
+/// The count of the first bytes of a file that was cut off.
+#[derive(Clone, Copy)]
+pub struct HeldFile {
+    /// The file's name at its giver.
+    pub name: Name,
+    /// The number of its bytes that have come.
+    pub size: usize,
+}
+
+/// The numbers of an end's jobs, the files that it has stored, in order, what it holds of others, and the number that it
+/// keeps.
 #[derive(Drop)]
 pub struct ShownEnd<'a, A: Allocator> {
     /// The number of pending jobs.
@@ -44,6 +54,8 @@ pub struct ShownEnd<'a, A: Allocator> {
     pub failed: usize,
     /// The stored files.
     pub stored: &'a [Stored<A>],
+    /// The files that were cut off and that it resumes.
+    pub held: &'a [HeldFile],
     /// The number of its next conversation, if it keeps one.
     pub number: Option<u32>,
 }
@@ -178,6 +190,36 @@ fn add_stored<A: Allocator + Copy, B: Allocator>(
     Ok(())
 }
 
+/// Appends the line of a file that was cut off.
+fn add_held_line<A: Allocator>(
+    text: &mut String<A>,
+    side: Side,
+    file: &HeldFile,
+) -> Result<(), AllocError>
+    ensures { OnOk result
+        (string_bytes text.new ≡ string_bytes text.old ++ held_line side file.now) }
+{
+    let side = side_word(side);
+    let name = file.name.as_str();
+    let size = file.size;
+    write!(text, "{side} holds {name} {size}\n")
+}
+
+/// Appends the lines of the files that were cut off.
+fn add_held<A: Allocator>(
+    text: &mut String<A>,
+    side: Side,
+    files: &[HeldFile],
+) -> Result<(), AllocError>
+    ensures { OnOk result
+        (string_bytes text.new ≡ string_bytes text.old ++ held_text side files.now) }
+{
+    for file in files {
+        add_held_line(text, side, file)?;
+    }
+    Ok(())
+}
+
 /// Appends the line of an end's number, if it keeps one.
 fn add_number_line<A: Allocator>(
     text: &mut String<A>,
@@ -211,7 +253,7 @@ fn add_verdict_line<A: Allocator>(
 }
 
 /// Returns the text of a report: the sessions, then the jobs of the caller and of the called end, then the files that
-/// they stored, then the numbers that they keep, and last the verdict.
+/// they stored, then what they hold of files that were cut off, then the numbers that they keep, and last the verdict.
 fn report_text<A: Allocator + Copy, B: Allocator>(
     alloc: A,
     report: &ShownReport<'_, B>,
@@ -224,6 +266,8 @@ fn report_text<A: Allocator + Copy, B: Allocator>(
     add_jobs_line(&mut text, Side::Called, &report.called)?;
     add_stored(alloc, &mut text, Side::Caller, report.caller.stored)?;
     add_stored(alloc, &mut text, Side::Called, report.called.stored)?;
+    add_held(&mut text, Side::Caller, report.caller.held)?;
+    add_held(&mut text, Side::Called, report.called.held)?;
     add_number_line(&mut text, Side::Caller, report.caller.number)?;
     add_number_line(&mut text, Side::Called, report.called.number)?;
     add_verdict_line(&mut text, report.verdict)?;

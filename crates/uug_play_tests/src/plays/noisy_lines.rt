@@ -1,7 +1,7 @@
 //! Checks what an end may count on over any line, in reports of noisy lines.
-ghost use Rattle.std.specs.Prelude.{◌<◌};
 ghost use Rattle.uug_line.specs.Settled.{CanSettle};
 
+use super::numbers::Numbers;
 use crate::assertions::assert_so_at;
 use std::alloc::Global;
 use std::process::Abort;
@@ -36,26 +36,7 @@ const JOBS: &str = "file caller x 0600 -\n\
     send caller x first u\nsend caller y second u\nrequest caller p third u\nsend caller y fourth u\n\
     immovable called fourth\nsend called p fifth u\nrequest called y sixth u\n";
 
-/// Numbers without a plain order, which are always the same from the same start.
-#[derive(Drop)]
-struct Numbers {
-    state: u32,
-}
-
 impl Numbers {
-    /// The next one, below this bound.
-    fn below(&mut self, bound: u32) -> u32
-        requires { 0 < bound }
-        ensures { result < bound }
-    {
-        self.state = self.state.wrapping_mul(1_103_515_245).wrapping_add(12_345);
-        (self.state >> 16) % bound
-    }
-
-    fn byte(&mut self) -> u8 {
-        self.below(256) as u8
-    }
-
     /// Mostly bytes that come, among them losses, damage, waiting and breaks.
     fn event(&mut self) -> Event {
         let side = if self.below(2) == 0 {

@@ -19,7 +19,7 @@ const GIVEN_UP: &str =
     caller pending 0 struck 0 failed 1\ncalled pending 0 struck 0 failed 0\nverdict clean\n";
 
 /// Scripts, the reports of what they say, and the statuses.
-const SCRIPTS: [(&str, &str, u8); 19] = [
+const SCRIPTS: [(&str, &str, u8); 22] = [
     (
         "caller a 2 32\ncalled b 2 32\nfile caller x 0644 -\nsend caller x y u\nflow 20\n",
         SENT,
@@ -155,6 +155,45 @@ const SCRIPTS: [(&str, &str, u8); 19] = [
          session 2\ncaller sent 0 taken 0 most 0 badsequence\ncalled sent 0 taken 0 most 0 badsequence\n\
          caller pending 1 struck 0 failed 0\ncalled pending 0 struck 0 failed 0\n\
          caller number 7\ncalled number 8\nverdict clean\n",
+        1,
+    ),
+    // the called end holds what came of a file, and of the next one, even once the first came whole
+    (
+        "caller a 2 32\ncalled b 2 32\ndigest caller\nresume called\nfile caller x 0644 \
+         0707070707070707070707070707070707070707070707070707070707070707\
+         0707070707070707070707070707070707070707070707070707070707070707\
+         070707070707\nsend caller x y u\nflow 8\n",
+        "session 1\ncaller sent 8 taken 1 most 2 talking\ncalled sent 1 taken 6 most 1 talking\n\
+         caller pending 1 struck 0 failed 0\ncalled pending 0 struck 0 failed 0\n\
+         called holds x 64\nverdict clean\n",
+        1,
+    ),
+    (
+        "caller a 2 32\ncalled b 2 32\ndigest caller\nresume called\nfile caller x 0644 \
+         0707070707070707070707070707070707070707070707070707070707070707\
+         0707070707070707070707070707070707070707070707070707070707070707\
+         070707070707\nsend caller x y u\nfile caller z 0644 \
+         0707070707070707070707070707070707070707070707070707070707070707\
+         0707070707070707070707070707070707070707070707070707070707070707\
+         070707070707\nsend caller z w u\nflow 8\ncall\nflow 11\n",
+        "session 1\ncaller sent 8 taken 1 most 2 hungup\ncalled sent 1 taken 6 most 1 hungup\n\
+         session 2\ncaller sent 14 taken 3 most 2 talking\ncalled sent 3 taken 12 most 1 talking\n\
+         caller pending 1 struck 1 failed 0\ncalled pending 0 struck 0 failed 0\n\
+         called stored y 0644 \
+         0707070707070707070707070707070707070707070707070707070707070707\
+         0707070707070707070707070707070707070707070707070707070707070707\
+         070707070707\n\
+         called holds x 64\ncalled holds z 64\nverdict clean\n",
+        1,
+    ),
+    // of an end that does not resume it is not shown
+    (
+        "caller a 2 32\ncalled b 2 32\ndigest caller\ndigest called\nfile caller x 0644 \
+         0707070707070707070707070707070707070707070707070707070707070707\
+         0707070707070707070707070707070707070707070707070707070707070707\
+         070707070707\nsend caller x y u\nflow 8\n",
+        "session 1\ncaller sent 8 taken 1 most 2 talking\ncalled sent 1 taken 6 most 1 talking\n\
+         caller pending 1 struck 0 failed 0\ncalled pending 0 struck 0 failed 0\nverdict clean\n",
         1,
     ),
     (
