@@ -1,4 +1,4 @@
-//! How fast a file goes.
+//! The rate at which a file goes.
 ghost use Rattle.std.specs.Prelude.{◌≡◌, ◌-◌};
 ghost use Rattle.uug_follow.specs.Paces.{pace_after, pace_from, percent, rate};
 

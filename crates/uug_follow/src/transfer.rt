@@ -58,7 +58,7 @@ pub enum Outcome {
     Differs,
 }
 
-/// What becomes of a job.
+/// Reports what becomes of a job.
 #[derive(Clone, Copy, Debug, PartialEq, Eq)]
 pub enum News {
     Begins(Transfer),
@@ -68,7 +68,7 @@ pub enum News {
     Ends(Transfer, Outcome, u64),
 }
 
-/// How far the file of a job is.
+/// Tells how far the file of a job is.
 #[derive(Clone, Copy)]
 pub struct FileProgress {
     pub job: Transfer,

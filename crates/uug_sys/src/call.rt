@@ -427,12 +427,15 @@ fn told<A: Allocator + Copy, R: System>(
 ) -> Outcome<u8, A>
     ensures answer { result.answer ≡ status_of ended.answer }
 {
-    let Outcome { answer, mut remark } = ended;
+    let Outcome { answer, remark } = ended;
     let (answer, failure) = status_and_failure(answer, line);
     log_failure(run.alloc, run.rt, run.task, &failure);
     let (line, dir) = (run.task.line, run.task.dir);
-    add_part(&mut remark, failure_remark(run.alloc, line, dir, failure));
-    Outcome { answer, remark }
+    let failed = failure_remark(run.alloc, line, dir, failure);
+    Outcome {
+        answer,
+        remark: with_part(remark, failed),
+    }
 }
 
 /// Returns the status of a session that was not given up, and the failed call of the system that is the reason why it is
@@ -579,21 +582,21 @@ fn remark_on<A: Allocator + Copy, R, S: Spool>(
     let (alloc, task) = (run.alloc, run.task);
     let (phase, queue) = (node.phase(), node.queue());
     let (failed, pending) = (queue.failed(), queue.pending());
-    let mut remark = String::new(alloc);
     let given_up = failed_remark(alloc, task.dir, large, node.spool(), failed);
-    add_part(&mut remark, given_up);
+    let remark = with_part(String::new(alloc), given_up);
     let put_off = put_off_remark(alloc, phase, task.tells_digests, pending);
-    add_part(&mut remark, put_off);
+    let remark = with_part(remark, put_off);
     let differ = numbers_remark(alloc, phase, numbers.begins, numbers.heard);
-    add_part(&mut remark, differ);
-    remark
+    with_part(remark, differ)
 }
 
-/// Appends a part of a remark, if there is memory for it.
-fn add_part<A: Allocator>(remark: &mut String<A>, part: Result<String<A>, AllocError>) {
+/// Returns a remark with this part behind it, if there is memory for it.
+fn with_part<A: Allocator>(remark: String<A>, part: Result<String<A>, AllocError>) -> String<A> {
+    let mut remark = remark;
     if let Ok(part) = part {
         let _ = remark.push_str(part.as_str());
     }
+    remark
 }
 
 /// Returns the answer of a session, which is 1 if it counts as one that is not done.

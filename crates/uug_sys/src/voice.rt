@@ -23,7 +23,7 @@ pub(crate) struct Voice<'a, R, A: Allocator> {
     since: Option<Instant>,
     /// The second of the session in which the current job began.
     begun: u64,
-    /// How fast its file goes.
+    /// The rate at which its file goes.
     pace: Pace,
     /// The second of the session in which the job's line of progress was last written, if that is still seen.
     shown: Option<u64>,
