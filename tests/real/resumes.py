@@ -84,18 +84,26 @@ def job_lines(ended):
     return [re.sub(r"\b\d+ s\b", "N s", line) for line in ended.err.splitlines() if re.search(r" s: (peer's )?send ", line)]
 
 
+def file_lines(log):
+    """Returns the lines of a log on files, without their heads."""
+    lines = [re.sub(r"^\S+ \S+ \S+ \([^)]*\) ", "", line) for line in text_of(log).splitlines()]
+    return [line for line in lines if line.startswith(("Sending ", "Receiving "))]
+
+
 @scene()
 def where_a_file_goes_on(one):
-    """With -v both ends say from which byte on a file is sent, and in the end how many bytes passed in this session."""
+    """With -v both ends say from which byte on a file is sent, and in the end how many bytes passed in this session. So do their logs."""
     ends = ends_with(one, long=filler("long", 9000))
     caller, called, _ = cut(one, ends, 5000, call=["-v"], answer=["-v"])
     one.row("a file that is cut off", (job_lines(caller), job_lines(called)),
             (["uucpair: N s: send long long"], ["uucpair: N s: peer's send long long"]))
     (start,) = (size for _, size in held(ends, "beta").values())
-    caller, called = ends.talk(call=["-v"], answer=["-v"])
+    caller, called = ends.talk(call=["-v", "--log", "alpha/log"], answer=["-v", "--log", "beta/log"])
     for who, ended, whose in (("who calls", caller, ""), ("who is called", called, "peer's ")):
         job = f"uucpair: N s: {whose}send long long"
         one.row(f"what the end says {who}", job_lines(ended), [job, f"{job}: resumed at {start}", f"{job}: done {9000 - start} bytes in N s"])
+    for name, verb in (("alpha", "Sending"), ("beta", "Receiving")):
+        one.row(f"the log of {name}", file_lines(ends.at(name, "log")), [f"{verb} long (resume at {start})", f"{verb} long ({9000 - start} bytes)"])
 
 
 def seen_at_a_terminal(one, ends, rate):
@@ -370,6 +378,9 @@ def a_file_that_is_cut_off_over_a_spool(one):
             passed, sessions = passed + cable.passed, sessions + 1
             if sessions == 1:
                 one.row(f"what is held of {giver}", names_in(nodes.at(taker, f"spool/.Partial/{giver}")), [digest(text)])
+        for node, verb, name in ((giver, "Sending", "~/src"), (taker, "Receiving", "~/came")):
+            goes_on = [line for line in file_lines(nodes.at(node, "Log")) if "resume at" in line]
+            one.holds(f"the log of {node} says where it goes on", goes_on and all(line.startswith(f"{verb} {name} (resume at ") for line in goes_on), goes_on)
         one.holds(f"each byte of {giver} passes once", passed <= 1.3 * len(text), (passed, sessions))
         one.row(f"it comes, from {giver}", (text_of(nodes.at(taker, "pub/came")) == text, names_in(nodes.at(taker, f"spool/.Partial/{giver}"))), (True, []))
         for node in nodes.names:

@@ -54,8 +54,11 @@ ours = record { way = Out; wish = Send; source = codes "x"; target = codes "y" }
 abbrev theirs : Transfer
 theirs = record { way = In; wish = Request; source = codes "~/q"; target = codes "q" }
 
+abbrev repeated : Transfer → (position : ℕ) → (size : Option ℕ) → (repeats : ℕ) → FileProgress
+repeated job position size repeats = record { job = job; position = position; size = size; repeats = repeats }
+
 abbrev so_far : Transfer → (position : ℕ) → (size : Option ℕ) → FileProgress
-so_far job position size = record { job = job; position = position; size = size }
+so_far job position size = repeated job position size 0
 
 abbrev long : Transfer
 long = record { way = In; wish = Request; source = codes "~/backup-of-monday.tar"; target = codes "q" }
@@ -69,6 +72,8 @@ record AreLines : Type 0 where
   goes_on : progress_line 95 118 (so_far ours 30720 (Some 60000))
       ≡ codes "uucpair: 95 s: send x: 30720 of 60000 bytes, 51%, 118 B/s, 248 s left"
   stands : progress_line 95 0 (so_far ours 30720 (Some 60000)) ≡ codes "uucpair: 95 s: send x: 30720 of 60000 bytes, 51%, 0 B/s"
+  goes_badly : progress_line 95 118 (repeated ours 30720 (Some 60000) 3)
+      ≡ codes "uucpair: 95 s: send x: 51%, 118 B/s, 248 s left, 3 repeats"
   of_no_size : progress_line 5 32 (so_far ours 64 None) ≡ codes "uucpair: 5 s: send x: 64 bytes, 32 B/s"
   of_long_name : progress_line 95 118 (so_far long 30720 (Some 60000))
       ≡ codes "uucpair: 95 s: peer's request ~/backup-of-monday.tar: 51%, 118 B/s, 248 s left"
@@ -84,6 +89,7 @@ lines = record {
   resumes = refl;
   goes_on = refl;
   stands = refl;
+  goes_badly = refl;
   of_no_size = refl;
   of_long_name = refl;
   all = refl;

@@ -64,26 +64,34 @@ news_line seconds took (Ends job outcome bytes) = end_line seconds took job outc
 abbrev pub left_words : (rest rate : ℕ) → List ℕ
 left_words rest rate = if rate == 0 then [] else codes ", " ++ decimal (rest / rate) ++ codes " s left"
 
-abbrev pub pace_words : (rate position size : ℕ) → List ℕ
-pace_words rate position size =
-    decimal (percent position size) ++ codes "%, " ++ decimal rate ++ codes " B/s" ++ left_words (size - position) rate
+-- how often a packet was repeated, if one was
+abbrev pub repeat_words : ℕ → List ℕ
+repeat_words repeats = if repeats == 0 then [] else codes ", " ++ decimal repeats ++ codes " repeats"
+
+abbrev pub pace_words : (rate position size repeats : ℕ) → List ℕ
+pace_words rate position size repeats =
+    decimal (percent position size) ++ codes "%, " ++ decimal rate ++ codes " B/s" ++ left_words (size - position) rate ++ repeat_words repeats
 
 -- the longer of two lines, where a terminal has room for it
 abbrev pub fitting : (long short : List ℕ) → List ℕ
 fitting long short = if nat_lt (length long) COLUMNS then long else short
 
-abbrev pub sized_line : (words : List ℕ) → (rate position size : ℕ) → List ℕ
-sized_line words rate position size = fitting
-    (words ++ codes ": " ++ decimal position ++ codes " of " ++ decimal size ++ codes " bytes, " ++ pace_words rate position size)
-    (words ++ codes ": " ++ pace_words rate position size)
+abbrev pub sized_line : (words : List ℕ) → (rate position size repeats : ℕ) → List ℕ
+sized_line words rate position size repeats = fitting
+    (words ++ codes ": " ++ decimal position ++ codes " of " ++ decimal size ++ codes " bytes, " ++ pace_words rate position size repeats)
+    (words ++ codes ": " ++ pace_words rate position size repeats)
 
-abbrev pub file_line : (words : List ℕ) → (rate position : ℕ) → (size : Option ℕ) → List ℕ
-file_line words rate position None = words ++ codes ": " ++ decimal position ++ codes " bytes, " ++ decimal rate ++ codes " B/s"
-file_line words rate position (Some size) = sized_line words rate position size
+abbrev pub unsized_line : (words : List ℕ) → (rate position repeats : ℕ) → List ℕ
+unsized_line words rate position repeats =
+    words ++ codes ": " ++ decimal position ++ codes " bytes, " ++ decimal rate ++ codes " B/s" ++ repeat_words repeats
+
+abbrev pub file_line : (words : List ℕ) → (rate position : ℕ) → (size : Option ℕ) → (repeats : ℕ) → List ℕ
+file_line words rate position None repeats = unsized_line words rate position repeats
+file_line words rate position (Some size) repeats = sized_line words rate position size repeats
 
 -- how far the file of a job is in this second, and the bytes a second at which it goes
 abbrev pub progress_line : (seconds rate : ℕ) → FileProgress → List ℕ
-progress_line seconds rate p = file_line (job_words seconds p.job) rate p.position p.size
+progress_line seconds rate p = file_line (job_words seconds p.job) rate p.position p.size p.repeats
 
 abbrev pub lost_words : Counts → List ℕ
 lost_words counts =

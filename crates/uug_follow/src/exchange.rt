@@ -42,13 +42,19 @@ impl Exchange {
         }
     }
 
-    /// Returns how far the file of the present job is.
-    pub(crate) fn progress(&self) -> Option<FileProgress> {
-        Some(FileProgress {
-            job: self.job?,
-            position: self.bytes.saturating_add(u64::from(self.start)),
-            size: self.told.map(|told| told.size),
-        })
+    /// Returns the present job.
+    pub(crate) fn job(&self) -> Option<Transfer> {
+        self.job
+    }
+
+    /// Returns how many bytes of its file have passed, in this session and before.
+    pub(crate) fn position(&self) -> u64 {
+        self.bytes.saturating_add(u64::from(self.start))
+    }
+
+    /// Returns the announced size of its file.
+    pub(crate) fn size(&self) -> Option<u32> {
+        self.told.map(|told| told.size)
     }
 
     /// Returns whether a file goes this way now: the next message is a part of it.

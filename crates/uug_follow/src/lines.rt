@@ -1,8 +1,8 @@
 //! The lines that report a job, the progress of its file, and losses.
 ghost use Rattle.std.specs.Prelude.{◌≡◌, IfOk, string_bytes};
-ghost use Rattle.uug_follow.specs.Lines.{begin_line, counts_line, end_line, file_line, job_line, job_words};
-ghost use Rattle.uug_follow.specs.Lines.{left_words, lost_words, news_line, outcome_word, outcome_words, pace_words};
-ghost use Rattle.uug_follow.specs.Lines.{progress_line, resume_line, resumed_words, sized_line, whose, wish_word};
+ghost use Rattle.uug_follow.specs.Lines.{begin_line, counts_line, end_line, job_line, job_words, left_words};
+ghost use Rattle.uug_follow.specs.Lines.{lost_words, news_line, outcome_word, outcome_words, pace_words, progress_line};
+ghost use Rattle.uug_follow.specs.Lines.{repeat_words, resume_line, resumed_words, sized_line, unsized_line, whose, wish_word};
 
 use crate::pace::percent;
 use crate::passed::Counts;
@@ -131,32 +131,26 @@ pub fn progress_line<A: Allocator + Copy>(
     ensures { IfOk result (λ line. string_bytes line ≡ progress_line seconds rate progress.now) }
 {
     let words = job_words(alloc, seconds, &progress.job)?;
-    file_line(
-        alloc,
-        words.as_str(),
-        rate,
-        progress.position,
-        progress.size,
-    )
+    match progress.size {
+        Some(size) => sized_line(alloc, words.as_str(), rate, progress, size),
+        None => unsized_line(alloc, words.as_str(), rate, progress),
+    }
 }
 
-/// Returns the line of a file, whose size may be announced.
-fn file_line<A: Allocator + Copy>(
+/// Returns the line of a file whose size isn't known.
+fn unsized_line<A: Allocator + Copy>(
     alloc: A,
     words: &str,
     rate: u64,
-    position: u64,
-    size: Option<u32>,
+    progress: &FileProgress,
 ) -> Result<String<A>, AllocError>
-    ensures { IfOk result (λ line. string_bytes line ≡ file_line words.now rate position size) }
+    ensures { IfOk result (λ line. string_bytes line
+        ≡ unsized_line words.now rate progress.now.position progress.now.repeats) }
 {
-    match size {
-        Some(size) => sized_line(alloc, words, rate, position, size),
-        None => {
-            let line = format!(in alloc; "{words}: {position} bytes, {rate} B/s")?;
-            Ok(line)
-        }
-    }
+    let again = repeat_words(alloc, progress.repeats)?;
+    let (position, again) = (progress.position, again.as_str());
+    let line = format!(in alloc; "{words}: {position} bytes, {rate} B/s{again}")?;
+    Ok(line)
 }
 
 /// Returns the line of a file of this size: without the bytes, where it would be too long with them.
@@ -164,14 +158,14 @@ fn sized_line<A: Allocator + Copy>(
     alloc: A,
     words: &str,
     rate: u64,
-    position: u64,
+    progress: &FileProgress,
     size: u32,
 ) -> Result<String<A>, AllocError>
     ensures { IfOk result (λ line. string_bytes line
-        ≡ sized_line words.now rate position size) }
+        ≡ sized_line words.now rate progress.now.position size progress.now.repeats) }
 {
-    let pace = pace_words(alloc, rate, position, size)?;
-    let pace = pace.as_str();
+    let pace = pace_words(alloc, rate, progress, size)?;
+    let (position, pace) = (progress.position, pace.as_str());
     let line = format!(in alloc; "{words}: {position} of {size} bytes, {pace}")?;
     if line.len() < COLUMNS {
         return Ok(line);
@@ -180,19 +174,33 @@ fn sized_line<A: Allocator + Copy>(
     Ok(short)
 }
 
-/// Returns the part of a file that has passed, and how fast it goes.
+/// Returns the part of a file that has passed, how fast it goes, and how often a packet was repeated.
 fn pace_words<A: Allocator + Copy>(
     alloc: A,
     rate: u64,
-    position: u64,
+    progress: &FileProgress,
     size: u32,
 ) -> Result<String<A>, AllocError>
-    ensures { IfOk result (λ words. string_bytes words ≡ pace_words rate position size) }
+    ensures { IfOk result (λ words. string_bytes words
+        ≡ pace_words rate progress.now.position size progress.now.repeats) }
 {
+    let position = progress.position;
     let percent = percent(position, size);
     let left = left_words(alloc, u64::from(size).saturating_sub(position), rate)?;
-    let left = left.as_str();
-    let words = format!(in alloc; "{percent}%, {rate} B/s{left}")?;
+    let again = repeat_words(alloc, progress.repeats)?;
+    let (left, again) = (left.as_str(), again.as_str());
+    let words = format!(in alloc; "{percent}%, {rate} B/s{left}{again}")?;
+    Ok(words)
+}
+
+/// Returns how often a packet was repeated: nothing if none was.
+fn repeat_words<A: Allocator + Copy>(alloc: A, repeats: u64) -> Result<String<A>, AllocError>
+    ensures { IfOk result (λ words. string_bytes words ≡ repeat_words repeats) }
+{
+    if repeats == 0 {
+        return Ok(String::new(alloc));
+    }
+    let words = format!(in alloc; ", {repeats} repeats")?;
     Ok(words)
 }
 

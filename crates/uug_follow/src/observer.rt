@@ -100,7 +100,14 @@ impl<A: Allocator + Copy> Observer<A> {
 
     /// Returns how far the file of the present job is.
     pub fn progress(&self) -> Option<FileProgress> {
-        self.exchange.progress()
+        let job = self.exchange.job()?;
+        let way = job.file_way();
+        Some(FileProgress {
+            job,
+            position: self.exchange.position(),
+            size: self.exchange.size(),
+            repeats: self.counts(way).repeats,
+        })
     }
 }
 

@@ -76,4 +76,6 @@ pub struct FileProgress {
     pub position: u64,
     /// The announced size of the file.
     pub size: Option<u32>,
+    /// The number of data packets of this session that went its way more than once, or behind a lost one.
+    pub repeats: u64,
 }

@@ -12,7 +12,7 @@ use Rattle.uug_follow.specs.declared.transfer.Wish.TheVariants.{Send, Request}
 use Rattle.uug_follow.specs.declared.way.Way.{Way}
 use Rattle.uug_follow.specs.declared.way.Way.TheVariants.{Out, In}
 use Rattle.uug_scan.specs.Detailed.{escaped}
-use Rattle.uug_spool.specs.LogLines.{Entry, called, calls, fault, receives, sends}
+use Rattle.uug_spool.specs.LogLines.{Entry, called, calls, fault, receives, receives_from, sends, sends_from}
 use Rattle.uug_spool.specs.declared.moment.Moment.{Moment}
 
 -- the moment at which a clock shows a date and a time of it
@@ -55,6 +55,11 @@ job_entry job Never bytes = fault (unfinished job Never)
 job_entry job TooLarge bytes = fault (unfinished job TooLarge)
 job_entry job Later bytes = fault (unfinished job Later)
 job_entry job Differs bytes = fault (unfinished job Differs)
+
+-- a file that was cut off goes on here
+abbrev pub resumed_entry : (sent : Bool) → (source target : List ℕ) → (position : ℕ) → Entry
+resumed_entry true source target position = sends_from (escaped source) position
+resumed_entry false source target position = receives_from (escaped target) position
 
 -- the other end was refused a job that ended so
 abbrev pub is_refused_to_it : Way → Outcome → Bool

@@ -1,6 +1,6 @@
 //! The lines of an end's log.
 ghost use Rattle.std.specs.Prelude.{◌≡◌, ◌++◌, IfOk, OnOk, string_bytes};
-ghost use Rattle.uug_log.specs.Logged.{end_text, is_sent, job_entry, start_entry, unfinished};
+ghost use Rattle.uug_log.specs.Logged.{end_text, is_sent, job_entry, resumed_entry, start_entry, unfinished};
 ghost use Rattle.uug_scan.specs.Detailed.{escaped};
 ghost use Rattle.uug_spool.specs.LogLines.{fault as fault_entry, log_line, over as over_entry};
 ghost use Rattle.uug_spool.specs.ShownLines.{shown_head};
@@ -70,6 +70,30 @@ fn done_line<A: Allocator + Copy>(
             alloc,
             head,
             &LogEvent::Receives(file.as_bytes(), Some(bytes)),
+        )
+    }
+}
+
+/// Returns the line of a file that was cut off and goes on at this position.
+pub fn resumed_line<A: Allocator + Copy>(
+    alloc: A,
+    head: &LogHead<'_>,
+    job: &Transfer,
+    position: u64,
+) -> Result<Vec<u8, A>, AllocError>
+    ensures { IfOk result (λ made. made.items
+        ≡ log_line (shown_head head.now) (resumed_entry (is_sent job.now.way job.now.wish)
+        job.now.source job.now.target position)) }
+{
+    if is_sent(job) {
+        let file = escaped(alloc, job.source.as_bytes())?;
+        log_line(alloc, head, &LogEvent::SendsFrom(file.as_bytes(), position))
+    } else {
+        let file = escaped(alloc, job.target.as_bytes())?;
+        log_line(
+            alloc,
+            head,
+            &LogEvent::ReceivesFrom(file.as_bytes(), position),
         )
     }
 }

@@ -2,12 +2,12 @@
 ghost use Rattle.std.specs.Prelude.{◌≡◌};
 ghost use Rattle.uug_log.specs.Logged.{is_refused_to_it};
 
-use crate::lines::{end_text, fault_line, job_line, over_line, start_line};
+use crate::lines::{end_text, fault_line, job_line, over_line, resumed_line, start_line};
 use crate::log_file::LogFile;
 use std::alloc::Allocator;
 use std::time::{Clock, Instant};
 use uug_conversation::Side;
-use uug_follow::{Journal, News, Outcome, Way};
+use uug_follow::{Journal, News, Outcome, Transfer, Way};
 use uug_talk::Name;
 
 /// The log of the sessions of an end, in a file. Results of a job are written once they are on the disk. An end over a
@@ -126,6 +126,13 @@ impl<'a, R: Clock, A: Allocator + Copy> SessionLog<'a, R, A> {
         self.file.append(fault_line(self.alloc, &head, text));
     }
 
+    /// Logs that the file of a job goes on at this position.
+    fn resume(&mut self, job: &Transfer, position: u64) {
+        let head = self.file.head(system_of(&self.caller, self.system));
+        let line = resumed_line(self.alloc, &head, job, position);
+        self.file.append(line);
+    }
+
     /// Returns the seconds that the session has lasted, or 0 without a clock.
     fn seconds(&self) -> u64 {
         let Some(since) = self.since else {
@@ -158,6 +165,9 @@ fn is_refused_to_it(way: Way, outcome: Outcome) -> bool
 
 impl<R: Clock, A: Allocator + Copy> Journal for SessionLog<'_, R, A> {
     fn note(&mut self, news: &News) {
+        if let News::Resumes(job, position) = news {
+            self.resume(job, u64::from(*position));
+        }
         if let News::Ends(job, outcome, bytes) = news {
             if self.file.is_spool() && !is_refused_to_it(job.way, *outcome) {
                 return;

@@ -2,7 +2,7 @@
 use Rattle.std.proofs.Common.{◌≡◌, ℕ, List, true, false, [], codes, Some, None, refl}
 use Rattle.std.specs.Fmt.{digits}
 use Rattle.uug_talk.specs.Lines.{ended}
-use Rattle.uug_spool.specs.LogLines.{HeadWords, agreed, called, calls, entry_text, fault, head_text, log_line, logged_in, over, packets, receives, sends}
+use Rattle.uug_spool.specs.LogLines.{HeadWords, agreed, called, calls, entry_text, fault, head_text, log_line, logged_in, over, packets, receives, receives_from, sends, sends_from}
 use Rattle.uug_spool.specs.Moments.{moment_text}
 use Rattle.uug_spool.specs.StatsLines.{StatWords, stats_line}
 use Rattle.uug_spool.specs.declared.moment.Moment.{Moment}
@@ -39,6 +39,8 @@ record AreEntries : Type 0 where
   sent : entry_text (codes "beta") (sends (codes "/etc/hostname") 3) ≡ codes "Sending /etc/hostname (3 bytes)"
   received : entry_text (codes "alpha") (receives (codes "/srv/beta/pub/h1") (Some 3)) ≡ codes "Receiving /srv/beta/pub/h1 (3 bytes)"
   untold : entry_text (codes "alpha") (receives (codes "/srv/beta/pub/h1") None) ≡ codes "Receiving /srv/beta/pub/h1"
+  sent_on : entry_text (codes "beta") (sends_from (codes "x") 30720) ≡ codes "Sending x (resume at 30720)"
+  received_on : entry_text (codes "alpha") (receives_from (codes "y") 1) ≡ codes "Receiving y (resume at 1)"
   counted : entry_text (codes "beta") (packets 52 0 41) ≡ codes "Protocol 'g' packets: sent 52, resent 0, received 41"
   short : entry_text (codes "beta") (over 0 1533) ≡ codes "Call complete (0 seconds 1533 bytes 0 bps)"
   long : entry_text (codes "beta") (over 4 20000) ≡ codes "Call complete (4 seconds 20000 bytes 5000 bps)"
@@ -53,6 +55,8 @@ entries = record {
   sent = refl;
   received = refl;
   untold = refl;
+  sent_on = refl;
+  received_on = refl;
   counted = refl;
   short = refl;
   long = refl;

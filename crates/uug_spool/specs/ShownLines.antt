@@ -1,5 +1,5 @@
 -- What the values of a log's lines show of their words.
-use Rattle.uug_spool.specs.LogLines.{Entry, HeadWords, agreed, called, calls, fault, logged_in, over, packets, receives, sends}
+use Rattle.uug_spool.specs.LogLines.{Entry, HeadWords, agreed, called, calls, fault, logged_in, over, packets, receives, receives_from, sends, sends_from}
 use Rattle.uug_spool.specs.StatsLines.{StatWords}
 use Rattle.uug_spool.specs.declared.log_text.LogEvent.{LogEvent}
 use Rattle.uug_spool.specs.declared.log_text.LogEvent.TheVariants as events
@@ -16,6 +16,8 @@ shown_event (events.Called login port) = called login.now port.now
 shown_event (events.Agreed own far) = agreed own.0 own.1 far.0 far.1
 shown_event (events.Sends file bytes) = sends file.now bytes
 shown_event (events.Receives file bytes) = receives file.now bytes
+shown_event (events.SendsFrom file position) = sends_from file.now position
+shown_event (events.ReceivesFrom file position) = receives_from file.now position
 shown_event (events.Packets sent resent received) = packets sent resent received
 shown_event (events.Over seconds bytes) = over seconds bytes
 shown_event (events.Fault text) = fault text.now

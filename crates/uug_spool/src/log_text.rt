@@ -1,6 +1,6 @@
 //! The lines of a log, as `uulog` prints them.
 ghost use Rattle.std.specs.Prelude.{◌≡◌, ◌++◌, IfOk, OnOk};
-ghost use Rattle.uug_spool.specs.LogLines.{agreed, bytes_text, called, calls, entry_text, head_text, log_line, or_dash, over, packets, rate, size_text};
+ghost use Rattle.uug_spool.specs.LogLines.{agreed, bytes_text, called, calls, entry_text, head_text, log_line, or_dash, over, packets, position_text, rate, size_text};
 ghost use Rattle.uug_spool.specs.ShownLines.{shown_event, shown_head};
 
 use crate::moment::{Moment, add_moment};
@@ -37,6 +37,10 @@ pub enum LogEvent<'a> {
     Sends(&'a [u8], u64),
     /// The file of this name is received: its number of bytes, if that was announced.
     Receives(&'a [u8], Option<u64>),
+    /// The file of this name goes on: it is sent from this position on.
+    SendsFrom(&'a [u8], u64),
+    /// The file of this name goes on: it is received from this position on.
+    ReceivesFrom(&'a [u8], u64),
     /// The number of packets sent, of those sent again, and of those received.
     Packets(u64, u64, u64),
     /// The session is over: its seconds, and the bytes of files that went.
@@ -146,6 +150,14 @@ fn add_size<A: Allocator>(line: &mut Vec<u8, A>, bytes: Option<u64>) -> Result<(
     }
 }
 
+/// Appends the position at which a file goes on.
+fn add_position<A: Allocator>(line: &mut Vec<u8, A>, position: u64) -> Result<(), AllocError>
+    ensures { OnOk result (line.new.items ≡ line.old.items ++ position_text position) }
+{
+    add_number(line, b" (resume at ", position)?;
+    add_text(line, b")")
+}
+
 fn add_packets<A: Allocator>(
     line: &mut Vec<u8, A>,
     system: &[u8],
@@ -197,6 +209,14 @@ fn add_event<A: Allocator>(
         LogEvent::Receives(file, bytes) => {
             add_named(line, b"Receiving ", file)?;
             add_size(line, *bytes)
+        }
+        LogEvent::SendsFrom(file, position) => {
+            add_named(line, b"Sending ", file)?;
+            add_position(line, *position)
+        }
+        LogEvent::ReceivesFrom(file, position) => {
+            add_named(line, b"Receiving ", file)?;
+            add_position(line, *position)
         }
         LogEvent::Packets(sent, resent, received) => {
             add_packets(line, system, *sent, *resent, *received)

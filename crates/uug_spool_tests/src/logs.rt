@@ -23,7 +23,7 @@ pub(crate) fn moment(second: u8, hundredths: u8) -> Moment {
 type Place<'a> = (&'a str, &'a str, u8, u8, u32);
 
 /// The lines of two sessions, as uucico wrote them.
-const LINES: [(Place<'_>, LogEvent<'_>, &str); 13] = [
+const LINES: [(Place<'_>, LogEvent<'_>, &str); 15] = [
     (
         ("beta", "", 19, 52, 23544),
         LogEvent::Calls(b"line"),
@@ -59,6 +59,17 @@ const LINES: [(Place<'_>, LogEvent<'_>, &str); 13] = [
         ("alpha", "uucp", 19, 53, 23545),
         LogEvent::Receives(b"/srv/beta/pub/h1", None),
         "uucico alpha uucp (2026-11-26 02:09:19.53 23545) Receiving /srv/beta/pub/h1\n",
+    ),
+    // a file that was cut off goes on
+    (
+        ("beta", "", 19, 53, 23544),
+        LogEvent::SendsFrom(b"x", 30720),
+        "uucico beta - (2026-11-26 02:09:19.53 23544) Sending x (resume at 30720)\n",
+    ),
+    (
+        ("alpha", "", 19, 53, 23545),
+        LogEvent::ReceivesFrom(b"y", 1),
+        "uucico alpha - (2026-11-26 02:09:19.53 23545) Receiving y (resume at 1)\n",
     ),
     (
         ("beta", "uucp", 19, 57, 23544),
