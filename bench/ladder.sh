@@ -1,5 +1,5 @@
 #!/usr/bin/env bash
-# Measures `uucpair play --ladder` and `--svg` beside `play` alone, on a script of 100,000 events in which something
+# Measures `uucpair play --ladder` beside `play` alone, on a script of 100,000 events in which something
 # happens at nearly each: the caller sends files of 16 KiB, with a window of one packet of 32 bytes.
 #
 #   bench/ladder.sh [PROGRAM ..]
@@ -46,7 +46,7 @@ median() {
 make_script "${FILES:-90}" >"$work/script"
 for ((i = 0; i < rounds; i++)); do
     for number in "${!programs[@]}"; do
-        for option in alone --ladder --svg; do
+        for option in alone --ladder; do
             chosen=()
             [ "$option" = alone ] || chosen=("$option")
             time_of "${programs[$number]}" ${chosen[@]+"${chosen[@]}"} >>"$work/$number$option"
@@ -56,7 +56,7 @@ done
 echo "program  option      seconds  to play"
 for number in "${!programs[@]}"; do
     alone=$(median <"$work/${number}alone")
-    for option in alone --ladder --svg; do
+    for option in alone --ladder; do
         seconds=$(median <"$work/$number$option")
         printf '%7d  %-10s  %7.3f  %7.2f\n' "$number" "$option" "$seconds" \
             "$(awk -v a="$seconds" -v b="$alone" 'BEGIN { print (b > 0) ? a / b : 0 }')"

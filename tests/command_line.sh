@@ -254,10 +254,7 @@ row "an end that is lenient twice" 2 "uucpair: bad script at line 2$line_feed" "
 row "a bad script that does not settle" 2 "uucpair: bad script at line 2$line_feed" "" play --settle < <(printf '\ncall me\n')
 row "a ladder that ends at once" 1 "" "${silent_report}session 1${line_feed}event  caller                                               called${line_feed}start           ...---------------------------------------- TEXT Shere=b$line_feed" \
     play --ladder < <(printf 'caller a 2 32\ncalled b 2 32\n')
-row "a script that is too much for a picture" 2 "uucpair: bad usage${line_feed}uucpair: a picture has at most 1000000 rungs$line_feed" "" \
-    play --svg < <(printf 'caller a 2 32\ncalled b 2 32\n'; yes call | head -n 250000)
 row "a bad script that is not drawn" 2 "uucpair: bad script at line 2$line_feed" "" play --ladder < <(printf '\ncall me\n')
-begins=yes row "a ladder and a picture at once" 2 "error: " "" play --ladder --svg </dev/null
 begins=yes row "a ladder that settles" 2 "error: " "" play --ladder --settle </dev/null
 begins=yes row "two options that exclude each other" 2 "error: " "" play --settle -v </dev/null
 

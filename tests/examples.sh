@@ -40,6 +40,15 @@ check_ladder() {
     cat "$report" "$ladder" | diff - "$work/printed" || true
     expected=$(expected_status "$report")
     [ "$status" -eq "$expected" ] || echo "status $status, not $expected: $(cat "$work/said")"
+    check_picture "$work/printed" "$ladder"
+}
+
+# check_picture PRINTED LADDER: draws what was printed as a picture, and says what it lacks of the ladder.
+check_picture() {
+    local arrows=' -+> [0-9]+$|  [0-9]+ [<x]-|-x [0-9]+$|  \.\.\.-|-\.\.\.$' rows='^session |^ *(start|[0-9]+)  '
+    "$root/tools/ladder_svg.py" <"$1" >"$work/svg" || { echo "no picture"; return; }
+    [ "$(grep -cE -e "$arrows" "$2")" -eq "$(grep -c 'stroke="black"' "$work/svg")" ] || echo "the picture lacks an arrow"
+    [ "$(grep -cE -e "$rows" "$2")" -eq "$(grep -cE 'x="4"|font-weight' "$work/svg")" ] || echo "the picture lacks a row"
 }
 
 # check_stream NAME: lists the stream of this name, and says what is wrong with its listing, or with the plain one.

@@ -132,7 +132,7 @@ where
         Task::Play(file) => (InputTask::Play, file),
         Task::PlayVerbose(file) => (InputTask::PlayVerbose, file),
         Task::PlaySettled(file) => (InputTask::PlaySettled, file),
-        Task::PlayDrawn(how, file) => (InputTask::PlayDrawn(how), file),
+        Task::PlayDrawn(file) => (InputTask::PlayDrawn, file),
         Task::Version => return Outcome::of(rt.alloc(), show_version(rt.alloc(), output)),
         Task::Pair(pair) => return do_pair(rt, &pair, output),
         Task::Call(call) => return do_call(rt, &call, console, output),
@@ -157,7 +157,7 @@ fn greet<R: Eprint + AllocGlobal>(rt: &R, task: Task<'_>, console: Console) {
         | Task::Play(None)
         | Task::PlayVerbose(None)
         | Task::PlaySettled(None)
-        | Task::PlayDrawn(_, None)
+        | Task::PlayDrawn(None)
             if console.is_input_terminal && console.is_errors_terminal => {
             let _ = eprint!(rt; "uucpair: reading standard input, up to Ctrl-D\n");
         }

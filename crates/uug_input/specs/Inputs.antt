@@ -12,8 +12,7 @@ use Rattle.uug_failure.specs.declared.run_fault.RunFault.{RunFault}
 use Rattle.uug_failure.specs.declared.run_fault.RunFault.TheVariants.{Tool}
 use Rattle.uug_play.specs.Played.{AppendsReport, AppendsVerbosely, BeforeReport, IsFirstBad, IsPlayFault, OnceRead}
 use Rattle.uug_play.specs.Settled.{AppendsSettled}
-use Rattle.uug_ladder.specs.declared.play.Drawn.{Drawn}
-use Rattle.uug_ladder.specs.Played.{AppendsShown, BeforeWriting, IsDrawingFault, IsTooMuch}
+use Rattle.uug_ladder.specs.Played.{AppendsShown, BeforeWriting, IsDrawingFault}
 use Rattle.uug_script.specs.Remarks.{remark_at}
 use Rattle.uug_input.specs.declared.input_task.InputTask.{InputTask}
 use Rattle.uug_input.specs.declared.input_task.InputTask.TheVariants as over
@@ -83,14 +82,12 @@ pub record PlaysSettled (s : Streams) (answer : Result ℕ ToolFault) : Type 0 w
   pub bad : (line : ℕ) → answer ≡ Err (faults.Script line) → IfSome s.to_come (λ script. IsFirstBad script line)
   pub nothing_written : BeforeReport answer (StaysUnwritten s)
 
--- `play --ladder` and `play --svg`: the whole input was read as a script, and the report and the ladder, or the picture,
--- written; nothing was written of a script that is bad or too much
-pub record PlaysDrawn (how : Drawn) (s : Streams) (answer : Result ℕ ToolFault) : Type 0 where
+-- `play --ladder`: the whole input was read as a script, and the report and the ladder written; nothing was written of a bad script
+pub record PlaysDrawn (s : Streams) (answer : Result ℕ ToolFault) : Type 0 where
   pub reads : OnceRead answer (ReadsAll s.to_come s.left)
   pub writes : IfOk answer (λ status. IfSome s.to_come
-      (λ script. AppendsShown how script status s.before s.after))
+      (λ script. AppendsShown script status s.before s.after))
   pub bad : (line : ℕ) → answer ≡ Err (faults.Script line) → IfSome s.to_come (λ script. IsFirstBad script line)
-  pub much : answer ≡ Err faults.Usage → IfSome s.to_come IsTooMuch
   pub nothing_written : BeforeWriting answer (StaysUnwritten s)
 
 -- of a file
@@ -106,7 +103,7 @@ DoesOver over.ScanVerbose s remark answer = ScansVerbose s answer
 DoesOver over.Play s remark answer = Plays s answer
 DoesOver over.PlayVerbose s remark answer = PlaysVerbosely s remark answer
 DoesOver over.PlaySettled s remark answer = PlaysSettled s answer
-DoesOver (over.PlayDrawn how) s remark answer = PlaysDrawn how s answer
+DoesOver over.PlayDrawn s remark answer = PlaysDrawn s answer
 
 -- the faults that it may give
 abbrev pub IsFaultOf : InputTask → ToolFault → Type 0
@@ -115,7 +112,7 @@ IsFaultOf over.ScanVerbose fault = IsScanFault fault
 IsFaultOf over.Play fault = IsPlayFault fault
 IsFaultOf over.PlayVerbose fault = IsPlayFault fault
 IsFaultOf over.PlaySettled fault = IsPlayFault fault
-IsFaultOf (over.PlayDrawn how) fault = IsDrawingFault fault
+IsFaultOf over.PlayDrawn fault = IsDrawingFault fault
 
 -- what is done with a file, and s are the streams that the program was given
 abbrev pub DoesOverFile : InputTask → Streams → Result ℕ ToolFault → Type 0
@@ -124,7 +121,7 @@ DoesOverFile over.ScanVerbose s answer = ScansFile s answer
 DoesOverFile over.Play s answer = PlaysFile s answer
 DoesOverFile over.PlayVerbose s answer = PlaysFile s answer
 DoesOverFile over.PlaySettled s answer = PlaysFile s answer
-DoesOverFile (over.PlayDrawn how) s answer = PlaysFileDrawn s answer
+DoesOverFile over.PlayDrawn s answer = PlaysFileDrawn s answer
 
 -- what the program answers
 abbrev pub answered : Result ℕ RunFault → Result ℕ ToolFault

@@ -62,7 +62,7 @@ where
         InputTask::Play => play_stream(alloc, input, output),
         InputTask::PlayVerbose => return play_remarked(alloc, input, output),
         InputTask::PlaySettled => play_settled(alloc, input, output),
-        InputTask::PlayDrawn(how) => play_ladder(alloc, input, output, how),
+        InputTask::PlayDrawn => play_ladder(alloc, input, output),
     };
     Remarked {
         answer,

@@ -1,5 +1,4 @@
 //! The tasks with an input, which is standard input or a file.
-use uug_ladder::Drawn;
 
 /// A task with an input.
 #[derive(Clone, Copy, Debug, PartialEq, Eq)]
@@ -14,6 +13,6 @@ pub enum InputTask {
     PlayVerbose,
     /// The script is played, with what the run settles to.
     PlaySettled,
-    /// The script is played, with a picture of its sessions.
-    PlayDrawn(Drawn),
+    /// The script is played, with a ladder of its sessions.
+    PlayDrawn,
 }

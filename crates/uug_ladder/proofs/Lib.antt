@@ -3,5 +3,4 @@ pub mod ArrivalLemmas
 pub mod FrontLemmas
 pub mod ShownLemmas
 pub mod StandardFacts
-pub mod TextLemmas
 pub mod WayLemmas

@@ -1,6 +1,5 @@
 -- What is written of a script that is played and drawn.
-use Rattle.std.proofs.Common.{◌≡◌, ℕ, ◌<◌, List, [], ◌++◌, length, map, Option, Some, None, IfSome, Result, Ok, Err, IfErr, IsErrAnd, ap, sym, subst, inr, ◌∙◌}
-use Rattle.std.proofs.lemmas.List.{length-map}
+use Rattle.std.proofs.Common.{◌≡◌, ℕ, List, ◌++◌, Option, Some, None, IfSome, Result, Ok, Err, IfErr, IsErrAnd, ap, sym, subst, inr, ◌∙◌}
 use Rattle.uug_play.specs.Played.{IsPlayed, result_said}
 use Rattle.uug_play.specs.Whole.{BringsAll}
 use Rattle.uug_script.proofs.ScriptTableLemmas.{script_is_read}
@@ -9,14 +8,10 @@ use Rattle.uug_script.specs.ScriptOf.{script_of}
 use Rattle.uug_stream.specs.Streams.{AppendsFront}
 use Rattle.uug_stream.specs.declared.fault.ToolFault.{ToolFault}
 use Rattle.uug_stream.specs.declared.fault.ToolFault.TheVariants as faults
-use Rattle.uug_ladder.specs.declared.play.Drawn.{Drawn}
-use Rattle.uug_ladder.specs.declared.play.Drawn.TheVariants.{AsText, AsPicture}
 use Rattle.uug_ladder.specs.Fronts.{IsLadderOf, ladder_said}
 use Rattle.uug_ladder.specs.LadderText.{ladder_text}
-use Rattle.uug_ladder.specs.Picture.{picture}
-use Rattle.uug_ladder.specs.declared.svg.TheConstants.{ROWS_MAX}
-use Rattle.uug_ladder.specs.Played.{BeginsShown, IsShowingFault, IsShown, IsTooMuch, RunsOutShowing}
-use Rattle.uug_ladder.specs.Rungs.{LadderValue, RungValue}
+use Rattle.uug_ladder.specs.Played.{BeginsShown, IsShowingFault, IsShown, RunsOutShowing}
+use Rattle.uug_ladder.specs.Rungs.{LadderValue}
 use Rattle.uug_ladder.proofs.FrontLemmas.{one_saying}
 
 -- the ladder is of what was played
@@ -27,7 +22,7 @@ same_ladder script text status ladder played is =
     (script_is_read script played.says played.script_is))
 
 pub text_shown : (script text all : List ℕ) (status : ℕ) (ladder : LadderValue) → IsPlayed script text status →
-    IsLadderOf script ladder → all ≡ text ++ ladder_text ladder → IsShown AsText script all status
+    IsLadderOf script ladder → all ≡ text ++ ladder_text ladder → IsShown script all status
 text_shown script text all status ladder played is a = record {
   says = played.says;
   script_is = played.script_is;
@@ -36,36 +31,19 @@ text_shown script text all status ladder played is a = record {
   status_is = played.status_is;
 }
 
-pub picture_shown : (script text before all : List ℕ) (status : ℕ) (ladder : LadderValue) → IsPlayed script text status →
-    IsLadderOf script ladder → before ≡ [] → all ≡ before ++ picture ladder → IsShown AsPicture script all status
-picture_shown script text before all status ladder played is none a = record {
-  says = played.says;
-  script_is = played.script_is;
-  text_is = a ∙ ap (λ t. t ++ picture ladder) none ∙ ap picture (same_ladder script text status ladder played is);
-  status_is = played.status_is;
-}
-
--- a ladder with so many rungs is too much for a picture
-pub too_much : {R : Type 0} (script : List ℕ) (ladder : LadderValue) (shown : R → RungValue) (rungs : List R) (count : ℕ) →
-    IsLadderOf script ladder → ladder.rungs ≡ map shown rungs → count ≡ length rungs → ROWS_MAX < count → IsTooMuch script
-too_much script ladder shown rungs count is r n many =
-    let same : count ≡ length (ladder_said is.says).rungs =
-    n ∙ sym (length-map rungs shown) ∙ ap length (sym r) ∙ ap (λ (l : LadderValue). length l.rungs) is.ladder_is in
-    record { says = is.says; script_is = is.script_is; many = subst (λ k. ROWS_MAX < k) same many }
-
 -- ---- what was written when writing gave up
 
-pub begins_shown : (how : Drawn) (bytes text : List ℕ) (status : ℕ) (first left before after : Option (List ℕ)) → BringsAll bytes first left →
-    IsShown how bytes text status → AppendsFront text before after → IfSome first (λ script. BeginsShown how script before after)
-begins_shown how bytes text status None left before after h shown front = tt
-begins_shown how bytes text status (Some all) left before after h shown front =
-    (text, status, subst (λ b. IsShown how b text status) (sym h.0) shown, front)
+pub begins_shown : (bytes text : List ℕ) (status : ℕ) (first left before after : Option (List ℕ)) → BringsAll bytes first left →
+    IsShown bytes text status → AppendsFront text before after → IfSome first (λ script. BeginsShown script before after)
+begins_shown bytes text status None left before after h shown front = tt
+begins_shown bytes text status (Some all) left before after h shown front =
+    (text, status, subst (λ b. IsShown b text status) (sym h.0) shown, front)
 
-pub runs_out_showing : (how : Drawn) (bytes text : List ℕ) (status : ℕ) (first left before after : Option (List ℕ)) → BringsAll bytes first left →
-    IsShown how bytes text status → AppendsFront text before after → RunsOutShowing how first left before after
-runs_out_showing how bytes text status None left before after h shown front = tt
-runs_out_showing how bytes text status (Some all) left before after h shown front =
-    inr (h.1, begins_shown how bytes text status (Some all) left before after h shown front)
+pub runs_out_showing : (bytes text : List ℕ) (status : ℕ) (first left before after : Option (List ℕ)) → BringsAll bytes first left →
+    IsShown bytes text status → AppendsFront text before after → RunsOutShowing first left before after
+runs_out_showing bytes text status None left before after h shown front = tt
+runs_out_showing bytes text status (Some all) left before after h shown front =
+    inr (h.1, begins_shown bytes text status (Some all) left before after h shown front)
 
 -- ---- a fault that is handed on by `?`
 

@@ -26,7 +26,7 @@ packet_words (Err none) = codes "BAD"
 
 -- ---- a text
 
--- a byte that can be seen, or is a space, stands for itself, but for a backslash and what a picture gives a meaning of its own
+-- a byte that can be seen, or is a space, stands for itself, but for a backslash and what has a meaning of its own in a page of markup
 abbrev pub is_markup : ℕ → Bool
 is_markup b = (b == 92) || ((b == 60) || ((b == 62) || (b == 38)))
 

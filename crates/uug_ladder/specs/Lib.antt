@@ -6,7 +6,6 @@ pub mod Fronts
 pub mod Labels
 pub mod LadderText
 pub mod Moments
-pub mod Picture
 pub mod Played
 pub mod Rungs
 pub mod Way

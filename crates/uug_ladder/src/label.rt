@@ -49,7 +49,7 @@ fn is_markup(byte: u8) -> bool
     byte == b'\\' || byte == b'<' || byte == b'>' || byte == b'&'
 }
 
-/// Returns whether a byte of a text is written as it is, in a picture too.
+/// Returns whether a byte of a text is written as it is: it can stand in a page of markup, too.
 fn is_plain(byte: u8) -> bool
     ensures { result ≡ is_plain byte }
 {

@@ -1,5 +1,5 @@
-//! A picture of the sessions of a script that is played, as a text or as an SVG file. It shows the bytes that each end
-//! sends and when, whether and when they arrive, and what else occurs at the ends.
+//! A ladder of the sessions of a script that is played, as a text. It shows the bytes that each end sends and when,
+//! whether and when they arrive, and what else occurs at the ends.
 #![tactic(auto)]
 
 mod acts;
@@ -9,11 +9,9 @@ mod end;
 mod fault;
 mod label;
 mod ladder;
-pub mod laws;
 mod moment;
 mod play;
 mod rung;
-mod svg;
 mod text;
 mod way;
 
@@ -21,7 +19,6 @@ pub use drawn_run::draw;
 pub use fault::LadderFault;
 pub use label::add_label;
 pub use ladder::Ladder;
-pub use play::{Drawn, play_ladder};
+pub use play::play_ladder;
 pub use rung::{Fate, Rung, What};
-pub use svg::{ROWS_MAX, add_svg};
 pub use text::add_ladder;

@@ -1,4 +1,4 @@
-//! A script played, with a picture of its sessions.
+//! A script played, with a ladder of its sessions.
 ghost use Rattle.std.specs.Prelude.{◌≡◌, ℕ, ◌<◌, ◌≤◌, ◌*◌, IfErr, IfOk, IfSome, OnOk, length, string_bytes};
 ghost use Rattle.std.specs.Io.KnownBytes.{Keeps};
 ghost use Rattle.uug_script.specs.IsScript.{IsFirstBad};
@@ -6,29 +6,17 @@ ghost use Rattle.uug_play.specs.Played.{IsPlayed, OnceRead};
 ghost use Rattle.uug_stream.specs.Fault.{UnlessRead, UnlessWrite};
 ghost use Rattle.uug_stream.specs.Streams.{CountsFault, ReadsAll};
 ghost use Rattle.uug_ladder.specs.Fronts.{IsLadderOf};
-ghost use Rattle.uug_ladder.specs.LadderText.{ladder_text};
-ghost use Rattle.uug_ladder.specs.Picture.{picture};
-ghost use Rattle.uug_ladder.specs.Played.{AppendsShown, BeforeWriting, BeginsShown, IsDrawingFault, IsShowingFault, IsShown, IsTooMuch, RunsOutShowing};
+ghost use Rattle.uug_ladder.specs.Played.{AppendsShown, BeforeWriting, BeginsShown, IsDrawingFault, IsShowingFault, IsShown, RunsOutShowing};
 ghost use Rattle.uug_ladder.specs.Rungs.{ladder_shown};
 
 use crate::drawn_run::{DrawnRun, draw_run};
 use crate::fault::LadderFault;
 use crate::ladder::Ladder;
-use crate::svg::{ROWS_MAX, add_svg};
 use crate::text::add_ladder;
 use std::alloc::Allocator;
 use uug_play::{Played, read_whole, shown};
 use uug_scan::{PIECE_SIZE, READ_LIMIT};
 use uug_stream::{Input, Output, ToolFault, write_all};
-
-/// The form in which a ladder is written.
-#[derive(Clone, Copy, Debug, PartialEq, Eq)]
-pub enum Drawn {
-    /// A text, after the report.
-    AsText,
-    /// A picture, an SVG file, without the report.
-    AsPicture,
-}
 
 /// A script, played and drawn.
 #[derive(Drop)]
@@ -61,9 +49,9 @@ fn play_and_draw<A: Allocator + Copy>(
 }
 
 /// Returns the report and the text of the ladder.
-fn as_text<A: Allocator + Copy>(alloc: A, script: &[u8]) -> Result<Played<A>, ToolFault>
+fn show<A: Allocator + Copy>(alloc: A, script: &[u8]) -> Result<Played<A>, ToolFault>
     ensures shown { IfOk result (λ played.
-        IsShown Drawn.AsText script.now (string_bytes played.text) played.status) }
+        IsShown script.now (string_bytes played.text) played.status) }
     ensures fault { IfErr result (IsShowingFault script.now) }
 {
     let PlayedAndDrawn { played, ladder } = play_and_draw(alloc, script)?;
@@ -72,58 +60,26 @@ fn as_text<A: Allocator + Copy>(alloc: A, script: &[u8]) -> Result<Played<A>, To
     Ok(Played { text, status })
 }
 
-/// Returns the picture of the ladder. More than `ROWS_MAX` rungs are the error `Usage`.
-fn as_picture<A: Allocator + Copy>(alloc: A, script: &[u8]) -> Result<Played<A>, ToolFault>
-    ensures shown { IfOk result (λ played.
-        IsShown Drawn.AsPicture script.now (string_bytes played.text) played.status) }
-    ensures fault { IfErr result (IsShowingFault script.now) }
-{
-    let PlayedAndDrawn { played, ladder } = play_and_draw(alloc, script)?;
-    let Played { status, .. } = played;
-    if ladder.rungs.len() > ROWS_MAX {
-        return Err(ToolFault::Usage);
-    }
-    let mut text = String::new(alloc);
-    add_svg(alloc, &mut text, &ladder)?;
-    Ok(Played { text, status })
-}
-
-fn show<A: Allocator + Copy>(alloc: A, script: &[u8], how: Drawn) -> Result<Played<A>, ToolFault>
-    ensures shown { IfOk result (λ played.
-        IsShown how script.now (string_bytes played.text) played.status) }
-    ensures fault { IfErr result (IsShowingFault script.now) }
-{
-    match how {
-        Drawn::AsText => as_text(alloc, script),
-        Drawn::AsPicture => as_picture(alloc, script),
-    }
-}
-
-/// Reads the input to its end as a script, plays it, and writes the report and then the ladder, or the picture of the
-/// ladder alone. Returns the program's status, as `play_stream` does, or the first error. Nothing is written before all
-/// was played.
-///
-/// A picture of more than `ROWS_MAX` rungs is the error `Usage`. If a write failed, or memory ran out in writing, a
-/// front part of what is shown was written.
+/// Reads the input to its end as a script, plays it, and writes the report and then the ladder. Returns the program's
+/// status, as `play_stream` does, or the first error. Nothing is written before all was played. If a write failed, or
+/// memory ran out in writing, a front part of what is shown was written.
 pub fn play_ladder<A: Allocator + Copy, I: Input, O: Output>(
     alloc: A,
     input: &mut I,
     output: &mut O,
-    how: Drawn,
 ) -> Result<u8, ToolFault>
     ensures whole { OnceRead result (ReadsAll (I.to_come input.old) (I.to_come input.new)) }
     ensures shown { IfOk result (λ status. IfSome (I.to_come input.old)
-        (λ script. AppendsShown how script status (O.written output.old) (O.written output.new))) }
+        (λ script. AppendsShown script status (O.written output.old) (O.written output.new))) }
     ensures within { OnOk result (IfSome (I.to_come input.old)
         (λ script. length script < READ_LIMIT * PIECE_SIZE)) }
     ensures script { (line : ℕ) → result ≡ Err (ToolFault.Script line)
         → IfSome (I.to_come input.old) (λ script. IsFirstBad script line) }
-    ensures much { result ≡ Err ToolFault.Usage → IfSome (I.to_come input.old) IsTooMuch }
     ensures nothing_written { BeforeWriting result
         (Keeps (O.written output.old) (O.written output.new)) }
     ensures begun { result ≡ Err ToolFault.Write → IfSome (I.to_come input.old)
-        (λ script. BeginsShown how script (O.written output.old) (O.written output.new)) }
-    ensures memory { result ≡ Err ToolFault.Memory → RunsOutShowing how (I.to_come input.old)
+        (λ script. BeginsShown script (O.written output.old) (O.written output.new)) }
+    ensures memory { result ≡ Err ToolFault.Memory → RunsOutShowing (I.to_come input.old)
         (I.to_come input.new) (O.written output.old) (O.written output.new) }
     ensures input_calm { UnlessRead result
         (I.fault_count input.new ≡ I.fault_count input.old) }
@@ -138,7 +94,7 @@ pub fn play_ladder<A: Allocator + Copy, I: Input, O: Output>(
     ensures no_other { IfErr result IsDrawingFault }
 {
     let script = read_whole(alloc, input, READ_LIMIT)?;
-    let played = show(alloc, script.as_slice(), how)?;
+    let played = show(alloc, script.as_slice())?;
     write_all(output, played.text.as_bytes())?;
     Ok(played.status)
 }

@@ -4,7 +4,7 @@ use crate::assertions::{assert_same, assert_same_at};
 use std::alloc::Global;
 use std::process::Abort;
 use std::test::Fail;
-use uug_ladder::{Drawn, draw, play_ladder};
+use uug_ladder::{draw, play_ladder};
 use uug_refusal::Refusing;
 use uug_stream::{MemoryInput, MemoryOutput, ToolFault};
 
@@ -71,7 +71,7 @@ fn lines_of(rt: &impl Abort, alloc: Global, events: &str) -> Result<String<Globa
     let mut input = MemoryInput::new(script.as_bytes());
     assert_same_at(
         rt,
-        play_ladder(alloc, &mut input, &mut output, Drawn::AsText),
+        play_ladder(alloc, &mut input, &mut output),
         Ok(1),
         events,
     );
@@ -112,18 +112,18 @@ fn draws_a_long_script(rt: HostRuntime) -> Result<(), Fail> {
 
 /// Draws the ladder with a heap that refuses the nth request. Returns the result, whether a request was refused, and
 /// the number of bytes written.
-fn draw_within(alloc: Global, nth: u64, how: Drawn) -> (Result<u8, ToolFault>, bool, usize) {
+fn draw_within(alloc: Global, nth: u64) -> (Result<u8, ToolFault>, bool, usize) {
     let heap = Refusing::new(alloc, nth);
     let mut output = MemoryOutput::new(alloc);
     let mut input = MemoryInput::new(ENDS.as_bytes());
-    let result = play_ladder(&heap, &mut input, &mut output, how);
+    let result = play_ladder(&heap, &mut input, &mut output);
     (result, heap.was_refused(), output.bytes().len())
 }
 
 /// Refuses each request in turn, and asserts that nothing is written then. Returns the number of requests.
-fn requests(rt: &impl Abort, alloc: Global, how: Drawn) -> Result<u64, Fail> {
+fn requests(rt: &impl Abort, alloc: Global) -> Result<u64, Fail> {
     for nth in 1..10_000 {
-        let (result, was_refused, written) = draw_within(alloc, nth, how);
+        let (result, was_refused, written) = draw_within(alloc, nth);
         if !was_refused {
             assert_same(rt, result, Ok(1));
             return Ok(nth - 1);
@@ -136,7 +136,6 @@ fn requests(rt: &impl Abort, alloc: Global, how: Drawn) -> Result<u64, Fail> {
 
 #[test]
 fn passes_on_want_of_memory(rt: HostRuntime) -> Result<(), Fail> {
-    assert_same(&rt, requests(&rt, rt.alloc(), Drawn::AsText)? > 20, true);
-    assert_same(&rt, requests(&rt, rt.alloc(), Drawn::AsPicture)? > 20, true);
+    assert_same(&rt, requests(&rt, rt.alloc())? > 20, true);
     Ok(())
 }

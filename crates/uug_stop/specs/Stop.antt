@@ -112,24 +112,6 @@ abbrev pub StopsOnScriptFile : (path : List ℕ) → RunFault → (remark : List
 StopsOnScriptFile path (Unread failure) remark stop = NamesFile path failure stop
 StopsOnScriptFile path fault remark stop = StopsOnScript fault remark stop
 
--- a script that is too much for a picture has that remark, unless there was no memory for it
-abbrev pub too_much : List ℕ
-too_much = codes "a picture has at most 1000000 rungs"
-
-abbrev pub SaysTooMuch : Stop → Type 0
-SaysTooMuch (Fault fault) = fault ≡ Memory
-SaysTooMuch (Remarked fault remark) = HasRemark Usage too_much (Remarked fault remark)
-SaysTooMuch (File name reason) = ⊥
-SaysTooMuch (stops.InUse name) = ⊥
-SaysTooMuch (stops.Number bad) = ⊥
-SaysTooMuch (stops.Limit line) = ⊥
-SaysTooMuch (Told f line) = ⊥
-SaysTooMuch (CommandLine error) = ⊥
-
-abbrev pub StopsOnDrawing : RunFault → Stop → Type 0
-StopsOnDrawing (Tool Usage) stop = SaysTooMuch stop
-StopsOnDrawing fault stop = SaysFault (fault_of_run fault) stop
-
 -- the folder or the line of this name is named, unless there was no memory for that
 abbrev pub NamesFolder : (dir : List ℕ) → Stop → Type 0
 NamesFolder dir (stops.InUse name) = string_bytes name ≡ dir
@@ -243,7 +225,7 @@ StopsAs (Play file) fault remark stop = SaysFault (fault_of_run fault) stop
 StopsAs (PlaySettled file) fault remark stop = SaysFault (fault_of_run fault) stop
 StopsAs (PlayVerbose None) fault remark stop = StopsOnScript fault remark stop
 StopsAs (PlayVerbose (Some path)) fault remark stop = StopsOnScriptFile path.now fault remark stop
-StopsAs (PlayDrawn how file) fault remark stop = StopsOnDrawing fault stop
+StopsAs (PlayDrawn file) fault remark stop = SaysFault (fault_of_run fault) stop
 StopsAs (Pair pair) fault remark stop = StopsOnPair pair fault remark stop
 StopsAs (Call call) fault remark stop = StopsOnEnd call fault remark stop
 StopsAs (Queue queue) fault remark stop = StopsOnQueue queue.dir.now (word_or_empty queue.file) fault remark stop

@@ -4,7 +4,7 @@ ghost use Rattle.uug_reason.specs.Reasons.{places, reason_line};
 ghost use Rattle.uug_stop.specs.Stop.{EndsSo, SaysReason, SaysStream, StopsAs, status_of_stop};
 
 use crate::of_end::{stop_of_cancel, stop_of_end, stop_of_pair, stop_of_queue};
-use crate::of_input::{stop_of_drawing, stop_of_file, stop_of_script, stop_of_script_file};
+use crate::of_input::{stop_of_file, stop_of_script, stop_of_script_file};
 use crate::said::{says_fault, says_reason};
 use crate::stop::Stop;
 use std::alloc::Global;
@@ -18,10 +18,11 @@ fn stop_of(alloc: Global, task: Task<'_>, fault: RunFault, remark: String) -> St
     ensures { StopsAs task.entry fault (string_bytes remark) result }
 {
     match task {
-        Task::Scan(_) | Task::Play(_) | Task::PlaySettled(_) => says_fault(alloc, fault.answer()),
+        Task::Scan(_) | Task::Play(_) | Task::PlaySettled(_) | Task::PlayDrawn(_) => {
+            says_fault(alloc, fault.answer())
+        }
         Task::ScanVerbose(Some(path)) => stop_of_file(alloc, path, fault),
         Task::PlayVerbose(None) => stop_of_script(fault, remark),
-        Task::PlayDrawn(_, _) => stop_of_drawing(alloc, fault),
         Task::PlayVerbose(Some(path)) => stop_of_script_file(alloc, path, fault, remark),
         Task::Pair(pair) => stop_of_pair(alloc, &pair, fault, remark),
         Task::Call(call) => stop_of_end(alloc, &call, fault, remark),

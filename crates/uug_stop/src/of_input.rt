@@ -1,22 +1,12 @@
 //! The reasons why a task with an input gave up.
 ghost use Rattle.std.specs.Prelude.{string_bytes};
-ghost use Rattle.uug_stop.specs.Stop.{StopsOnDrawing, StopsOnFile, StopsOnScript, StopsOnScriptFile};
+ghost use Rattle.uug_stop.specs.Stop.{StopsOnFile, StopsOnScript, StopsOnScriptFile};
 
-use crate::said::{names_file, says_fault, says_too_much};
+use crate::said::names_file;
 use crate::stop::Stop;
 use std::alloc::Global;
 use uug_failure::RunFault;
 use uug_stream::ToolFault;
-
-/// Returns why a script was not drawn.
-pub(crate) fn stop_of_drawing(alloc: Global, fault: RunFault) -> Stop
-    ensures { StopsOnDrawing fault result }
-{
-    match fault {
-        RunFault::Tool(ToolFault::Usage) => says_too_much(alloc),
-        fault => says_fault(alloc, fault.answer()),
-    }
-}
 
 /// Returns why a task gave up that read the file of this name. The file is named if it is the cause.
 pub(crate) fn stop_of_file(alloc: Global, path: &str, fault: RunFault) -> Stop

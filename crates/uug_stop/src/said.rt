@@ -1,25 +1,12 @@
 //! The messages of a program that ends before its task is done, if there is memory for them.
 ghost use Rattle.std.specs.Prelude.{◌≡◌, MatchResult, string_bytes};
-ghost use Rattle.uug_stop.specs.Stop.{NamesCopied, NamesFile, NamesFileFor, NamesFolder, SaysFault, SaysTooMuch, is_much};
+ghost use Rattle.uug_stop.specs.Stop.{NamesCopied, NamesFile, NamesFileFor, NamesFolder, SaysFault, is_much};
 
 use crate::stop::Stop;
 use std::alloc::{AllocError, Global};
 use uug_failure::{Cause, SystemFailure};
 use uug_reason::reason_line;
 use uug_stream::ToolFault;
-
-/// The remark on a script that is too much for a picture.
-const TOO_MUCH: &str = "a picture has at most 1000000 rungs";
-
-/// Returns that a script is too much for a picture, if there is memory to say that.
-pub(crate) fn says_too_much(alloc: Global) -> Stop
-    ensures { SaysTooMuch result }
-{
-    match String::from_str(alloc, TOO_MUCH) {
-        Ok(remark) => Stop::Remarked(ToolFault::Usage, remark),
-        Err(_) => Stop::Fault(ToolFault::Memory),
-    }
-}
 
 /// Returns the fault, without the reason.
 pub(crate) fn says_fault(alloc: Global, fault: ToolFault) -> Stop

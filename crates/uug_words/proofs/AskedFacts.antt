@@ -6,7 +6,6 @@ use Rattle.clap.proofs.OnLiterals.{clap_on_literals}
 use Rattle.uug_words.specs.Asked.{Entries, drawn, is_given, manner_in, number_in, number_or_one, number_or_zero, peer_in, size_in, text_in, usual_size}
 use Rattle.uug_words.specs.Tools.{uucpair}
 use Rattle.uug_conversation.specs.declared.side.Side.TheVariants.{Called}
-use Rattle.uug_ladder.specs.declared.play.Drawn.TheVariants.{AsPicture}
 
 -- the parser gives the matches of these tools exactly
 exact : is_simple uucpair ≡ true
@@ -39,12 +38,12 @@ scan_is_taken : takes uucpair scan_words ≡ true
 unfolding clap_on_literals
 scan_is_taken = refl
 
--- ---- uucpair play --svg
+-- ---- uucpair play --ladder
 
 abbrev play_words : List Text
-play_words = codes "uucpair" ∷ codes "play" ∷ codes "--svg" ∷ []
+play_words = codes "uucpair" ∷ codes "play" ∷ codes "--ladder" ∷ []
 
-play_is_drawn : manner_in (entries_of play_words) ≡ drawn AsPicture
+play_is_drawn : manner_in (entries_of play_words) ≡ drawn
 unfolding clap_on_literals
 play_is_drawn = refl
 

@@ -144,7 +144,7 @@ asks_by words tool entries (ScanVerbose file) read asks = record { tool = tool; 
 asks_by words tool entries (Play file) read asks = record { tool = tool; entries = entries; read = read; asks = asks }
 asks_by words tool entries (PlayVerbose file) read asks = record { tool = tool; entries = entries; read = read; asks = asks }
 asks_by words tool entries (PlaySettled file) read asks = record { tool = tool; entries = entries; read = read; asks = asks }
-asks_by words tool entries (PlayDrawn how file) read asks = record { tool = tool; entries = entries; read = read; asks = asks }
+asks_by words tool entries (PlayDrawn file) read asks = record { tool = tool; entries = entries; read = read; asks = asks }
 asks_by words tool entries (Pair pair) read asks = record { tool = tool; entries = entries; read = read; asks = asks }
 asks_by words tool entries (Call call) read asks = record { tool = tool; entries = entries; read = read; asks = asks }
 asks_by words tool entries (Queue queue) read asks = record { tool = tool; entries = entries; read = read; asks = asks }

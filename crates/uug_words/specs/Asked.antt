@@ -11,8 +11,6 @@ use Rattle.clap.specs.declared.parser.matches.ArgMatches.{ArgMatches}
 use Rattle.uug_words.specs.Tools.{uucpair}
 use Rattle.uug_conversation.specs.declared.side.Side.{Side}
 use Rattle.uug_conversation.specs.declared.side.Side.TheVariants.{Caller, Called}
-use Rattle.uug_ladder.specs.declared.play.Drawn.{Drawn}
-use Rattle.uug_ladder.specs.declared.play.Drawn.TheVariants.{AsText, AsPicture}
 use Rattle.uug_task.specs.declared.task.CallTask.{CallTask}
 use Rattle.uug_disk.specs.declared.queue.QueueTask.{QueueTask}
 use Rattle.uug_pending.specs.declared.cancel.CancelTask.{CancelTask}
@@ -74,19 +72,18 @@ pub data Manner : Type 0 where
   plainly : Manner
   verbosely : Manner
   settled : Manner
-  drawn : Drawn → Manner
+  drawn : Manner
 
 -- by which of the options are given, of which the first counts
-abbrev pub manner_by : (verbose settle ladder svg : Bool) → Manner
-manner_by true settle ladder svg = verbosely
-manner_by false true ladder svg = settled
-manner_by false false true svg = drawn AsText
-manner_by false false false true = drawn AsPicture
-manner_by false false false false = plainly
+abbrev pub manner_by : (verbose settle ladder : Bool) → Manner
+manner_by true settle ladder = verbosely
+manner_by false true ladder = settled
+manner_by false false true = drawn
+manner_by false false false = plainly
 
 abbrev pub manner_in : Entries → Manner
 manner_in entries = manner_by (is_given entries (codes "verbose")) (is_given entries (codes "settle"))
-    (is_given entries (codes "ladder")) (is_given entries (codes "svg"))
+    (is_given entries (codes "ladder"))
 
 -- the tool that lists packets; `help` is no tool, and its answer is a text, but no clause of the parser says that
 abbrev pub NamesScan : (tool : Text) → Type 0
@@ -210,7 +207,7 @@ AsksIn tool entries (ScanVerbose file) = AsksToScan tool entries true file
 AsksIn tool entries (Play file) = AsksToPlay tool entries plainly file
 AsksIn tool entries (PlayVerbose file) = AsksToPlay tool entries verbosely file
 AsksIn tool entries (PlaySettled file) = AsksToPlay tool entries settled file
-AsksIn tool entries (PlayDrawn how file) = AsksToPlay tool entries (drawn how) file
+AsksIn tool entries (PlayDrawn file) = AsksToPlay tool entries drawn file
 AsksIn tool entries (Pair pair) = AsksForPair tool entries pair
 AsksIn tool entries (Call call) = AsksForEnd tool entries call
 AsksIn tool entries (Queue queue) = AsksToQueue tool entries queue

@@ -78,8 +78,7 @@ abbrev pub play_tool : Shape
 play_tool = tool (codes "play")
     (file_rule ∷ verbose_rule
     ∷ excluding (flag_rule (codes "settle"))
-    ∷ excluding (flag_rule (codes "ladder"))
-    ∷ excluding (flag_rule (codes "svg")) ∷ [])
+    ∷ excluding (flag_rule (codes "ladder")) ∷ [])
 
 abbrev pub pair_tool : Shape
 pair_tool = tool (codes "pair")

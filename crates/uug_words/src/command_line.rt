@@ -12,7 +12,6 @@ use std::alloc::Global;
 use std::convert::AsStr;
 use uug_conversation::Side;
 use uug_disk::QueueTask;
-use uug_ladder::Drawn;
 use uug_pending::CancelTask;
 use uug_task::CallTask;
 
@@ -42,8 +41,8 @@ pub enum Task<'a> {
     PlayVerbose(Option<&'a str>),
     /// The report of the script, and what the run settles to or why it doesn't.
     PlaySettled(Option<&'a str>),
-    /// The report of the script with a picture of its sessions after it, or the picture alone.
-    PlayDrawn(Drawn, Option<&'a str>),
+    /// The report of the script, and a ladder of its sessions after it.
+    PlayDrawn(Option<&'a str>),
     /// Two ends over two folders, and a socket between them.
     Pair(PairTask<'a>),
     /// One end over a folder, and the line to the other one.
@@ -241,9 +240,7 @@ fn play_task<'a>(matches: &ArgMatches<'a>) -> Task<'a>
     } else if is_given(matches, "settle") {
         Task::PlaySettled(file)
     } else if is_given(matches, "ladder") {
-        Task::PlayDrawn(Drawn::AsText, file)
-    } else if is_given(matches, "svg") {
-        Task::PlayDrawn(Drawn::AsPicture, file)
+        Task::PlayDrawn(file)
     } else {
         Task::Play(file)
     }

@@ -70,10 +70,9 @@ With --settle the run goes on after the script, on a line that loses nothing mor
 and a second report follows the first: the status is of that. It may where no end was
 fooled, both ends are talking, neither is quiet on repeats or has timed out more than 6
 times in a row, and nothing waits at an end or on the line; else a line says what is not so.
-With --ladder a picture of each session follows the report: a line for each packet
+With --ladder a ladder of each session follows the report: a line for each packet
 or text in the order in which it was sent, with the number of its event, and an arrow
-to the other end, which ends in x where it was lost or damaged. With --svg that is
-written as an SVG file, without the report.
+to the other end, which ends in x where it was lost or damaged.
 
 Status: 0 the last session is done at both ends, 1 it is not, 2 bad usage or a bad
 script, 3 a device fault, 4 out of memory, 5 the line fooled an end

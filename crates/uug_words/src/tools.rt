@@ -1,5 +1,5 @@
 //! The tools of the program and their arguments, as the parser of the words takes them.
-ghost use Rattle.std.specs.Prelude.{◌≡◌, [], IfOk};
+ghost use Rattle.std.specs.Prelude.{◌≡◌, [], IfOk, codes};
 ghost use Rattle.clap.specs.Words.{Shape, app_of};
 ghost use Rattle.uug_words.specs.Tools.{IsArg, IsTool, alone, answer_tool, call_tool, end_rules, every_rule, excluding, file_rule, file_rules, flag_rule, folder_rule, name_rule, number_rule, optional_rule, pair_tool, path_rule, play_tool, program, queue_tool, scan_tool, talk_rules, tool, uucpair, verbose_rule, with_arguments, word_rule};
 
@@ -104,24 +104,15 @@ fn play_command<'a>(alloc: Global) -> Result<Command<'a>, AllocError>
         "Goes on to the end on a clean line, where it may, and reports that too",
     )
     .conflicts_with("verbose")?)?
-    .arg(picture(
-        alloc,
-        "ladder",
-        "Draws behind the report what each end sent and what came of it",
-    )?)?
-    .arg(picture(
-        alloc,
-        "svg",
-        "Writes that as a picture instead of the report, an SVG file",
-    )?
-    .conflicts_with("ladder")?)
+    .arg(ladder(alloc)?)
 }
 
-/// Returns an option that asks for a picture.
-fn picture<'a>(alloc: Global, name: &'a str, help: &'a str) -> Result<Arg<'a>, AllocError>
-    ensures { IfOk result (IsArg (excluding (flag_rule name.entry.now))) }
+/// Returns the option that asks for a ladder.
+fn ladder<'a>(alloc: Global) -> Result<Arg<'a>, AllocError>
+    ensures { IfOk result (IsArg (excluding (flag_rule (codes "ladder")))) }
 {
-    flag(alloc, name, help)
+    let help = "Draws behind the report what each end sent and what came of it";
+    flag(alloc, "ladder", help)
         .conflicts_with("verbose")?
         .conflicts_with("settle")
 }

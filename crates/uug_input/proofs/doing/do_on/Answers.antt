@@ -28,7 +28,7 @@ over_file over.PlayVerbose x to_come left before after remark a does faults =
     record { unread = keeps_same x; nothing_written = does.plays.nothing_written; no_other = faults }
 over_file over.PlaySettled x to_come left before after remark a does faults =
     record { unread = keeps_same x; nothing_written = does.nothing_written; no_other = faults }
-over_file (over.PlayDrawn how) x to_come left before after remark a does faults =
+over_file over.PlayDrawn x to_come left before after remark a does faults =
     record { unread = keeps_same x; nothing_written = does.nothing_written; no_other = faults }
 
 pub returns : goal.returns

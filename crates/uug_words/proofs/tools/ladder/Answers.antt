@@ -1,6 +1,6 @@
 use Rattle.std.proofs.lemmas.Result.{IfOk-weaker}
 use Rattle.uug_words.proofs.ToolLemmas.{excludes}
-use Rattle.uug_words.proofs.tools.picture.Goals as goal
+use Rattle.uug_words.proofs.tools.ladder.Goals as goal
 
 pub returns : goal.returns
 returns c = IfOk-weaker c.conflicts_with-2.result _ _

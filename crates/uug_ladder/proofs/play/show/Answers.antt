@@ -1,7 +1,7 @@
 use Rattle.std.proofs.Common.{string_bytes}
 use Rattle.uug_ladder.specs.Rungs.{ladder_shown}
 use Rattle.uug_ladder.proofs.ShownLemmas.{text_shown}
-use Rattle.uug_ladder.proofs.play.as_text.Goals as goal
+use Rattle.uug_ladder.proofs.play.show.Goals as goal
 
 pub returns-clause-shown : goal.returns-clause-shown
 returns-clause-shown g c =
