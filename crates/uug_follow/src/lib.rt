@@ -9,7 +9,7 @@ mod passed;
 mod transfer;
 mod way;
 
-pub use lines::{counts_line, news_line, progress_line};
+pub use lines::{counts_line, news_line, outcome_word, progress_line, wish_word};
 pub use observer::{Journal, Observer};
 pub use pace::{Mark, Pace};
 pub use passed::{Counts, Passed};

@@ -248,7 +248,8 @@ fn whose(way: Way) -> &'static str
     }
 }
 
-fn wish_word(wish: Wish) -> &'static str
+/// Returns the word for the kind of a job.
+pub fn wish_word(wish: Wish) -> &'static str
     ensures { result.now ≡ wish_word wish }
 {
     match wish {
@@ -257,7 +258,8 @@ fn wish_word(wish: Wish) -> &'static str
     }
 }
 
-fn outcome_word(outcome: Outcome) -> &'static str
+/// Returns the words for what became of a job.
+pub fn outcome_word(outcome: Outcome) -> &'static str
     ensures { result.now ≡ outcome_word outcome }
 {
     match outcome {

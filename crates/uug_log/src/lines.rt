@@ -4,11 +4,10 @@ ghost use Rattle.uug_log.specs.Logged.{end_text, is_sent, job_entry, resumed_ent
 ghost use Rattle.uug_scan.specs.Detailed.{escaped};
 ghost use Rattle.uug_spool.specs.LogLines.{fault as fault_entry, log_line, over as over_entry};
 ghost use Rattle.uug_spool.specs.ShownLines.{shown_head};
-ghost use Rattle.uug_follow.specs.Lines.{outcome_word, wish_word};
 
 use std::alloc::{AllocError, Allocator};
 use uug_conversation::Side;
-use uug_follow::{Outcome, Transfer, Way, Wish};
+use uug_follow::{Outcome, Transfer, Way, Wish, outcome_word, wish_word};
 use uug_reason::add_escaped;
 use uug_spool::{LogEvent, LogHead, log_line};
 
@@ -125,27 +124,6 @@ fn unfinished<A: Allocator>(
     text.push_str(": ")?;
     text.push_str(outcome_word(outcome))?;
     Ok(text)
-}
-
-fn wish_word(wish: Wish) -> &'static str
-    ensures { result.now ≡ wish_word wish }
-{
-    match wish {
-        Wish::Send => "send",
-        Wish::Request => "request",
-    }
-}
-
-fn outcome_word(outcome: Outcome) -> &'static str
-    ensures { result.now ≡ outcome_word outcome }
-{
-    match outcome {
-        Outcome::Done => "done",
-        Outcome::Never => "refused",
-        Outcome::TooLarge => "refused, maybe for its size",
-        Outcome::Later => "put off",
-        Outcome::Differs => "wrong digest",
-    }
 }
 
 /// Returns the line that reports what went wrong.

@@ -1,10 +1,9 @@
-//! The lines of an end on a system: sockets that call and that listen, devices, the socket between two ends, and how
-//! long each of them waits. Also the standard streams of a program.
+//! The lines of an end on a system: sockets that call and that listen, devices, and the socket between two ends. Also
+//! the standard streams of a program.
 #![tactic(auto)]
 
 mod deadline;
 mod device_line;
-pub mod laws;
 mod listening;
 mod polled_stream;
 mod report_file;
@@ -19,7 +18,6 @@ mod system_line;
 mod system_output;
 mod timed_line;
 mod timed_stream;
-mod timer;
 mod waited_line;
 mod waiting;
 mod wire_line;
@@ -30,7 +28,7 @@ pub use device_line::DeviceLine;
 pub use listening::{Listener, Listening};
 pub use polled_stream::PolledStream;
 pub use report_file::ReportFile;
-pub use session_line::{Pace, SessionLine};
+pub use session_line::SessionLine;
 pub use silent_line::SilentLine;
 pub use sockets::{call_tcp, call_unix, listen_tcp, listen_unix};
 pub use standard_line::StandardLine;
@@ -41,6 +39,5 @@ pub use system_line::SystemLine;
 pub use system_output::SystemOutput;
 pub use timed_line::TimedLine;
 pub use timed_stream::TimedStream;
-pub use timer::{SPEED_MAX, SPEED_MIN, packets};
 pub use wire_line::WireLine;
 pub use wire_socket::open_wire;

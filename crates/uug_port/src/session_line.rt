@@ -1,57 +1,14 @@
 //! The line of an end in a session. It waits for as long as the bytes on the way take.
 ghost use Rattle.std.specs.Prelude.{◌≡◌, ◌≤◌, IfSome};
-ghost use Rattle.std.proofs.Props.{props};
-ghost use Rattle.uug_port.specs.Timers.{IsSpeed};
 
 use crate::system_line::SystemLine;
-use crate::timer::{packets, timer};
 use std::time::Duration;
 use uug_failure::SystemFailure;
-use uug_link::WINDOW_MAX;
 use uug_packet::{CONTROL_K, FIELD_CODE_MAX, HEADER_SIZE, field_size};
-use uug_talk::MESSAGE_MAX;
-use uug_transfer::{EndLine, LineFailed, ReadOutcome, SessionStatus};
+use uug_transfer::{EndLine, LineFailed, Pace, ReadOutcome, SessionStatus, packets};
 
 /// The byte with which each packet begins.
 const START: u8 = 0x10;
-
-/// The inputs of an end's timer.
-#[derive(Clone, Copy)]
-pub struct Pace {
-    /// The timeout, in seconds.
-    pub timeout: u32,
-    /// The speed of the line in bits a second, if it is given.
-    pub speed: Option<u32>,
-    /// The maximum number of bytes that the other end may have on the way.
-    pub theirs: u32,
-    ghost of_speed: { IfSome speed IsSpeed } by { Prim.hlevel props },
-}
-
-impl Pace {
-    ghost use Rattle.std.specs.Prelude.{◌≡◌, ◌+◌, ◌*◌, ◌≤◌, IfSome};
-    ghost use Rattle.std.specs.Duration.{as_nanos};
-    ghost use Rattle.uug_link.specs.declared.limits.TheConstants.{WINDOW_MAX};
-    ghost use Rattle.uug_talk.specs.declared.chunks.TheConstants.{MESSAGE_MAX};
-    ghost use Rattle.uug_port.specs.Timers.{IsSpeed, packets_of, timer};
-
-    /// Returns how long the line waits while `ours` bytes of its own end are not acknowledged.
-    pub fn time(&self, ours: u32) -> Duration
-        ensures { as_nanos result ≡ timer self.now.timeout self.now.speed (ours + self.now.theirs) * 1000000000 }
-    {
-        Duration::from_secs(timer(self.timeout, self.speed, ours, self.theirs))
-    }
-
-    /// Returns the maximum seconds that the line waits: when as much as possible is on the way.
-    pub fn longest(&self) -> u32
-        ensures { timer self.now.timeout self.now.speed
-            (packets_of WINDOW_MAX MESSAGE_MAX + self.now.theirs) ≤ u32.MAX
-            → result ≡ timer self.now.timeout self.now.speed
-            (packets_of WINDOW_MAX MESSAGE_MAX + self.now.theirs) }
-    {
-        let ours = packets(WINDOW_MAX as u8, MESSAGE_MAX as u16);
-        u32::try_from(timer(self.timeout, self.speed, ours, self.theirs)).unwrap_or(u32::MAX)
-    }
-}
 
 /// A line that waits, each time anew, for as long as its pace says.
 #[derive(Drop)]

@@ -21,7 +21,7 @@ use Rattle.uug_transfer.specs.declared.thinning.Thinning.TheVariants.{Repeats, R
 use Rattle.uug_task.specs.declared.task.CallTask.{CallTask}
 use Rattle.uug_task.specs.declared.task.Terms.{Terms}
 use Rattle.uug_task.specs.declared.end_parts.EndParts.{EndParts}
-use Rattle.uug_port.specs.Timers.{IsSpeed, packets_of}
+use Rattle.uug_transfer.specs.Timers.{IsSpeed, packets_of}
 use Rattle.uug_task.specs.declared.task.TheConstants.{KEEP_MAX, MOST_MIN, SECONDS_MAX, SESSIONS_MAX, WAIT_MAX}
 
 -- Whether an end may have so many sessions: more than one only where it is called at a socket.

@@ -7,11 +7,12 @@ use std::time::Duration;
 use uug_failure::EndDir;
 use uug_folder::Allowance;
 use uug_link::Announce;
-use uug_port::{Pace, SPEED_MAX, SPEED_MIN, packets};
 use uug_session::{FileLimit, Place, Side};
 use uug_spool::is_system_name;
 use uug_talk::Name;
-use uug_transfer::{LineName, PatienceLimits, Thinning, read_line_name};
+use uug_transfer::{
+    LineName, Pace, PatienceLimits, SPEED_MAX, SPEED_MIN, Thinning, packets, read_line_name,
+};
 
 /// The maximum seconds that a line waits.
 pub const SECONDS_MAX: u32 = 600;

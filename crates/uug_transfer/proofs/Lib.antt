@@ -13,6 +13,8 @@ pub mod RoomLemmas
 pub mod SettlingLemmas
 pub mod ThinningFacts
 pub mod ThinningLemmas
+mod TimerFacts
+pub mod TimerLemmas
 pub mod WaitingLemmas
 pub mod StallLemmas
 pub mod UnsettledLemmas

@@ -12,6 +12,7 @@ pub mod Received
 pub mod SessionFaults
 pub mod Settling
 pub mod Thinning
+pub mod Timers
 pub mod Turns
 pub mod WriteSilences
 pub mod Writing

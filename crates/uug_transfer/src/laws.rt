@@ -14,10 +14,11 @@ ghost use Rattle.uug_transfer.specs.declared.line.TheConstants.{UNREAD_MAX};
 ghost use Rattle.uug_transfer.specs.declared.patience.TheConstants.{GREETING_SECONDS, GREETING_TIMERS, SESSION_TIMERS};
 ghost use Rattle.uug_transfer.specs.declared.read_budget.TheConstants.{BYTES_MAX, READ_MAX, SILENCES_MAX, STALLS_MAX};
 ghost use Rattle.uug_transfer.specs.declared.thinning.Thinning.{Thinning};
+ghost use Rattle.uug_transfer.specs.declared.timer.TheConstants.{SPEED_MAX, SPEED_MIN};
 
 /// States the value of each limit: bytes on their way to an end of a pair, and bytes per read of a call; bytes of a
-/// session, and silences in a row at reads and at writes; seconds of the greeting, and reads without progress; and the
-/// N of every Nth packet.
+/// session, and silences in a row at reads and at writes; seconds of the greeting, and reads without progress; the N of
+/// every Nth packet; and the speed of a line in bits a second.
 pub fn limits()
     ensures unread { UNREAD_MAX ≡ 4096 }
     ensures read { READ_MAX ≡ 8192 }
@@ -26,6 +27,7 @@ pub fn limits()
     ensures greeting { (GREETING_SECONDS ≡ 60) × (GREETING_TIMERS ≡ 6) }
     ensures session { SESSION_TIMERS ≡ 20 }
     ensures every { (EVERY_MIN ≡ 2) × (EVERY_MAX ≡ 1000000) }
+    ensures speed { (SPEED_MIN ≡ 300) × (SPEED_MAX ≡ 10000000) }
 {}
 
 /// States that an injector that loses and changes nothing, like that of an end at a real line, lets out all that was

@@ -2,7 +2,7 @@
 use Rattle.std.specs.Prelude.{◌≢◌, ◌<◌, ◌≤◌, None, IfSome, IsTrue, ⊤}
 use Rattle.uug_link.specs.Terms.{IsSize, IsWindow}
 use Rattle.uug_conversation.specs.Holdings.{IsLimit}
-use Rattle.uug_port.specs.Timers.{IsSpeed}
+use Rattle.uug_transfer.specs.Timers.{IsSpeed}
 use Rattle.uug_task.specs.Tasks.{has_place, may_have}
 use Rattle.uug_task.specs.declared.task.CallTask.{CallTask}
 use Rattle.uug_task.specs.declared.task.TheConstants.{KEEP_MAX, MOST_MIN, SECONDS_MAX, SESSIONS_MAX, WAIT_MAX}

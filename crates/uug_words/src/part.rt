@@ -5,12 +5,11 @@ ghost use Rattle.uug_task.specs.Tasks.{IsTask};
 ghost use Rattle.uug_words.specs.Parts.{IsFirstWrong, IsRight};
 
 use uug_link::{Announce, WINDOW_MAX};
-use uug_port::{SPEED_MAX, SPEED_MIN};
 use uug_talk::{FILE_LIMIT_MAX, Name};
 use uug_task::{
     CallTask, KEEP_MAX, MOST_MIN, SECONDS_MAX, SESSIONS_MAX, WAIT_MAX, has_place, may_have,
 };
-use uug_transfer::read_line_name;
+use uug_transfer::{SPEED_MAX, SPEED_MIN, read_line_name};
 
 /// A part of the task of one end.
 #[derive(Clone, Copy, Debug, PartialEq, Eq)]

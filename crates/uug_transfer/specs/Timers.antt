@@ -1,7 +1,7 @@
 -- How long an end waits for what may be on the way (this project's profile).
 use Rattle.std.specs.Prelude.{ℕ, ◌+◌, ◌*◌, ◌≤◌, Option, Some, None}
 use Rattle.std.specs.Int.{div_ceil}
-use Rattle.uug_port.specs.declared.timer.TheConstants.{SPEED_MAX, SPEED_MIN}
+use Rattle.uug_transfer.specs.declared.timer.TheConstants.{SPEED_MAX, SPEED_MIN}
 
 -- the bits a second that a line may have
 abbrev pub IsSpeed : ℕ → Type 0

@@ -1,6 +1,6 @@
 -- How long some ends wait, worked out.
 use Rattle.std.proofs.Common.{◌≡◌, Some, None, refl}
-use Rattle.uug_port.specs.Timers.{packets_of, timer}
+use Rattle.uug_transfer.specs.Timers.{packets_of, timer}
 
 -- a window of 7 packets of 256 bytes
 a_window : packets_of 7 256 ≡ 1834

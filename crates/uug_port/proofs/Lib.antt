@@ -1,2 +1,0 @@
-mod TimerFacts
-pub mod TimerLemmas
