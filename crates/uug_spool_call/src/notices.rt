@@ -1,15 +1,14 @@
 //! Mail to those whose jobs have failed. It goes as if the other system had sent it: an execution file that has `uuxqt` deliver its
 //! data. What can't be written is left out; the file of what was told has it all the same.
 
-use crate::spool_end::SpoolEnd;
+use crate::telling::{SessionOver, Teller};
 use std::alloc::{AllocError, Allocator};
 use std::fs::File;
 use std::rt::Files;
 use std::time::Clock;
 use uug_folder::{is_among, write_notices};
-use uug_log::LocalClock;
 use uug_mailbox::{Execution, addressee, day_word, is_told_with_data, month_word};
-use uug_session::Job;
+use uug_session::{Job, Spool};
 use uug_spool::{Moment, Room, Spot, far_name, next_sequence, replace};
 use uug_spool_disk::{SpoolDisk, SpoolPaths, is_there};
 use uug_talk::Name;
@@ -21,24 +20,29 @@ const GRADE: u8 = b'M';
 const NUMBERS_IN_USE_MAX: u32 = 10_000;
 
 /// Mails to each whose job has failed. Where a command and its data have, it is one mail.
-pub(crate) fn mail_failed<A: Allocator + Copy, R: Files<File = File> + Clock>(
-    alloc: A,
-    rt: &R,
-    clock: &LocalClock,
+pub(crate) fn mail_failed<S, A, R>(
+    teller: &Teller<'_, '_, A, R>,
     me: &Name,
-    paths: &SpoolPaths<A>,
-    end: &SpoolEnd<'_, '_, R, A>,
-) {
+    spool: &S,
+    over: &SessionOver<'_, A>,
+)
+where
+    S: Spool,
+    A: Allocator + Copy,
+    R: Files<File = File> + Clock,
+{
     let mut number = *b"0000";
-    let failed = end.buffered.node().queue().failed();
-    for job in failed {
-        if is_told_with_data(end.executions.as_slice(), failed, job) {
+    for job in over.failed {
+        if is_told_with_data(over.executions, over.failed, job) {
             continue;
         }
-        let Some(names) = free_names(alloc, rt, me, paths, &mut number) else {
+        let Some(names) = free_names(teller, me, &mut number) else {
             return;
         };
-        if mail_job(alloc, rt, clock, me, paths, end, job, &names).is_none() {
+        let Ok(notice) = write_notices(teller.alloc, spool, &[*job]) else {
+            return;
+        };
+        if mail_job(teller, me, over, job, &names, notice.as_str()).is_none() {
             return;
         }
     }
@@ -46,36 +50,32 @@ pub(crate) fn mail_failed<A: Allocator + Copy, R: Files<File = File> + Clock>(
 
 /// Mails that a job has failed, under these names: to who asks for its command, else to its user.
 fn mail_job<A: Allocator + Copy, R: Files<File = File> + Clock>(
-    alloc: A,
-    rt: &R,
-    clock: &LocalClock,
+    teller: &Teller<'_, '_, A, R>,
     me: &Name,
-    paths: &SpoolPaths<A>,
-    end: &SpoolEnd<'_, '_, R, A>,
+    over: &SessionOver<'_, A>,
     job: &Job,
     names: &(Spot, Spot),
+    notice: &str,
 ) -> Option<()> {
     let (data, execution) = names;
-    let to = addressee(end.executions.as_slice(), job);
-    let notice = write_notices(alloc, end.buffered.node().spool(), &[*job]).ok()?;
-    let moment = clock.now(rt);
-    let saved = saved_words(alloc, preserved_at(end, job)).ok()?;
-    let notice = notice.as_str();
+    let (alloc, paths) = (teller.alloc, teller.paths);
+    let to = addressee(over.executions, job);
+    let moment = teller.clock.now(teller.rt);
+    let saved = saved_words(alloc, preserved_at(over, job)).ok()?;
     let text = mail_text(alloc, &moment, me, paths, &to, notice, saved.as_str()).ok()?;
     let command = command_text(alloc, me, &data.name, &to).ok()?;
-    let mut disk = SpoolDisk::new(alloc, rt, paths);
+    let mut disk = SpoolDisk::new(alloc, teller.rt, paths);
     replace(&mut disk, data, text.as_bytes()).ok()?;
     replace(&mut disk, execution, command.as_bytes()).ok()
 }
 
 /// The places of the next mail: names that no file has, of this number or one behind it.
 fn free_names<A: Allocator + Copy, R: Files>(
-    alloc: A,
-    rt: &R,
+    teller: &Teller<'_, '_, A, R>,
     me: &Name,
-    paths: &SpoolPaths<A>,
     number: &mut [u8; 4],
 ) -> Option<(Spot, Spot)> {
+    let (alloc, rt, paths) = (teller.alloc, teller.rt, teller.paths);
     for _ in 0..NUMBERS_IN_USE_MAX {
         *number = next_sequence(&number[..]);
         let data = Spot {
@@ -96,12 +96,9 @@ fn free_names<A: Allocator + Copy, R: Files>(
 }
 
 /// Returns where the copy of this job's data was preserved, if it was: that of a command goes with its text too.
-fn preserved_at<'a, R: Files<File = File>, A: Allocator + Copy>(
-    end: &'a SpoolEnd<'_, '_, R, A>,
-    job: &Job,
-) -> Option<&'a str> {
-    let name = copy_of(end.executions.as_slice(), job)?;
-    for file in end.store.disk.preserved() {
+fn preserved_at<'a, A: Allocator>(over: &SessionOver<'a, A>, job: &Job) -> Option<&'a str> {
+    let name = copy_of(over.executions, job)?;
+    for file in over.preserved {
         if file.name.as_bytes() == name.as_bytes() {
             return Some(file.path.as_str());
         }

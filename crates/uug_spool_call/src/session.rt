@@ -19,7 +19,7 @@ use crate::public_files::{add_public, look_at_public};
 use crate::resumed::{hold_left_of, read_held};
 use crate::spool_call::{SpoolCall, paths_of};
 use crate::spool_end::{SpoolEnd, SpoolFiles};
-use crate::telling::{begin_call, end_call, tell_passed_over};
+use crate::telling::Teller;
 use crate::work::{names_of, read_work};
 use std::alloc::{AllocError, Allocator};
 use std::fs::File;
@@ -67,8 +67,17 @@ where
     let paths = &paths;
     let mut end = begin(alloc, rt, call, place, paths)?;
     let clock = LocalClock::read(rt);
-    let begun = begin_call(alloc, rt, call, paths, &clock);
-    tell_passed_over(alloc, rt, call, paths, &clock, &end);
+    let teller = Teller {
+        alloc,
+        rt,
+        call,
+        paths,
+        clock: &clock,
+    };
+    let begun = teller.begin();
+    teller.tell_unread(end.unread.as_slice(), "is put off");
+    teller.tell_unread(end.ungiven.as_slice(), "is not given");
+    teller.tell_unread(end.aside.as_slice(), "is set aside");
     let session = run_end(alloc, &mut end, line, limits);
     let is_left = !end.unread.is_empty();
     let answer = answer_of(
@@ -80,9 +89,13 @@ where
         output,
     );
     let ended = Ended::of(answer, end.failure());
-    end_call(alloc, rt, call, paths, &clock, &end, begun);
-    mail_failed(alloc, rt, &clock, &place.me, paths, &end);
+    let over = end.over();
+    let spool = end.buffered.node().spool();
+    teller.end(spool, &over, begun);
+    mail_failed(&teller, &place.me, spool, &over);
     hold_left_of(alloc, rt, paths, end.buffered.node());
+    drop(over);
+    drop(teller);
     drop(clock);
     drop(end);
     ended

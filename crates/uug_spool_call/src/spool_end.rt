@@ -14,6 +14,7 @@ ghost use Rattle.uug_task.specs.Tasks.{HasBegunAt};
 ghost use Rattle.uug_transfer.specs.BufferedNodes.{node_in, spool_in};
 
 use crate::spool_call::SpoolCall;
+use crate::telling::SessionOver;
 use crate::work::{Unread, Work};
 use std::alloc::{AllocError, Allocator};
 use std::fs::File;
@@ -145,6 +146,23 @@ impl<'a, 'p, R: Files<File = File>, A: Allocator + Copy> SpoolEnd<'a, 'p, R, A> 
                 drop(aside);
                 Err(AllocError)
             }
+        }
+    }
+
+    /// Returns its session, which is over, as it is told.
+    pub(crate) fn over(&self) -> SessionOver<'_, A> {
+        let node = self.buffered.node();
+        let folder = &node.spool().folder;
+        SessionOver {
+            phase: node.phase(),
+            struck: node.queue().struck(),
+            failed: node.queue().failed(),
+            names: self.names.as_slice(),
+            lines: self.store.lines(),
+            executions: self.executions.as_slice(),
+            arrived: folder.disk.arrived(),
+            marks: folder.marks(),
+            preserved: self.store.disk.preserved(),
         }
     }
 

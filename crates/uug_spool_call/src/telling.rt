@@ -1,7 +1,6 @@
 //! The status of a call with a system, its log and its statistics. What can't be written is left out.
 
 use crate::spool_call::{SpoolCall, paths_of};
-use crate::spool_end::SpoolEnd;
 use crate::work::Unread;
 use std::alloc::{AllocError, Allocator};
 use std::fs::File;
@@ -9,7 +8,7 @@ use std::rt::{Env, Files};
 use std::time::Clock;
 use uug_failure::{Resource, SystemFailure};
 use uug_log::{LocalClock, words_of};
-use uug_mailbox::{remove_markers, settle_file};
+use uug_mailbox::{Execution, Marks, OpenLine, remove_markers, settle_file};
 use uug_reason::reason_line;
 use uug_session::{End, Job, Phase, Side, Spool};
 use uug_spool::{
@@ -17,7 +16,7 @@ use uug_spool::{
     status_failed,
 };
 use uug_spool_disk::{
-    Arrived, SpoolDisk, SpoolPaths, append_line, process_number, read_status_file,
+    Arrived, Preserved, SpoolDisk, SpoolPaths, append_line, process_number, read_status_file,
     seconds_since_1970, write_status_file,
 };
 use uug_talk::Name;
@@ -28,45 +27,224 @@ const PROGRAM: &[u8] = b"uucico";
 /// Whom a file belongs to of which it is not known.
 const NOBODY: &[u8] = b"uucp";
 
-/// Tells that a call begins, and gives the seconds since 1970.
-pub(crate) fn begin_call<A: Allocator + Copy, R: Files<File = File> + Clock>(
-    alloc: A,
-    rt: &R,
-    call: &SpoolCall<'_>,
-    paths: &SpoolPaths<A>,
-    clock: &LocalClock,
-) -> u32 {
-    let now = seconds_since_1970(rt);
-    let port = call.port.as_bytes();
-    match call.side {
-        Side::Caller => {
-            let tries = match read_status_file(alloc, rt, paths) {
-                Some(status) => status.tries,
-                None => 0,
-            };
-            let status = Status {
-                state: CallState::Talking,
-                tries,
-                time: now,
-                wait: 0,
-            };
-            let _ = write_status_file(alloc, rt, paths, &status);
-            log(alloc, rt, call, paths, clock, b"", &LogEvent::Calls(port));
+/// The parameters that the functions share which tell of a call: its memory, the system, its task, its paths, and the clock.
+#[derive(Drop)]
+pub(crate) struct Teller<'a, 'c, A: Allocator, R> {
+    pub(crate) alloc: A,
+    pub(crate) rt: &'a R,
+    pub(crate) call: &'a SpoolCall<'c>,
+    pub(crate) paths: &'a SpoolPaths<A>,
+    pub(crate) clock: &'a LocalClock,
+}
+
+/// A session that is over.
+#[derive(Drop)]
+pub(crate) struct SessionOver<'e, A: Allocator> {
+    /// How it ended.
+    pub(crate) phase: Phase,
+    /// The jobs that are done, and those that were given up.
+    pub(crate) struck: &'e [Job],
+    pub(crate) failed: &'e [Job],
+    /// The names of its C. files, their lines that are open, and the commands that they have run.
+    pub(crate) names: &'e [Name],
+    pub(crate) lines: &'e [OpenLine],
+    pub(crate) executions: &'e [Execution],
+    /// The files that have come, and the markers of the last ones.
+    pub(crate) arrived: &'e [Arrived],
+    pub(crate) marks: Marks,
+    /// The places of the data of jobs that were given up.
+    pub(crate) preserved: &'e [Preserved<A>],
+}
+
+impl<A: Allocator + Copy, R: Files<File = File> + Clock> Teller<'_, '_, A, R> {
+    /// Tells that a call begins, and gives the seconds since 1970.
+    pub(crate) fn begin(&self) -> u32 {
+        let now = seconds_since_1970(self.rt);
+        let port = self.call.port.as_bytes();
+        match self.call.side {
+            Side::Caller => {
+                let before = read_status_file(self.alloc, self.rt, self.paths);
+                let status = Status {
+                    state: CallState::Talking,
+                    tries: before.map_or(0, |status| status.tries),
+                    time: now,
+                    wait: 0,
+                };
+                let _ = write_status_file(self.alloc, self.rt, self.paths, &status);
+                self.log(b"", &LogEvent::Calls(port));
+            }
+            Side::Called => {
+                let login = self.paths.system().as_bytes();
+                self.log(b"", &LogEvent::Called(login, port));
+            }
         }
-        Side::Called => {
-            let login = paths.system().as_bytes();
-            log(
-                alloc,
-                rt,
-                call,
-                paths,
-                clock,
-                b"",
-                &LogEvent::Called(login, port),
-            );
+        now
+    }
+
+    /// Appends a line to the log, if there is one.
+    pub(crate) fn log(&self, user: &[u8], event: &LogEvent<'_>) {
+        let Some(path) = self.call.log else {
+            return;
+        };
+        let head = LogHead {
+            program: PROGRAM,
+            system: self.paths.system().as_bytes(),
+            user,
+            moment: self.clock.now(self.rt),
+            process: process_number(self.alloc, self.rt),
+        };
+        if let Ok(line) = log_line(self.alloc, &head, event) {
+            let _ = append_line(self.rt, path, line.as_slice());
         }
     }
-    now
+
+    /// Appends a line to the statistics, if there are any.
+    fn count(&self, user: &[u8], course: Course, size: u64) {
+        let Some(path) = self.call.stats else {
+            return;
+        };
+        let head = StatsHead {
+            user,
+            system: self.paths.system().as_bytes(),
+            moment: self.clock.now(self.rt),
+            port: self.call.port.as_bytes(),
+        };
+        let amount = Amount {
+            bytes: u32::try_from(size).unwrap_or(u32::MAX),
+            thousandths: 0,
+        };
+        if let Ok(line) = stats_line(self.alloc, &head, course, false, amount) {
+            let _ = append_line(self.rt, path, line.as_slice());
+        }
+    }
+
+    /// Takes what is over off the disk, and tells what became of a call that began so many seconds after 1970 did.
+    pub(crate) fn end<S: Spool>(&self, spool: &S, over: &SessionOver<'_, A>, begun: u32) {
+        self.tidy(over);
+        let sent = self.tell_sent(spool, over.struck);
+        self.tell_failed(over.failed);
+        self.tell_unoffered(over.lines);
+        let taken = self.tell_arrived(over.arrived);
+        self.tell_status(over.phase);
+        let seconds = seconds_since_1970(self.rt).saturating_sub(begun);
+        let event = LogEvent::Over(u64::from(seconds), sent.saturating_add(taken));
+        self.log(b"", &event);
+    }
+
+    /// After a session that is done the markers of the last files go, and each C. file none of whose lines is open.
+    fn tidy(&self, over: &SessionOver<'_, A>) {
+        if !over.phase.is_done() {
+            return;
+        }
+        let mut disk = SpoolDisk::new(self.alloc, self.rt, self.paths);
+        for name in over.names {
+            let _ = settle_file(&mut disk, name, over.lines);
+        }
+        let _ = remove_markers(&mut disk, &over.marks);
+    }
+
+    /// Tells of each file that was sent, and gives the bytes of all.
+    fn tell_sent<S: Spool>(&self, spool: &S, struck: &[Job]) -> u64 {
+        let mut bytes: u64 = 0;
+        for job in struck {
+            if let Job::Send {
+                source,
+                user,
+                temp,
+                ..
+            } = job
+            {
+                let size = match spool.fetch(&temp.unwrap_or(*source)) {
+                    Some(file) => file.bytes.len() as u64,
+                    None => 0,
+                };
+                let event = LogEvent::Sends(source.as_bytes(), size);
+                self.log(user.as_bytes(), &event);
+                self.count(user.as_bytes(), Course::Sent, size);
+                bytes = bytes.saturating_add(size);
+            }
+        }
+        bytes
+    }
+
+    /// Tells of each job that has failed.
+    fn tell_failed(&self, failed: &[Job]) {
+        for job in failed {
+            let (source, user) = match job {
+                Job::Send { source, user, .. } => (source, user),
+                Job::Request { source, user, .. } => (source, user),
+            };
+            let source = source.as_str();
+            if let Ok(text) = format!(in self.alloc; "{source}: given up") {
+                self.log(user.as_bytes(), &LogEvent::Fault(text.as_bytes()));
+            }
+        }
+    }
+
+    /// Tells, once of each C. file, that a line stays since no session offers it: one with a wildcard or with a name in quotes,
+    /// or that is none.
+    fn tell_unoffered(&self, lines: &[OpenLine]) {
+        let mut last: Option<Name> = None;
+        for line in lines {
+            // One whose data can't be read was told already.
+            if line.job.is_some() || line.copy.is_some() || last == Some(line.file) {
+                continue;
+            }
+            last = Some(line.file);
+            let file = line.file.as_str();
+            if let Ok(text) = format!(in self.alloc; "{file}: a line that can't be sent stays") {
+                self.log(b"", &LogEvent::Fault(text.as_bytes()));
+            }
+        }
+    }
+
+    /// Tells of each file that has come, and gives the bytes of all. Whom one belongs to its sender knows.
+    fn tell_arrived(&self, arrived: &[Arrived]) -> u64 {
+        let mut bytes: u64 = 0;
+        for file in arrived {
+            let name = file.spot.name;
+            let event = LogEvent::Receives(name.as_bytes(), Some(file.size));
+            self.log(NOBODY, &event);
+            self.count(NOBODY, Course::Received, file.size);
+            bytes = bytes.saturating_add(file.size);
+        }
+        bytes
+    }
+
+    /// Writes how the call went. An end that was called says it where the session is done.
+    fn tell_status(&self, phase: Phase) {
+        let time = seconds_since_1970(self.rt);
+        let status = match (state_of(phase), self.call.side) {
+            (CallState::Complete, _) => Status {
+                state: CallState::Complete,
+                tries: 0,
+                time,
+                wait: 0,
+            },
+            (_, Side::Called) => return,
+            (state, Side::Caller) => {
+                let before = read_status_file(self.alloc, self.rt, self.paths);
+                status_failed(state, before, time)
+            }
+        };
+        let _ = write_status_file(self.alloc, self.rt, self.paths, &status);
+    }
+}
+
+impl<A: Allocator + Copy, R: Files<File = File> + Clock + Eprint> Teller<'_, '_, A, R> {
+    /// Tells, in the log and to a person who listens, of each file that can't be read, what becomes of it.
+    pub(crate) fn tell_unread(&self, unread: &[Unread], becomes: &str) {
+        for one in unread {
+            let Ok(line) = unread_line(self.alloc, one, becomes) else {
+                continue;
+            };
+            let line = line.as_str();
+            if self.call.is_loud {
+                let _ = eprint!(self.rt; "{line}");
+            }
+            self.log(b"", &LogEvent::Fault(words_of(line).as_bytes()));
+        }
+    }
 }
 
 /// Tells that a system was to be called over a line that could not be opened: another run has it, or nobody answers there.
@@ -99,48 +277,14 @@ pub fn tell_fault<A: Allocator + Copy, R: Files<File = File> + Clock + Env + All
 ) {
     if let Ok(paths) = paths_of(alloc, call, system) {
         let clock = LocalClock::read(rt);
-        let event = LogEvent::Fault(text.as_bytes());
-        log(alloc, rt, call, &paths, &clock, b"", &event);
-    }
-}
-
-/// Tells what is put off, what is not given, and what was set aside.
-pub(crate) fn tell_passed_over<A: Allocator + Copy, R: Files<File = File> + Clock + Eprint>(
-    alloc: A,
-    rt: &R,
-    call: &SpoolCall<'_>,
-    paths: &SpoolPaths<A>,
-    clock: &LocalClock,
-    end: &SpoolEnd<'_, '_, R, A>,
-) {
-    let put_off = end.unread.as_slice();
-    tell_unread(alloc, rt, call, paths, clock, put_off, "is put off");
-    let ungiven = end.ungiven.as_slice();
-    tell_unread(alloc, rt, call, paths, clock, ungiven, "is not given");
-    let aside = end.aside.as_slice();
-    tell_unread(alloc, rt, call, paths, clock, aside, "is set aside");
-}
-
-/// Tells, in the log and to a person who listens, of each file that can't be read, what becomes of it.
-fn tell_unread<A: Allocator + Copy, R: Files<File = File> + Clock + Eprint>(
-    alloc: A,
-    rt: &R,
-    call: &SpoolCall<'_>,
-    paths: &SpoolPaths<A>,
-    clock: &LocalClock,
-    unread: &[Unread],
-    becomes: &str,
-) {
-    for one in unread {
-        let Ok(line) = unread_line(alloc, one, becomes) else {
-            continue;
+        let teller = Teller {
+            alloc,
+            rt,
+            call,
+            paths: &paths,
+            clock: &clock,
         };
-        let line = line.as_str();
-        if call.is_loud {
-            let _ = eprint!(rt; "{line}");
-        }
-        let event = LogEvent::Fault(words_of(line).as_bytes());
-        log(alloc, rt, call, paths, clock, b"", &event);
+        teller.log(b"", &LogEvent::Fault(text.as_bytes()));
     }
 }
 
@@ -154,242 +298,6 @@ fn unread_line<A: Allocator + Copy>(
     let what = format!(in alloc; "{name} {becomes}")?;
     let failure = SystemFailure::on(Resource::Input, one.cause);
     reason_line(alloc, what.as_str(), "", "", "", failure)
-}
-
-/// Appends a line to the log, if there is one.
-fn log<A: Allocator + Copy, R: Files<File = File> + Clock>(
-    alloc: A,
-    rt: &R,
-    call: &SpoolCall<'_>,
-    paths: &SpoolPaths<A>,
-    clock: &LocalClock,
-    user: &[u8],
-    event: &LogEvent<'_>,
-) {
-    let Some(path) = call.log else {
-        return;
-    };
-    let head = LogHead {
-        program: PROGRAM,
-        system: paths.system().as_bytes(),
-        user,
-        moment: clock.now(rt),
-        process: process_number(alloc, rt),
-    };
-    if let Ok(line) = log_line(alloc, &head, event) {
-        let _ = append_line(rt, path, line.as_slice());
-    }
-}
-
-/// Takes what is over off the disk, and tells what became of a call that began so many seconds after 1970 did.
-pub(crate) fn end_call<A: Allocator + Copy, R: Files<File = File> + Clock>(
-    alloc: A,
-    rt: &R,
-    call: &SpoolCall<'_>,
-    paths: &SpoolPaths<A>,
-    clock: &LocalClock,
-    end: &SpoolEnd<'_, '_, R, A>,
-    begun: u32,
-) {
-    let phase = end.buffered.node().phase();
-    tidy(alloc, rt, paths, end, phase);
-    let sent = tell_sent(alloc, rt, call, paths, clock, end);
-    tell_failed(alloc, rt, call, paths, clock, end);
-    tell_unoffered(alloc, rt, call, paths, clock, end);
-    let folder = &end.buffered.node().spool().folder;
-    let taken = tell_arrived(alloc, rt, call, paths, clock, folder.disk.arrived());
-    tell_status(alloc, rt, call, paths, phase);
-    let seconds = seconds_since_1970(rt).saturating_sub(begun);
-    let over = LogEvent::Over(u64::from(seconds), sent.saturating_add(taken));
-    log(alloc, rt, call, paths, clock, b"", &over);
-}
-
-/// After a session that is done the markers of the last files go, and each C. file none of whose lines is open.
-fn tidy<A: Allocator + Copy, R: Files<File = File>>(
-    alloc: A,
-    rt: &R,
-    paths: &SpoolPaths<A>,
-    end: &SpoolEnd<'_, '_, R, A>,
-    phase: Phase,
-) {
-    if !phase.is_done() {
-        return;
-    }
-    let mut disk = SpoolDisk::new(alloc, rt, paths);
-    for name in end.names.as_slice() {
-        let _ = settle_file(&mut disk, name, end.store.lines());
-    }
-    let marks = end.buffered.node().spool().folder.marks();
-    let _ = remove_markers(&mut disk, &marks);
-}
-
-/// Tells of each file that was sent, and gives the bytes of all.
-fn tell_sent<A: Allocator + Copy, R: Files<File = File> + Clock>(
-    alloc: A,
-    rt: &R,
-    call: &SpoolCall<'_>,
-    paths: &SpoolPaths<A>,
-    clock: &LocalClock,
-    end: &SpoolEnd<'_, '_, R, A>,
-) -> u64 {
-    let node = end.buffered.node();
-    let mut bytes: u64 = 0;
-    for job in node.queue().struck() {
-        if let Job::Send {
-            source,
-            user,
-            temp,
-            ..
-        } = job
-        {
-            let name = temp.unwrap_or(*source);
-            let size = match node.spool().fetch(&name) {
-                Some(file) => file.bytes.len() as u64,
-                None => 0,
-            };
-            let event = LogEvent::Sends(source.as_bytes(), size);
-            log(alloc, rt, call, paths, clock, user.as_bytes(), &event);
-            count(
-                alloc,
-                rt,
-                call,
-                paths,
-                clock,
-                user.as_bytes(),
-                Course::Sent,
-                size,
-            );
-            bytes = bytes.saturating_add(size);
-        }
-    }
-    bytes
-}
-
-/// Tells of each job that has failed.
-fn tell_failed<A: Allocator + Copy, R: Files<File = File> + Clock>(
-    alloc: A,
-    rt: &R,
-    call: &SpoolCall<'_>,
-    paths: &SpoolPaths<A>,
-    clock: &LocalClock,
-    end: &SpoolEnd<'_, '_, R, A>,
-) {
-    for job in end.buffered.node().queue().failed() {
-        let (source, user) = match job {
-            Job::Send { source, user, .. } => (source, user),
-            Job::Request { source, user, .. } => (source, user),
-        };
-        let source = source.as_str();
-        if let Ok(text) = format!(in alloc; "{source}: given up") {
-            let event = LogEvent::Fault(text.as_bytes());
-            log(alloc, rt, call, paths, clock, user.as_bytes(), &event);
-        }
-    }
-}
-
-/// Tells, once of each C. file, that a line stays since no session offers it: one with a wildcard or with a name in quotes, or that is
-/// none.
-fn tell_unoffered<A: Allocator + Copy, R: Files<File = File> + Clock>(
-    alloc: A,
-    rt: &R,
-    call: &SpoolCall<'_>,
-    paths: &SpoolPaths<A>,
-    clock: &LocalClock,
-    end: &SpoolEnd<'_, '_, R, A>,
-) {
-    let mut last: Option<Name> = None;
-    for line in end.store.lines() {
-        // One whose data can't be read was told already.
-        if line.job.is_some() || line.copy.is_some() || last == Some(line.file) {
-            continue;
-        }
-        last = Some(line.file);
-        let file = line.file.as_str();
-        if let Ok(text) = format!(in alloc; "{file}: a line that can't be sent stays") {
-            let event = LogEvent::Fault(text.as_bytes());
-            log(alloc, rt, call, paths, clock, b"", &event);
-        }
-    }
-}
-
-/// Tells of each file that has come, and gives the bytes of all. Whom one belongs to its sender knows.
-fn tell_arrived<A: Allocator + Copy, R: Files<File = File> + Clock>(
-    alloc: A,
-    rt: &R,
-    call: &SpoolCall<'_>,
-    paths: &SpoolPaths<A>,
-    clock: &LocalClock,
-    arrived: &[Arrived],
-) -> u64 {
-    let mut bytes: u64 = 0;
-    for file in arrived {
-        let name = file.spot.name;
-        let event = LogEvent::Receives(name.as_bytes(), Some(file.size));
-        log(alloc, rt, call, paths, clock, NOBODY, &event);
-        count(
-            alloc,
-            rt,
-            call,
-            paths,
-            clock,
-            NOBODY,
-            Course::Received,
-            file.size,
-        );
-        bytes = bytes.saturating_add(file.size);
-    }
-    bytes
-}
-
-/// Appends a line to the statistics, if there are any.
-fn count<A: Allocator + Copy, R: Files<File = File> + Clock>(
-    alloc: A,
-    rt: &R,
-    call: &SpoolCall<'_>,
-    paths: &SpoolPaths<A>,
-    clock: &LocalClock,
-    user: &[u8],
-    course: Course,
-    size: u64,
-) {
-    let Some(path) = call.stats else {
-        return;
-    };
-    let head = StatsHead {
-        user,
-        system: paths.system().as_bytes(),
-        moment: clock.now(rt),
-        port: call.port.as_bytes(),
-    };
-    let amount = Amount {
-        bytes: u32::try_from(size).unwrap_or(u32::MAX),
-        thousandths: 0,
-    };
-    if let Ok(line) = stats_line(alloc, &head, course, false, amount) {
-        let _ = append_line(rt, path, line.as_slice());
-    }
-}
-
-/// Writes how the call went. An end that was called says it where the session is done.
-fn tell_status<A: Allocator + Copy, R: Files<File = File> + Clock>(
-    alloc: A,
-    rt: &R,
-    call: &SpoolCall<'_>,
-    paths: &SpoolPaths<A>,
-    phase: Phase,
-) {
-    let time = seconds_since_1970(rt);
-    let status = match (state_of(phase), call.side) {
-        (CallState::Complete, _) => Status {
-            state: CallState::Complete,
-            tries: 0,
-            time,
-            wait: 0,
-        },
-        (_, Side::Called) => return,
-        (state, Side::Caller) => { status_failed(state, read_status_file(alloc, rt, paths), time) }
-    };
-    let _ = write_status_file(alloc, rt, paths, &status);
 }
 
 /// Returns the state of a call whose session ended so.
