@@ -275,7 +275,7 @@ row "a call over a line that is too fast" 2 "${usage}speed 10000001 is not 300 t
 begins=yes row "a call that waits to be called" 2 "error: " "" call l a --me a --peer b --wait 5 </dev/null
 row "an answer that doesn't wait" 2 "${usage}wait 0 is not 1 to 1000000000$line_feed" "" answer l a --me a --peer b --wait 0 </dev/null
 row "an answer that waits too long" 2 "${usage}wait 1000000001 is not 1 to 1000000000$line_feed" "" answer l a --me a --peer b --wait 1000000001 </dev/null
-row "a call to a port that is none" 2 "${usage}tcp:h:x has no port of 0 to 65535$line_feed" "" call tcp:h:x a --me a --peer b </dev/null
+row "a call to a port that is none" 2 "${usage}tcp:h:x has no port of 0 to 65535: give tcp:HOST:PORT, the port as a number$line_feed" "" call tcp:h:x a --me a --peer b </dev/null
 row "a call to a socket without a path" 2 "${usage}unix: has no path$line_feed" "" call unix: a --me a --peer b </dev/null
 row "a call over a line without a name" 2 "${usage}the line has no name$line_feed" "" call "" a --me a --peer b </dev/null
 row "an answer with a name that is none" 2 \

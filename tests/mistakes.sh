@@ -121,6 +121,15 @@ forms="(LINE is a terminal device, tcp:HOST:PORT, unix:PATH or -)"
 mistake "a file that is no device" 3 "${fault}./device: not a terminal $forms" "${call[@]}"
 call_of /dev/null a
 mistake "a device that is no terminal" 3 "${fault}/dev/null: not a terminal $forms" "${call[@]}"
+lines="(LINE is a terminal device, tcp:HOST:PORT, unix:PATH or -"
+call_of ttyNONE a
+mistake "a device without its folder" 3 \
+    "${fault}ttyNONE: no such file or directory $lines: give /dev/ttyNONE)" "${call[@]}"
+call_of beta.example:4000 a
+mistake "a host and a port without tcp:" 3 \
+    "${fault}beta.example:4000: no such file or directory $lines: give tcp:beta.example:4000)" "${call[@]}"
+call_of beta.example a
+mistake "a host without a port" 3 "${fault}beta.example: no such file or directory $forms" "${call[@]}"
 call_of b a
 mistake "a folder for the line" 3 "${fault}b: is a directory $forms" "${call[@]}"
 
@@ -574,9 +583,12 @@ call_of unix:s a --keep-partials 0
 mistake "no day" 2 "${usage}keep-partials 0 is not 1 to 3650" "${call[@]}"
 mistake "no time to be called" 2 "${usage}wait 0 is not 1 to 1000000000" answer unix:s a --me alpha --peer beta --wait 0
 call_of tcp:127.0.0.1 a
-mistake "no port" 2 "${usage}tcp:127.0.0.1 has no port of 0 to 65535" "${call[@]}"
+no_port="has no port of 0 to 65535: give tcp:HOST:PORT, the port as a number"
+mistake "no port" 2 "${usage}tcp:127.0.0.1 $no_port" "${call[@]}"
 call_of tcp:h:70000 a
-mistake "a port that is too great" 2 "${usage}tcp:h:70000 has no port of 0 to 65535" "${call[@]}"
+mistake "a port that is too great" 2 "${usage}tcp:h:70000 $no_port" "${call[@]}"
+call_of tcp:h:uucp a
+mistake "the name of a port" 2 "${usage}tcp:h:uucp $no_port" "${call[@]}"
 call_of tcp::540 a
 mistake "no host" 2 "${usage}tcp::540 has no host" "${call[@]}"
 call_of unix: a

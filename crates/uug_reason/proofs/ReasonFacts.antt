@@ -19,6 +19,16 @@ end_places = places [] (codes "tcp:127.0.0.1:5999") (27 ∷ codes "a") (27 ∷ c
 abbrev exchanged_places : Places
 exchanged_places = places [] (codes "a") (codes "tcp:4000") (codes "tcp:4000")
 
+-- ends whose lines lack their fronts
+abbrev pub device_places : Places
+device_places = places [] (codes "ttyS0") [] []
+
+abbrev pub host_places : Places
+host_places = places [] (codes "h:540") [] []
+
+abbrev pub word_places : Places
+word_places = places [] (codes "h") [] []
+
 -- one end in a folder below that of the devices
 abbrev shared_places : Places
 shared_places = places [] (codes "unix:s") (codes "/dev/shm/a") (codes "/dev/shm/a")
@@ -40,6 +50,9 @@ record AreSaid : Type 0 where
   shared : reason_line shared_places (record { end = 0; resource = on.Dir; cause = causes.Refused kinds.NotFound (Some (pos 2)) }) ≡ codes "uucpair: /dev/shm/a: no such file or directory" ++ 10 ∷ []
   lacks : reason_line pair_places (record { end = 0; resource = on.GotFolder; cause = causes.Refused kinds.NotFound (Some (pos 2)) }) ≡ codes "uucpair: a/got: no such file or directory (make it; only a spool, with --spool, has none)" ++ 10 ∷ []
   plain : reason_line end_places (record { end = 0; resource = on.Line; cause = causes.NoTerminal }) ≡ codes "uucpair: tcp:127.0.0.1:5999: not a terminal (LINE is a terminal device, tcp:HOST:PORT, unix:PATH or -)" ++ 10 ∷ []
+  device : reason_line device_places (record { end = 0; resource = on.Line; cause = causes.Refused kinds.NotFound (Some (pos 2)) }) ≡ codes "uucpair: ttyS0: no such file or directory (LINE is a terminal device, tcp:HOST:PORT, unix:PATH or -: give /dev/ttyS0)" ++ 10 ∷ []
+  named : reason_line host_places (record { end = 0; resource = on.Line; cause = causes.Refused kinds.NotFound (Some (pos 2)) }) ≡ codes "uucpair: h:540: no such file or directory (LINE is a terminal device, tcp:HOST:PORT, unix:PATH or -: give tcp:h:540)" ++ 10 ∷ []
+  bare : reason_line word_places (record { end = 0; resource = on.Line; cause = causes.Refused kinds.NotFound (Some (pos 2)) }) ≡ codes "uucpair: h: no such file or directory (LINE is a terminal device, tcp:HOST:PORT, unix:PATH or -)" ++ 10 ∷ []
   socket : reason_line pair_places (record { end = 0; resource = on.Line; cause = causes.Refused kinds.AddrInUse (Some (pos 98)) }) ≡ codes "uucpair: s: address in use" ++ 10 ∷ []
   pipe : reason_line output_places (record { end = 1; resource = on.Output; cause = causes.NotAFile }) ≡ codes "uucpair: standard output: a named pipe may have no reader: name a file, /dev/stdout or /dev/stderr" ++ 10 ∷ []
   told : reason_line pair_places (record { end = 0; resource = on.Text Jobs; cause = causes.NotAFile }) ≡ codes "uucpair: a/jobs: not a regular file" ++ 10 ∷ []
@@ -47,4 +60,4 @@ record AreSaid : Type 0 where
 
 said : AreSaid
 unfolding digits
-said = record { line = refl; host = refl; numbered = refl; escaped = refl; given = refl; got = refl; files = refl; spool = refl; exchanged = refl; shared = refl; lacks = refl; plain = refl; socket = refl; pipe = refl; told = refl; output = refl }
+said = record { line = refl; host = refl; numbered = refl; escaped = refl; given = refl; got = refl; files = refl; spool = refl; exchanged = refl; shared = refl; lacks = refl; plain = refl; device = refl; named = refl; bare = refl; socket = refl; pipe = refl; told = refl; output = refl }

@@ -1,12 +1,13 @@
 -- What to do about a call of the system that a known mistake makes fail (this project's profile).
-use Rattle.std.specs.Prelude.{◌==◌, ◌&&◌, ◌||◌, ℕ, Bool, not, List, [], codes, length, nat_eq, if◌then◌else◌}
-use Rattle.std.specs.List.{starts_with}
+use Rattle.std.specs.Prelude.{◌==◌, ◌&&◌, ◌||◌, ℕ, Bool, not, List, [], ◌++◌, codes, eqb, length, nat_eq, if◌then◌else◌}
+use Rattle.std.specs.List.{list_any, starts_with}
 use Rattle.std.specs.Str.{bytes_eq}
 use Rattle.std.specs.declared.io.ErrorKind.TheVariants as kinds
 use Rattle.uug_failure.specs.declared.failure.Cause.{Cause}
 use Rattle.uug_failure.specs.declared.failure.Cause.TheVariants.{Refused, NoTerminal}
 use Rattle.uug_failure.specs.declared.failure.Resource.{Resource}
 use Rattle.uug_failure.specs.declared.failure.Resource.TheVariants.{Dir, GotFolder, Line}
+use Rattle.uug_scan.specs.Detailed.{escaped}
 
 -- A word begins as the name of a line does, unless that is the path of a device elsewhere.
 abbrev pub names_line : (word : List ℕ) → Bool
@@ -25,14 +26,35 @@ abbrev pub got_hint : Cause → List ℕ
 got_hint (Refused kinds.NotFound number) = codes " (make it; only a spool, with --spool, has none)"
 got_hint _ = []
 
+-- a word has this byte
+abbrev pub has_byte : (word : List ℕ) → (byte : ℕ) → Bool
+has_byte word byte = list_any (λ b. eqb b byte) word
+
+-- neither a path with a slash (47) nor begun as the name of a line is
+abbrev pub is_bare : (word : List ℕ) → Bool
+is_bare word = not (names_line word) && not (has_byte word 47)
+
+-- the line that is probably meant by a bare word: a device, or a host and its port, between which a colon (58) stands
+abbrev pub guess_words : (line : List ℕ) → List ℕ
+guess_words line =
+    if starts_with nat_eq line (codes "tty") then codes ": give /dev/" ++ escaped line else
+    (if has_byte line 58 then codes ": give tcp:" ++ escaped line else [])
+
+-- of a line that is not there
+abbrev pub absent_hint : (line : List ℕ) → List ℕ
+absent_hint line =
+    if is_bare line
+    then codes " (LINE is a terminal device, tcp:HOST:PORT, unix:PATH or -" ++ (guess_words line ++ codes ")") else []
+
 -- of a line that is none
-abbrev pub line_hint : Cause → List ℕ
-line_hint (Refused kinds.IsADirectory number) = codes " (LINE is a terminal device, tcp:HOST:PORT, unix:PATH or -)"
-line_hint NoTerminal = codes " (LINE is a terminal device, tcp:HOST:PORT, unix:PATH or -)"
-line_hint _ = []
+abbrev pub line_hint : (line : List ℕ) → Cause → List ℕ
+line_hint line (Refused kinds.NotFound number) = absent_hint line
+line_hint line (Refused kinds.IsADirectory number) = codes " (LINE is a terminal device, tcp:HOST:PORT, unix:PATH or -)"
+line_hint line NoTerminal = codes " (LINE is a terminal device, tcp:HOST:PORT, unix:PATH or -)"
+line_hint line _ = []
 
 abbrev pub hint_words : (line dir : List ℕ) → Resource → Cause → List ℕ
 hint_words line dir Dir cause = exchanged_hint line dir
 hint_words line dir GotFolder cause = got_hint cause
-hint_words line dir Line cause = line_hint cause
+hint_words line dir Line cause = line_hint line cause
 hint_words line dir _ cause = []

@@ -1,20 +1,28 @@
 //! Hints about what to do after a call of the system that a known mistake makes fail.
-ghost use Rattle.std.specs.Prelude.{◌≡◌};
-ghost use Rattle.uug_reason.specs.ReasonHints.{are_exchanged, exchanged_hint, got_hint, hint_words, line_hint, names_line};
+ghost use Rattle.std.specs.Prelude.{◌≡◌, ◌++◌, OnOk, string_bytes};
+ghost use Rattle.uug_reason.specs.ReasonHints.{absent_hint, are_exchanged, exchanged_hint, got_hint, guess_words, has_byte, hint_words, is_bare, line_hint, names_line};
 
+use crate::escape::add_escaped;
+use std::alloc::{AllocError, Allocator};
 use std::io::ErrorKind;
 use uug_failure::{Cause, Resource};
 
-/// Returns what to do about a call on this that failed, if the mistake is known, else an empty text. The end has this
-/// line and this folder.
-pub(crate) fn hint_words(line: &str, dir: &str, resource: Resource, cause: Cause) -> &'static str
-    ensures { result.now ≡ hint_words line.now dir.now resource cause }
+/// Appends what to do about a call on this that failed, if the mistake is known. The end has this line and this folder.
+pub(crate) fn add_hint<A: Allocator>(
+    text: &mut String<A>,
+    line: &str,
+    dir: &str,
+    resource: Resource,
+    cause: Cause,
+) -> Result<(), AllocError>
+    ensures { OnOk result (string_bytes text.new
+        ≡ string_bytes text.old ++ hint_words line.now dir.now resource cause) }
 {
     match resource {
-        Resource::Dir => exchanged_hint(line, dir),
-        Resource::GotFolder => got_hint(cause),
-        Resource::Line => line_hint(cause),
-        _ => "",
+        Resource::Dir => text.push_str(exchanged_hint(line, dir)),
+        Resource::GotFolder => text.push_str(got_hint(cause)),
+        Resource::Line => add_line_hint(text, line, cause),
+        _ => Ok(()),
     }
 }
 
@@ -58,14 +66,63 @@ fn got_hint(cause: Cause) -> &'static str
     }
 }
 
-/// Returns the hint about a call on the line that failed.
-fn line_hint(cause: Cause) -> &'static str
-    ensures { result.now ≡ line_hint cause }
+/// Appends the hint about a call on the line that failed.
+fn add_line_hint<A: Allocator>(
+    text: &mut String<A>,
+    line: &str,
+    cause: Cause,
+) -> Result<(), AllocError>
+    ensures { OnOk result
+        (string_bytes text.new ≡ string_bytes text.old ++ line_hint line.now cause) }
 {
     match cause {
+        Cause::Refused(ErrorKind::NotFound, _) => add_absent_hint(text, line),
         Cause::Refused(ErrorKind::IsADirectory, _) | Cause::NoTerminal => {
-            " (LINE is a terminal device, tcp:HOST:PORT, unix:PATH or -)"
+            text.push_str(" (LINE is a terminal device, tcp:HOST:PORT, unix:PATH or -)")
         }
-        _ => "",
+        _ => Ok(()),
     }
+}
+
+/// Appends the hint about a line that is not there: a bare word, which may lack its front.
+fn add_absent_hint<A: Allocator>(text: &mut String<A>, line: &str) -> Result<(), AllocError>
+    ensures { OnOk result
+        (string_bytes text.new ≡ string_bytes text.old ++ absent_hint line.now) }
+{
+    if !is_bare(line.as_bytes()) {
+        return Ok(());
+    }
+    text.push_str(" (LINE is a terminal device, tcp:HOST:PORT, unix:PATH or -")?;
+    add_guess(text, line)?;
+    text.push_str(")")
+}
+
+/// Appends the line that is probably meant by a bare word, if that can be guessed: a device, or a port of a host.
+fn add_guess<A: Allocator>(text: &mut String<A>, line: &str) -> Result<(), AllocError>
+    ensures { OnOk result
+        (string_bytes text.new ≡ string_bytes text.old ++ guess_words line.now) }
+{
+    if line.as_bytes().starts_with(b"tty") {
+        text.push_str(": give /dev/")?;
+        add_escaped(text, line.as_bytes())
+    } else if has_byte(line.as_bytes(), b':') {
+        text.push_str(": give tcp:")?;
+        add_escaped(text, line.as_bytes())
+    } else {
+        Ok(())
+    }
+}
+
+/// Returns whether a word is neither a path with a slash nor begins as the name of a line does.
+fn is_bare(word: &[u8]) -> bool
+    ensures { result ≡ is_bare word.now }
+{
+    !names_line(word) && !has_byte(word, b'/')
+}
+
+/// Returns whether a word has this byte.
+fn has_byte(word: &[u8], byte: u8) -> bool
+    ensures { result ≡ has_byte word.now byte }
+{
+    word.contains(&byte)
 }

@@ -5,7 +5,7 @@ ghost use Rattle.uug_scan.specs.Detailed.{escaped};
 
 use crate::cause::add_cause;
 use crate::escape::add_escaped;
-use crate::hint::hint_words;
+use crate::hint::add_hint;
 use std::alloc::{AllocError, Allocator};
 use uug_failure::{EndText, Resource, SystemFailure};
 
@@ -35,7 +35,7 @@ pub fn reason_line<A: Allocator>(
     )?;
     text.push_str(": ")?;
     add_cause(&mut text, failure.resource, failure.cause)?;
-    text.push_str(hint_words(line, first, failure.resource, failure.cause))?;
+    add_hint(&mut text, line, first, failure.resource, failure.cause)?;
     text.push_str("\n")?;
     Ok(text)
 }

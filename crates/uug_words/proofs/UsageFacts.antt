@@ -10,8 +10,8 @@ record AreSaid : Type 0 where
   name : name_words (codes "Foo bar") ≡ codes "\"Foo bar\" is no name of a system: 1 to 200 printing characters without a space"
   no_peer : peer_words [] ≡ codes "the name of the other end is missing: --peer"
   peer : peer_words (codes "a b") ≡ name_words (codes "a b")
-  port : line_words (codes "tcp:h:x") ≡ codes "tcp:h:x has no port of 0 to 65535"
-  alone : line_words (codes "tcp:h") ≡ codes "tcp:h has no port of 0 to 65535"
+  port : line_words (codes "tcp:h:x") ≡ codes "tcp:h:x has no port of 0 to 65535: give tcp:HOST:PORT, the port as a number"
+  alone : line_words (codes "tcp:h") ≡ codes "tcp:h has no port of 0 to 65535: give tcp:HOST:PORT, the port as a number"
   host : line_words (codes "tcp::5") ≡ codes "tcp::5 has no host"
   path : line_words (codes "unix:") ≡ codes "unix: has no path"
   empty : line_words [] ≡ codes "the line has no name"

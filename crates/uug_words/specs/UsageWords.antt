@@ -41,7 +41,7 @@ is_port line = is_port_behind (rsplit_once colon line)
 abbrev pub lack_words : List ℕ → List ℕ
 lack_words line =
     if starts_with nat_eq line (codes "unix:") then codes " has no path" else
-    (if is_port line then codes " has no host" else codes " has no port of 0 to 65535")
+    (if is_port line then codes " has no host" else codes " has no port of 0 to 65535: give tcp:HOST:PORT, the port as a number")
 
 abbrev pub line_words : List ℕ → List ℕ
 line_words line = if length line == 0 then codes "the line has no name" else (escaped line ++ lack_words line)

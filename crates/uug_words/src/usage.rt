@@ -171,7 +171,7 @@ fn lack_words(line: &str) -> &'static str
     } else if is_port(line) {
         " has no host"
     } else {
-        " has no port of 0 to 65535"
+        " has no port of 0 to 65535: give tcp:HOST:PORT, the port as a number"
     }
 }
 
