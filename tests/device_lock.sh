@@ -63,7 +63,7 @@ answer_at() {
 # turned_away SYSTEM LINE: whether the call was turned away, and its job stays.
 turned_away() {
     [ "$(cat "$work/$1.status")" -eq 3 ] &&
-        [ "$(cat "$work/$1.err")" = "$(printf 'uucpair: device fault\nuucpair: %s is in use' "$work/$2/near")" ] &&
+        [ "$(head -n 2 "$work/$1.err")" = "$(printf 'uucpair: device fault\nuucpair: %s is in use' "$work/$2/near")" ] &&
         [ ! -s "$work/$1.out" ] && [ -s "$work/$1/jobs" ]
 }
 

@@ -133,6 +133,27 @@ mistake "a host without a port" 3 "${fault}beta.example: no such file or directo
 call_of b a
 mistake "a folder for the line" 3 "${fault}b: is a directory $forms" "${call[@]}"
 
+# A device that another program holds, by its lock file, and by a lock of its own.
+held_by="./LCK..line"
+socat pty,link="$work/line",raw,echo=0,mode=666 pty,raw,echo=0 &
+terminals=$!
+wait_until 10 test -e "$work/line" || true
+call_of ./line a
+printf '%10d\n' $$ >"$work/LCK..line"
+mistake "a device that another process holds" 3 \
+    "${fault}./line is in use"$'\n'"process $$ holds it, by $held_by: call again when that has ended" "${call[@]}"
+echo hello >"$work/LCK..line"
+mistake "a lock file without a process" 3 \
+    "${fault}./line is in use"$'\n'"by $held_by, which names no process: remove that file if nobody uses the line" "${call[@]}"
+rm -f "$work/LCK..line"
+exec {held}<>"$work/line"
+flock "$held"
+mistake "a device that another program has opened" 3 \
+    "${fault}./line is in use"$'\n'"it has no lock file: who has opened it is told by fuser ./line" "${call[@]}"
+exec {held}>&-
+kill "$terminals"
+wait "$terminals" || true
+
 raw="a terminal has to be raw: stty raw -echo"
 uncalled="heard nothing (is the other end calling? $raw)"
 unanswered="heard nothing (is the other end answering? $raw)"

@@ -185,11 +185,15 @@ def a_terminal_that_is_locked(one):
     terminals = Terminals()
     near = terminals.names[0]
     lock = one.path(f"locks/LCK..{os.path.basename(near)}")
-    in_use = (3, "", said("device fault", f"{near} is in use"))
-    rows = (("of a process that lives", f"{os.getpid():10d}\n"), ("of a text that is no number", "hello\n"))
-    for what, text in rows:
+    path = f"locks/LCK..{os.path.basename(near)}"
+    rows = (("of a process that lives", f"{os.getpid():10d}\n",
+             f"process {os.getpid()} holds it, by {path}: call again when that has ended"),
+            ("of a text that is no number", "hello\n",
+             f"by {path}, which names no process: remove that file if nobody uses the line"))
+    for what, text, who in rows:
         write(lock, text)
         ended = one.run(ends.words("call", near, "--locks", "locks", "--timeout", "1"))
+        in_use = (3, "", said("device fault", f"{near} is in use", who))
         one.row(f"a lock {what} turns it away", (ended.all(), text_of(lock)), (in_use, text))
     for what, text in (("of a process that is gone", " 999999999\n"), ("that is empty", ""), ("of process 0", "         0\n")):
         write(lock, text)

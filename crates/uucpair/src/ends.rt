@@ -22,7 +22,7 @@ use uug_port::{ReportFile, SystemOutput};
 use uug_reason::reason_line;
 use uug_stop::{LOG, REPORT, STATS};
 use uug_stream::{Output, ToolFault};
-use uug_sys::{SystemObserver, call_run, log_fault};
+use uug_sys::{SystemObserver, call_run, line_held_remark, log_fault};
 use uug_task::{CallTask, ReportPlace, System};
 use uug_words::PairTask;
 
@@ -186,12 +186,31 @@ where
         output,
     );
     if let Err(fault) = &answer {
-        if let Some(said) = jobs_remark(rt, call.dir, fault) {
+        if let Some(said) = fault_remark(rt, call, fault) {
             let _ = remark.push_str(said.as_str());
         }
         log_answer(rt, call, fault);
     }
     Outcome { answer, remark }
+}
+
+/// Returns what is wrong with the jobs of one end, or who holds its line, if that is the fault.
+fn fault_remark<R: Files + AllocGlobal>(
+    rt: &R,
+    call: &CallTask<'_>,
+    fault: &RunFault,
+) -> Option<String> {
+    match fault {
+        RunFault::System(failure) if is_held_line(failure) => {
+            line_held_remark(rt.alloc(), rt, call).ok()
+        }
+        fault => jobs_remark(rt, call.dir, fault),
+    }
+}
+
+/// Returns whether another run holds the line.
+fn is_held_line(failure: &SystemFailure) -> bool {
+    matches!((failure.resource, failure.cause), (Resource::Line, Cause::InUse))
 }
 
 /// Returns the observer of one end, with its log open if one is named.

@@ -64,6 +64,17 @@ pub fn lock_device<A: Allocator + Copy, R: Files<File = File>>(
     }
 }
 
+/// Returns who holds the lock of a device, by its file in the folder of the locks.
+pub fn lock_holder<A: Allocator, R: Files>(
+    alloc: A,
+    rt: &R,
+    folder: &str,
+    device: &str,
+) -> Result<Holder, AllocError> {
+    let path = lock_path(alloc, folder, device)?;
+    Ok(holder_at(rt, path.as_str()))
+}
+
 impl<A: Allocator> DeviceLock<A> {
     /// Removes the lock, unless another process has it by now.
     pub fn release<R: Files>(self, rt: &R) {

@@ -28,7 +28,7 @@ mod system_text;
 mod writable;
 mod written;
 
-pub use device_lock::{DeviceLock, lock_device};
+pub use device_lock::{DeviceLock, lock_device, lock_holder};
 pub use dir_lock::{DirLock, lock_dir, see_folders};
 pub use given_files::{Given, OTHERS_MAX, read_given};
 pub use no_file::NoFile;

@@ -27,7 +27,7 @@ abbrev pub status_of_stop : Stop → ℕ
 status_of_stop (Fault fault) = status_of fault
 status_of_stop (Remarked fault remark) = status_of fault
 status_of_stop (File name reason) = status_of Read
-status_of_stop (stops.InUse name) = status_of Device
+status_of_stop (stops.InUse name line) = status_of Device
 status_of_stop (stops.Number bad) = status_of Usage
 status_of_stop (stops.Limit line) = status_of Device
 status_of_stop (Told fault line) = status_of fault
@@ -40,7 +40,7 @@ abbrev pub HasRemark : ToolFault → (remark : List ℕ) → Stop → Type 0
 HasRemark fault remark (Remarked f text) = (f ≡ fault) × (string_bytes text ≡ remark)
 HasRemark fault remark (Fault f) = ⊥
 HasRemark fault remark (File name reason) = ⊥
-HasRemark fault remark (stops.InUse name) = ⊥
+HasRemark fault remark (stops.InUse name line) = ⊥
 HasRemark fault remark (stops.Number bad) = ⊥
 HasRemark fault remark (stops.Limit line) = ⊥
 HasRemark fault remark (Told f line) = ⊥
@@ -52,7 +52,7 @@ SaysReason reason (Told fault line) = (fault ≡ Device) × (string_bytes line �
 SaysReason reason (Fault fault) = fault ≡ Device
 SaysReason reason (Remarked fault remark) = ⊥
 SaysReason reason (File name line) = ⊥
-SaysReason reason (stops.InUse name) = ⊥
+SaysReason reason (stops.InUse name line) = ⊥
 SaysReason reason (stops.Number bad) = ⊥
 SaysReason reason (stops.Limit line) = ⊥
 SaysReason reason (CommandLine error) = ⊥
@@ -63,7 +63,7 @@ HasLine fault line (Told f text) = (f ≡ fault) × (string_bytes text ≡ line)
 HasLine fault line (Fault f) = ⊥
 HasLine fault line (Remarked f remark) = ⊥
 HasLine fault line (File name reason) = ⊥
-HasLine fault line (stops.InUse name) = ⊥
+HasLine fault line (stops.InUse name line) = ⊥
 HasLine fault line (stops.Number bad) = ⊥
 HasLine fault line (stops.Limit limit) = ⊥
 HasLine fault line (CommandLine error) = ⊥
@@ -77,7 +77,7 @@ abbrev pub NamesFileFor : (path reason : List ℕ) → Stop → Type 0
 NamesFileFor path reason (File name line) = (string_bytes name ≡ path) × (string_bytes line ≡ reason)
 NamesFileFor path reason (Fault fault) = fault ≡ Memory
 NamesFileFor path reason (Remarked fault remark) = ⊥
-NamesFileFor path reason (stops.InUse name) = ⊥
+NamesFileFor path reason (stops.InUse name line) = ⊥
 NamesFileFor path reason (stops.Number bad) = ⊥
 NamesFileFor path reason (stops.Limit line) = ⊥
 NamesFileFor path reason (Told f line) = ⊥
@@ -89,7 +89,7 @@ SaysLimit reason (stops.Limit line) = string_bytes line ≡ reason
 SaysLimit reason (Fault fault) = fault ≡ Memory
 SaysLimit reason (Remarked fault remark) = ⊥
 SaysLimit reason (File name line) = ⊥
-SaysLimit reason (stops.InUse name) = ⊥
+SaysLimit reason (stops.InUse name line) = ⊥
 SaysLimit reason (stops.Number bad) = ⊥
 SaysLimit reason (Told fault line) = ⊥
 SaysLimit reason (CommandLine error) = ⊥
@@ -112,16 +112,16 @@ abbrev pub StopsOnScriptFile : (path : List ℕ) → RunFault → (remark : List
 StopsOnScriptFile path (Unread failure) remark stop = NamesFile path failure stop
 StopsOnScriptFile path fault remark stop = StopsOnScript fault remark stop
 
--- the folder or the line of this name is named, unless there was no memory for that
-abbrev pub NamesFolder : (dir : List ℕ) → Stop → Type 0
-NamesFolder dir (stops.InUse name) = string_bytes name ≡ dir
-NamesFolder dir (stops.Number bad) = ⊥
-NamesFolder dir (stops.Limit line) = ⊥
-NamesFolder dir (Fault fault) = fault ≡ Memory
-NamesFolder dir (File name reason) = ⊥
-NamesFolder dir (Remarked fault remark) = ⊥
-NamesFolder dir (Told f line) = ⊥
-NamesFolder dir (CommandLine error) = ⊥
+-- The folder or the line of this name is named, and this remark follows, which may be empty, unless there was no memory for that.
+abbrev pub NamesFolder : (dir remark : List ℕ) → Stop → Type 0
+NamesFolder dir remark (stops.InUse name line) = (string_bytes name ≡ dir) × (string_bytes line ≡ remark)
+NamesFolder dir remark (stops.Number bad) = ⊥
+NamesFolder dir remark (stops.Limit line) = ⊥
+NamesFolder dir remark (Fault fault) = fault ≡ Memory
+NamesFolder dir remark (File name reason) = ⊥
+NamesFolder dir remark (Remarked fault text) = ⊥
+NamesFolder dir remark (Told f line) = ⊥
+NamesFolder dir remark (CommandLine error) = ⊥
 
 -- The file that a failure on an output of one end is of: its report, the second, its log, or the third, the statistics.
 abbrev pub output_of : CallTask → (number : ℕ) → List ℕ
@@ -140,24 +140,24 @@ SaysNumber reason (stops.Number line) = string_bytes line ≡ reason
 SaysNumber reason (Fault fault) = fault ≡ Memory
 SaysNumber reason (Remarked fault remark) = ⊥
 SaysNumber reason (File name line) = ⊥
-SaysNumber reason (stops.InUse name) = ⊥
+SaysNumber reason (stops.InUse name line) = ⊥
 SaysNumber reason (stops.Limit line) = ⊥
 SaysNumber reason (Told fault line) = ⊥
 SaysNumber reason (CommandLine error) = ⊥
 
--- The message names the line or the folder that another run holds, and a bad number file. It reports of another failed call of the
--- system on what and why.
-abbrev pub StopsOnCause : Places → SystemFailure → Cause → Stop → Type 0
-StopsOnCause p failure causes.InUse stop = NamesFolder (held_by_another p failure.end failure.resource) stop
-StopsOnCause p failure causes.NotANumber stop = SaysNumber (reason_line p failure) stop
-StopsOnCause p failure cause stop = SaysReason (reason_line p failure) stop
+-- The message names the line or the folder that another run holds, with this remark, and a bad number file. It reports of another
+-- failed call of the system on what and why.
+abbrev pub StopsOnCause : Places → SystemFailure → (remark : List ℕ) → Cause → Stop → Type 0
+StopsOnCause p failure remark causes.InUse stop = NamesFolder (held_by_another p failure.end failure.resource) remark stop
+StopsOnCause p failure remark causes.NotANumber stop = SaysNumber (reason_line p failure) stop
+StopsOnCause p failure remark cause stop = SaysReason (reason_line p failure) stop
 
 -- it is said what is wrong with the usage, which this holds of, unless there was no memory for that
 abbrev pub SaysUsage : (List ℕ → Type 0) → Stop → Type 0
 SaysUsage IsWrong (Remarked fault remark) = (fault ≡ Usage) × IsWrong (string_bytes remark)
 SaysUsage IsWrong (Fault fault) = fault ≡ Usage
 SaysUsage IsWrong (File name reason) = ⊥
-SaysUsage IsWrong (stops.InUse name) = ⊥
+SaysUsage IsWrong (stops.InUse name line) = ⊥
 SaysUsage IsWrong (stops.Number bad) = ⊥
 SaysUsage IsWrong (stops.Limit line) = ⊥
 SaysUsage IsWrong (Told f line) = ⊥
@@ -165,7 +165,7 @@ SaysUsage IsWrong (CommandLine error) = ⊥
 
 -- of two ends it is said what is wrong with a line of jobs, and where a call of the system failed
 abbrev pub StopsOnLoudPair : PairTask → RunFault → (remark : List ℕ) → Stop → Type 0
-StopsOnLoudPair pair (System failure) remark stop = StopsOnCause (places [] pair.socket.now pair.dir_a.now pair.dir_b.now) failure failure.cause stop
+StopsOnLoudPair pair (System failure) remark stop = StopsOnCause (places [] pair.socket.now pair.dir_a.now pair.dir_b.now) failure remark failure.cause stop
 StopsOnLoudPair pair (Tool (Jobs line)) remark stop = HasLine (Jobs line) remark stop
 StopsOnLoudPair pair fault remark stop = stop ≡ Fault (fault_of_run fault)
 
@@ -182,7 +182,7 @@ StopsOnPair pair fault remark stop = StopsOnPairBy pair.is_loud pair fault remar
 -- The message of one end reports bad usage, a bad line of its jobs, or the failed call of the system. Its folders are its own, and
 -- that of the locks.
 abbrev pub StopsOnEnd : CallTask → RunFault → (remark : List ℕ) → Stop → Type 0
-StopsOnEnd call (System failure) remark stop = StopsOnCause (places (output_of call failure.end) call.line.now call.dir.now call.locks.now) failure failure.cause stop
+StopsOnEnd call (System failure) remark stop = StopsOnCause (places (output_of call failure.end) call.line.now call.dir.now call.locks.now) failure remark failure.cause stop
 StopsOnEnd call (Tool Usage) remark stop = SaysUsage (IsUsageOf call) stop
 StopsOnEnd call (Tool (Jobs line)) remark stop = HasLine (Jobs line) remark stop
 StopsOnEnd call fault remark stop = stop ≡ Fault (fault_of_run fault)
@@ -212,7 +212,7 @@ StopsOnQueue dir file (Tool fault) remark stop = stop ≡ Fault fault
 -- Of a job that was to be cancelled it is said what is wrong with the usage or with a line of jobs. The folder is named that another
 -- run holds, and it is said on what another call of the system failed, and why.
 abbrev pub StopsOnCancel : (dir : List ℕ) → RunFault → (remark : List ℕ) → Stop → Type 0
-StopsOnCancel dir (System failure) remark stop = StopsOnCause (places [] [] dir dir) failure failure.cause stop
+StopsOnCancel dir (System failure) remark stop = StopsOnCause (places [] [] dir dir) failure remark failure.cause stop
 StopsOnCancel dir (Tool Usage) remark stop = HasRemark Usage remark stop
 StopsOnCancel dir (Tool (Jobs line)) remark stop = HasLine (Jobs line) remark stop
 StopsOnCancel dir fault remark stop = stop ≡ Fault (fault_of_run fault)

@@ -57,7 +57,8 @@ fn stop_of_loud_pair(alloc: Global, pair: &PairTask<'_>, fault: RunFault, remark
 {
     match fault {
         RunFault::System(failure) => {
-            stop_of_cause(alloc, "", pair.socket, pair.dir_a, pair.dir_b, failure)
+            let (line, first, second) = (pair.socket, pair.dir_a, pair.dir_b);
+            stop_of_cause(alloc, "", line, first, second, failure, remark)
         }
         RunFault::Tool(ToolFault::Jobs(line)) => Stop::Told(ToolFault::Jobs(line), remark),
         fault => Stop::Fault(fault.answer()),
@@ -77,7 +78,7 @@ pub(crate) fn stop_of_end(
     match fault {
         RunFault::System(failure) => {
             let output = output_named(call, failure.end);
-            stop_of_cause(alloc, output, call.line, call.dir, call.locks, failure)
+            stop_of_cause(alloc, output, call.line, call.dir, call.locks, failure, remark)
         }
         RunFault::Tool(ToolFault::Usage) => says_usage(usage_remark(alloc, call)),
         RunFault::Tool(ToolFault::Jobs(line)) => Stop::Told(ToolFault::Jobs(line), remark),
@@ -86,7 +87,7 @@ pub(crate) fn stop_of_end(
 }
 
 /// Returns why one end gave up after a failed call of the system, by its folders and its line. It names what another
-/// run holds, and a bad number file.
+/// run holds, with this remark, and a bad number file.
 fn stop_of_cause(
     alloc: Global,
     output: &str,
@@ -94,13 +95,14 @@ fn stop_of_cause(
     first: &str,
     second: &str,
     failure: SystemFailure,
+    remark: String,
 ) -> Stop
     ensures { StopsOnCause (places output.now line.now first.now second.now)
-        failure failure.cause result }
+        failure (string_bytes remark) failure.cause result }
 {
     let cause = failure.cause;
     if let Cause::InUse = cause {
-        return names_folder(alloc, held_by_another(line, first, second, failure));
+        return names_folder(alloc, held_by_another(line, first, second, failure), remark);
     }
     let reason = reason_line(alloc, output, line, first, second, failure);
     match cause {
@@ -164,7 +166,7 @@ pub(crate) fn stop_of_cancel(alloc: Global, dir: &str, fault: RunFault, remark: 
     ensures { StopsOnCancel dir.now fault (string_bytes remark) result }
 {
     match fault {
-        RunFault::System(failure) => stop_of_cause(alloc, "", "", dir, dir, failure),
+        RunFault::System(failure) => stop_of_cause(alloc, "", "", dir, dir, failure, remark),
         RunFault::Tool(ToolFault::Usage) => Stop::Remarked(ToolFault::Usage, remark),
         RunFault::Tool(ToolFault::Jobs(line)) => Stop::Told(ToolFault::Jobs(line), remark),
         fault => Stop::Fault(fault.answer()),

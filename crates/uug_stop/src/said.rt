@@ -89,12 +89,12 @@ fn names_file_for(alloc: Global, path: &str, reason: String) -> Stop
     }
 }
 
-/// Returns that another run holds the folder or the line of this name, if there is memory to say that.
-pub(crate) fn names_folder(alloc: Global, dir: &str) -> Stop
-    ensures { NamesFolder dir.now result }
+/// Returns that another run holds the folder or the line of this name, with this remark, if there is memory to say that.
+pub(crate) fn names_folder(alloc: Global, dir: &str, remark: String) -> Stop
+    ensures { NamesFolder dir.now (string_bytes remark) result }
 {
     match String::from_str(alloc, dir) {
-        Ok(name) => Stop::InUse(name),
+        Ok(name) => Stop::InUse(name, remark),
         Err(_) => Stop::Fault(ToolFault::Memory),
     }
 }

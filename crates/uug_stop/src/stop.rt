@@ -21,9 +21,9 @@ pub enum Stop {
     /// The file of this name can't be opened or read; a line says why, if that is known.
     #[error("uucpair: device fault\nuucpair: can't read {0}\n{1}")]
     File(String, String),
-    /// Another run works in the folder of this name, or holds the line of this name.
-    #[error("uucpair: device fault\nuucpair: {0} is in use\n")]
-    InUse(String),
+    /// Another run works in the folder of this name, or holds the line of this name; a remark on that, which may be empty.
+    #[error("uucpair: device fault\nuucpair: {0} is in use\n{1}")]
+    InUse(String, String),
     /// A number file without a number in it, which a line names.
     #[error("uucpair: {BadNumber}\n{0}")]
     Number(String),
@@ -46,7 +46,7 @@ impl Stop {
         match self {
             Stop::Fault(fault) | Stop::Remarked(fault, _) | Stop::Told(fault, _) => fault.status(),
             Stop::File(_, _) => ToolFault::Read.status(),
-            Stop::InUse(_) | Stop::Limit(_) => ToolFault::Device.status(),
+            Stop::InUse(_, _) | Stop::Limit(_) => ToolFault::Device.status(),
             Stop::Number(_) | Stop::CommandLine(_) => ToolFault::Usage.status(),
         }
     }

@@ -1,5 +1,6 @@
 pub mod Callers
 pub mod EndAnswers
+pub mod HeldLines
 pub mod HubFaults
 pub mod JobRemarks
 pub mod LineEnds
