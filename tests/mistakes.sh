@@ -221,6 +221,8 @@ mistake "a blank in the name of a file" 2 "$jobs 1"$'\n''a/jobs: line 1: "me" is
     "${call[@]}"
 folders $'send x ~/y me\r'
 mistake "a line of another system" 2 "$jobs 1"$'\n'"a/jobs: line 1: it ends in CR LF: let the lines end in LF alone" "${call[@]}"
+folders $'send x\t~/y me'
+mistake "a tab between words" 2 "$jobs 1"$'\n'"a/jobs: line 1: a tab is in it: only spaces stand between words" "${call[@]}"
 folders $'send x ~/\a me'
 mistake "a target that is no name" 2 "$jobs 1"$'\n''a/jobs: line 1: "~/\x07" is no name: 1 to 200 printing characters' "${call[@]}"
 folders "send x ~/y me"

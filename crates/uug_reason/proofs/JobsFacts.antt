@@ -9,9 +9,10 @@ record AreSaid : Type 0 where
   many : jobs_remark (codes "a") (codes "send my file y me") 1 ≡ codes "uucpair: a/jobs: line 1: \"me\" is one word too many: a name has no space in it" ++ 10 ∷ []
   name : jobs_remark (codes "a") (codes "send x " ++ (7 ∷ codes " me")) 1 ≡ codes "uucpair: a/jobs: line 1: \"\\x07\" is no name: 1 to 200 printing characters" ++ 10 ∷ []
   carriage : jobs_remark (codes "a") (codes "send x y me" ++ (13 ∷ 10 ∷ codes "put")) 1 ≡ codes "uucpair: a/jobs: line 1: it ends in CR LF: let the lines end in LF alone" ++ 10 ∷ []
+  tabbed : jobs_remark (codes "a") (codes "send x" ++ (9 ∷ codes "y me")) 1 ≡ codes "uucpair: a/jobs: line 1: a tab is in it: only spaces stand between words" ++ 10 ∷ []
   other : jobs_remark (codes "a") (codes "put x y") 2 ≡ []
   good : jobs_remark (codes "a") (codes "send x y me") 1 ≡ []
 
 said : AreSaid
 unfolding digits
-said = record { order = refl; few = refl; many = refl; name = refl; carriage = refl; other = refl; good = refl }
+said = record { order = refl; few = refl; many = refl; name = refl; carriage = refl; tabbed = refl; other = refl; good = refl }

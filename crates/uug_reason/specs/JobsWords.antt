@@ -1,7 +1,7 @@
 -- What is wrong with a line of jobs, in words (this project's profile).
 use Rattle.std.specs.Fmt.{decimal}
-use Rattle.std.specs.Prelude.{◌==◌, ◌-◌, ◌||◌, ℕ, Bool, List, [], ◌∷◌, ◌++◌, codes, length, nat_eq, nat_le, take, Option, Some, None, Result, Ok, Err, if◌then◌else◌}
-use Rattle.std.specs.List.{ends_with}
+use Rattle.std.specs.Prelude.{◌==◌, ◌-◌, ◌||◌, ℕ, Bool, List, [], ◌∷◌, ◌++◌, codes, eqb, length, nat_eq, nat_le, take, Option, Some, None, Result, Ok, Err, if◌then◌else◌}
+use Rattle.std.specs.List.{ends_with, list_any}
 use Rattle.std.specs.Str.{bytes_eq}
 use Rattle.uug_conversation.specs.declared.job.Job.{Job}
 use Rattle.uug_folder.specs.JobsText.{jobs_of}
@@ -51,12 +51,18 @@ words_lack (first ∷ behind) =
 abbrev pub ends_in_cr : List ℕ → Bool
 ends_in_cr line = ends_with nat_eq line (13 ∷ [])
 
+abbrev pub has_tab : List ℕ → Bool
+has_tab line = list_any (λ b. eqb b 9) line
+
+-- what is wrong with a line that is bad and not too long
+abbrev pub blanks_lack : List ℕ → List ℕ
+blanks_lack line =
+    if ends_in_cr line then codes "it ends in CR LF: let the lines end in LF alone" else
+    (if has_tab line then codes "a tab is in it: only spaces stand between words" else words_lack (words line))
+
 -- what is wrong with a line that is bad
 abbrev pub lack_words : List ℕ → List ℕ
-lack_words line =
-    if nat_le (length line) LINE_MAX
-    then (if ends_in_cr line then codes "it ends in CR LF: let the lines end in LF alone" else words_lack (words line))
-    else codes "it is over 65536 bytes"
+lack_words line = if nat_le (length line) LINE_MAX then blanks_lack line else codes "it is over 65536 bytes"
 
 -- of which folder's jobs a line is, and its number
 abbrev pub place_words : (dir : List ℕ) → (number : ℕ) → List ℕ

@@ -100,6 +100,9 @@ fn add_lack<A: Allocator>(text: &mut String<A>, line: &[u8]) -> Result<(), Alloc
     if line.ends_with(b"\r") {
         return text.push_str("it ends in CR LF: let the lines end in LF alone");
     }
+    if line.contains(&b'\t') {
+        return text.push_str("a tab is in it: only spaces stand between words");
+    }
     add_words_lack(text, line)
 }
 
