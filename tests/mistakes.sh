@@ -110,6 +110,12 @@ call_of unix:old a
 mistake "a socket at which nobody listens" 3 "${fault}unix:old: connection refused" "${call[@]}"
 mistake "a socket in a folder that is not there" 3 "${fault}none/s: no such file or directory" pair none/s a b -v
 mistake "what can't be seen in the name of a socket" 3 "${fault}none\\x1b[31m/s: no such file or directory" pair $'none\e[31m/s' a b -v
+long=$(printf 's%.0s' {1..108})
+too_long="invalid argument (the path of a socket has at most 107 bytes)"
+call_of "unix:$long" a
+mistake "a socket's path that is too long" 3 "${fault}unix:$long: $too_long" "${call[@]}"
+mistake "the same of an end that waits" 3 "${fault}unix:$long: $too_long" answer "unix:$long" a --me alpha --peer beta
+mistake "the same of both ends" 3 "${fault}$long: $too_long" pair "$long" a b -v
 call_of - a
 mistake "standard input that is no line" 3 "${fault}-: standard input or output is no socket, pipe or terminal" "${call[@]}"
 : >"$work/device"

@@ -1,5 +1,5 @@
 -- What is said of calls that failed, so that a wrong definition does not check.
-use Rattle.std.proofs.Common.{◌≡◌, [], ◌∷◌, ◌++◌, codes, Some, None, refl, pos}
+use Rattle.std.proofs.Common.{◌≡◌, [], ◌∷◌, ◌++◌, codes, replicate, Some, None, refl, pos}
 use Rattle.std.specs.Fmt.{digits}
 use Rattle.std.specs.declared.io.ErrorKind.TheVariants as kinds
 use Rattle.uug_failure.specs.declared.failure.Cause.TheVariants as causes
@@ -29,6 +29,9 @@ host_places = places [] (codes "h:540") [] []
 abbrev pub word_places : Places
 word_places = places [] (codes "h") [] []
 
+abbrev pub long_places : Places
+long_places = places [] (replicate 108 115) [] []
+
 -- one end in a folder below that of the devices
 abbrev shared_places : Places
 shared_places = places [] (codes "unix:s") (codes "/dev/shm/a") (codes "/dev/shm/a")
@@ -53,6 +56,7 @@ record AreSaid : Type 0 where
   device : reason_line device_places (record { end = 0; resource = on.Line; cause = causes.Refused kinds.NotFound (Some (pos 2)) }) ≡ codes "uucpair: ttyS0: no such file or directory (LINE is a terminal device, tcp:HOST:PORT, unix:PATH or -: give /dev/ttyS0)" ++ 10 ∷ []
   named : reason_line host_places (record { end = 0; resource = on.Line; cause = causes.Refused kinds.NotFound (Some (pos 2)) }) ≡ codes "uucpair: h:540: no such file or directory (LINE is a terminal device, tcp:HOST:PORT, unix:PATH or -: give tcp:h:540)" ++ 10 ∷ []
   bare : reason_line word_places (record { end = 0; resource = on.Line; cause = causes.Refused kinds.NotFound (Some (pos 2)) }) ≡ codes "uucpair: h: no such file or directory (LINE is a terminal device, tcp:HOST:PORT, unix:PATH or -)" ++ 10 ∷ []
+  long : reason_line long_places (record { end = 0; resource = on.Line; cause = causes.Refused kinds.InvalidInput None }) ≡ codes "uucpair: " ++ (replicate 108 115 ++ (codes ": invalid argument (the path of a socket has at most 107 bytes)" ++ 10 ∷ []))
   socket : reason_line pair_places (record { end = 0; resource = on.Line; cause = causes.Refused kinds.AddrInUse (Some (pos 98)) }) ≡ codes "uucpair: s: address in use" ++ 10 ∷ []
   pipe : reason_line output_places (record { end = 1; resource = on.Output; cause = causes.NotAFile }) ≡ codes "uucpair: standard output: a named pipe may have no reader: name a file, /dev/stdout or /dev/stderr" ++ 10 ∷ []
   told : reason_line pair_places (record { end = 0; resource = on.Text Jobs; cause = causes.NotAFile }) ≡ codes "uucpair: a/jobs: not a regular file" ++ 10 ∷ []
@@ -60,4 +64,4 @@ record AreSaid : Type 0 where
 
 said : AreSaid
 unfolding digits
-said = record { line = refl; host = refl; numbered = refl; escaped = refl; given = refl; got = refl; files = refl; spool = refl; exchanged = refl; shared = refl; lacks = refl; plain = refl; device = refl; named = refl; bare = refl; socket = refl; pipe = refl; told = refl; output = refl }
+said = record { line = refl; host = refl; numbered = refl; escaped = refl; given = refl; got = refl; files = refl; spool = refl; exchanged = refl; shared = refl; lacks = refl; plain = refl; device = refl; named = refl; bare = refl; long = refl; socket = refl; pipe = refl; told = refl; output = refl }

@@ -1,5 +1,5 @@
 -- What to do about a call of the system that a known mistake makes fail (this project's profile).
-use Rattle.std.specs.Prelude.{◌==◌, ◌&&◌, ◌||◌, ℕ, Bool, not, List, [], ◌++◌, codes, eqb, length, nat_eq, if◌then◌else◌}
+use Rattle.std.specs.Prelude.{◌==◌, ◌&&◌, ◌||◌, ℕ, Bool, not, List, [], ◌++◌, codes, eqb, length, nat_eq, nat_le, if◌then◌else◌}
 use Rattle.std.specs.List.{list_any, starts_with}
 use Rattle.std.specs.Str.{bytes_eq}
 use Rattle.std.specs.declared.io.ErrorKind.TheVariants as kinds
@@ -46,11 +46,16 @@ absent_hint line =
     if is_bare line
     then codes " (LINE is a terminal device, tcp:HOST:PORT, unix:PATH or -" ++ (guess_words line ++ codes ")") else []
 
+-- of a socket whose path is too long
+abbrev pub long_hint : (line : List ℕ) → List ℕ
+long_hint line = if nat_le (length line) 107 then [] else codes " (the path of a socket has at most 107 bytes)"
+
 -- of a line that is none
 abbrev pub line_hint : (line : List ℕ) → Cause → List ℕ
 line_hint line (Refused kinds.NotFound number) = absent_hint line
 line_hint line (Refused kinds.IsADirectory number) = codes " (LINE is a terminal device, tcp:HOST:PORT, unix:PATH or -)"
 line_hint line NoTerminal = codes " (LINE is a terminal device, tcp:HOST:PORT, unix:PATH or -)"
+line_hint line (Refused kinds.InvalidInput number) = long_hint line
 line_hint line _ = []
 
 abbrev pub hint_words : (line dir : List ℕ) → Resource → Cause → List ℕ

@@ -1,11 +1,14 @@
 //! Hints about what to do after a call of the system that a known mistake makes fail.
 ghost use Rattle.std.specs.Prelude.{◌≡◌, ◌++◌, OnOk, string_bytes};
-ghost use Rattle.uug_reason.specs.ReasonHints.{absent_hint, are_exchanged, exchanged_hint, got_hint, guess_words, has_byte, hint_words, is_bare, line_hint, names_line};
+ghost use Rattle.uug_reason.specs.ReasonHints.{absent_hint, are_exchanged, exchanged_hint, got_hint, guess_words, has_byte, hint_words, is_bare, line_hint, long_hint, names_line};
 
 use crate::escape::add_escaped;
 use std::alloc::{AllocError, Allocator};
 use std::io::ErrorKind;
 use uug_failure::{Cause, Resource};
+
+/// The maximum number of bytes in the path of a Unix socket.
+const SOCKET_PATH_MAX: usize = 107;
 
 /// Appends what to do about a call on this that failed, if the mistake is known. The end has this line and this folder.
 pub(crate) fn add_hint<A: Allocator>(
@@ -80,6 +83,7 @@ fn add_line_hint<A: Allocator>(
         Cause::Refused(ErrorKind::IsADirectory, _) | Cause::NoTerminal => {
             text.push_str(" (LINE is a terminal device, tcp:HOST:PORT, unix:PATH or -)")
         }
+        Cause::Refused(ErrorKind::InvalidInput, _) => text.push_str(long_hint(line)),
         _ => Ok(()),
     }
 }
@@ -110,6 +114,17 @@ fn add_guess<A: Allocator>(text: &mut String<A>, line: &str) -> Result<(), Alloc
         add_escaped(text, line.as_bytes())
     } else {
         Ok(())
+    }
+}
+
+/// Returns the hint about a line that the system takes for invalid: a socket whose path is too long.
+fn long_hint(line: &str) -> &'static str
+    ensures { result.now ≡ long_hint line.now }
+{
+    if line.len() > SOCKET_PATH_MAX {
+        " (the path of a socket has at most 107 bytes)"
+    } else {
+        ""
     }
 }
 
