@@ -474,7 +474,7 @@ helps "how it ends" " s: send ~/x y: done 0 bytes in "
 helps "what was lost" " bytes rejects 0 repeats 0 damaged 0"
 folders "send x /etc/y u"
 answer_in_the_background
-row "a call with a path for a target" 0 "uucpair: send x /etc/y u: refused by the other end: in a folder a target is a name, NAME or ~/NAME$line_feed" \
+row "a call with a path for a target" 0 "uucpair: send x /etc/y u: refused by the other end: in a folder a target is a name, NAME or ~/NAME, without a dot in front$line_feed" \
     "caller done pending 0 struck 0 failed 1${line_feed}caller failed send x /etc/y u$line_feed" \
     call "unix:$socket" "$a" --me a --peer b </dev/null
 wait "$answerer" || true

@@ -263,8 +263,11 @@ failing() {
 failing "no such file" "no file a/send/none" "send none ~/y me"
 failing "a file that is too large" "a/send/large is larger than --file-limit" "send large ~/y me" \
     "a/send/large: 1048577 bytes, and the limit is 1048576 (--file-limit); the job will be given up"
-failing "a path for a file" "a source is a name: NAME or ~/NAME" "send send/x ~/y me"
-failing "a target below a folder" "refused by the other end: in a folder a target is a name, NAME or ~/NAME" "send x ~/dir/y me"
+failing "a path for a file" "a source is a name: NAME or ~/NAME, without a dot in front" "send send/x ~/y me"
+failing "a file that is hidden" "a source is a name: NAME or ~/NAME, without a dot in front" "send .x ~/y me"
+no_target="refused by the other end: in a folder a target is a name, NAME or ~/NAME, without a dot in front"
+failing "a target below a folder" "$no_target" "send x ~/dir/y me"
+failing "a target that is hidden" "$no_target" "send x ~/.y me"
 failing "a target here that is hidden" "a target is a name: NAME or ~/NAME, without a dot in front" "request y .y me"
 failing "no such file at the other end" \
     "not given by the other end: no such file in its send, or one that may not go; or not to be put in its place here" \

@@ -28,7 +28,7 @@ def prepare(one, numbered=7):
 CALLER = report("caller", struck=4, failed=["send none n me", "request gone g you"])
 CALLED = report("called", struck=2, failed=["send y .hidden me"])
 CALLER_SAID = said("send none n me: no file alpha/send/none", f"request gone g you: {NOT_GIVEN}")
-PATH = "refused by the other end: in a folder a target is a name, NAME or ~/NAME"
+PATH = "refused by the other end: in a folder a target is a name, NAME or ~/NAME, without a dot in front"
 CALLED_SAID = said(f"send y .hidden me: {PATH}")
 CALLER_LOG = [
     "Calling system beta (port {line})", "Sending x (9 bytes)", "Sending empty (0 bytes)", "Receiving r2 (14 bytes)",

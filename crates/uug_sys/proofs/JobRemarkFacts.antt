@@ -15,7 +15,7 @@ a_request = Request (codes "x") (codes "y") (codes "me")
 
 record AreSaid : Type 0 where
   sent : job_line a_send (failed_words [] [] a_send Refused)
-      ≡ codes "uucpair: send x ~/d/y me: refused by the other end: in a folder a target is a name, NAME or ~/NAME" ++ 10 ∷ []
+      ≡ codes "uucpair: send x ~/d/y me: refused by the other end: in a folder a target is a name, NAME or ~/NAME, without a dot in front" ++ 10 ∷ []
   missing : job_line a_send (failed_words (codes "a") [] a_send NoFile) ≡ codes "uucpair: send x ~/d/y me: no file a/send/x" ++ 10 ∷ []
   large : job_line a_send (failed_words (codes "a") (codes "x" ∷ []) a_send NoFile)
       ≡ codes "uucpair: send x ~/d/y me: a/send/x is larger than --file-limit" ++ 10 ∷ []

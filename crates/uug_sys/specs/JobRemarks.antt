@@ -35,13 +35,13 @@ path_lack dir name true = dir ++ (codes "/send/" ++ (name ++ codes " is larger t
 path_lack dir name false = codes "no file " ++ (dir ++ (codes "/send/" ++ name))
 
 abbrev pub local_lack : (dir : List ℕ) → (large : List (List ℕ)) → Option (List ℕ) → List ℕ
-local_lack dir large None = codes "a source is a name: NAME or ~/NAME"
+local_lack dir large None = codes "a source is a name: NAME or ~/NAME, without a dot in front"
 local_lack dir large (Some name) = path_lack dir name (has_name large name)
 
 -- of a job whose target the other end refuses, or this one
 abbrev pub refused_words : Option (List ℕ) → List ℕ
 refused_words (Some name) = codes "refused by the other end"
-refused_words None = codes "refused by the other end: in a folder a target is a name, NAME or ~/NAME"
+refused_words None = codes "refused by the other end: in a folder a target is a name, NAME or ~/NAME, without a dot in front"
 
 abbrev pub not_taken_words : Option (List ℕ) → List ℕ
 not_taken_words (Some name) = codes "no file of this name is taken here"

@@ -194,7 +194,10 @@ fn local_lack<A: Allocator + Copy>(
 {
     match name {
         Some(name) => path_lack(alloc, dir, &name, has_name(large, name.as_bytes())),
-        None => String::from_str(alloc, "a source is a name: NAME or ~/NAME"),
+        None => String::from_str(
+            alloc,
+            "a source is a name: NAME or ~/NAME, without a dot in front",
+        ),
     }
 }
 
@@ -221,7 +224,9 @@ fn refused_words(name: Option<Name>) -> &'static str
 {
     match name {
         Some(_) => "refused by the other end",
-        None => "refused by the other end: in a folder a target is a name, NAME or ~/NAME",
+        None => {
+            "refused by the other end: in a folder a target is a name, NAME or ~/NAME, without a dot in front"
+        }
     }
 }
 
