@@ -273,6 +273,31 @@ failing "no such file at the other end" \
     "not given by the other end: no such file in its send, or one that may not go; or not to be put in its place here" \
     "request none ~/y me"
 
+# over_there NAME SAID JOB: what a caller says of a job that an end refuses which takes files of at most 5 bytes.
+over_there() {
+    local answerer
+    folders "$3"
+    echo 12345 >"$work/a/send/six"
+    mkdir "$work/b/got/dir"
+    chmod -R a+rwX "$work/a/send" "$work/b/got"
+    (cd "$work" && "${as_user[@]}" timeout 60 "$program" answer unix:line b --me beta --peer alpha --file-limit 5 \
+        >/dev/null 2>&1 </dev/null) &
+    answerer=$!
+    wait_for_socket "$work/line" || true
+    call_of unix:line a
+    (cd "$work" && "${as_user[@]}" timeout 60 "$program" "${call[@]}") >"$work/printed" 2>"$work/said" </dev/null || true
+    wait "$answerer" || true
+    if [ "$(cat "$work/said")" = "uucpair: $3: refused by the other end: maybe $2" ]; then
+        passed=$((passed + 1))
+    else
+        failed=$((failed + 1))
+        echo "$1: said $(cat "$work/said")"
+    fi
+}
+
+over_there "a file that is over the limit there" "6 bytes are over its --file-limit, or a folder has that name there" "send six y me"
+over_there "a folder of that name there" "a folder has that name there" "send x dir me"
+
 # Nobody answers, and a file that is too large is told of all the same, once for both its jobs.
 folders "send large ~/y me" "send x x me" "send large ~/z me"
 head -c 1048577 /dev/zero >"$work/a/send/large"

@@ -249,7 +249,7 @@ def names_that_are_too_long(one):
     wait_until(lambda: listens_at(one.line[5:]) or called.process.poll() is not None)
     caller = ends.call(one.line)
     one.row("who calls", caller.all(), (0, report("caller", struck=1, failed=[f"send x {name} me"]),
-            said(f"send x {name} me: refused by the other end")))
+            said(f"send x {name} me: refused by the other end: maybe 2 bytes are over its --file-limit, or a folder has that name there")))
     one.row("who is called", called.end().all(), (0, report("called"), ""))
 
 

@@ -30,6 +30,13 @@ CALLED = report("called", struck=2, failed=["send y .hidden me"])
 CALLER_SAID = said("send none n me: no file alpha/send/none", f"request gone g you: {NOT_GIVEN}")
 PATH = "refused by the other end: in a folder a target is a name, NAME or ~/NAME, without a dot in front"
 CALLED_SAID = said(f"send y .hidden me: {PATH}")
+
+
+def refused_of(size):
+    """What is said of a file of so many bytes that the other end has refused."""
+    return f"refused by the other end: maybe {size} bytes are over its --file-limit, or a folder has that name there"
+
+
 CALLER_LOG = [
     "Calling system beta (port {line})", "Sending x (9 bytes)", "Sending empty (0 bytes)", "Receiving r2 (14 bytes)",
     "ERROR: request gone g: refused", "Sending long (9000 bytes)", "Receiving /y (5000 bytes)", "Sending asked (15 bytes)",
@@ -224,7 +231,7 @@ def large_files(one):
     one.row("both ways", (caller.all(), called.all()), ((0, report("caller", struck=1), ""), (0, report("called", struck=1), "")))
     one.row("they are whole", [text_of(ends.at(end, "got/large")) == text for end in ("alpha", "beta")], [True, True])
     job = "send large other me"
-    for who, limits, why, before in (("taker", {"answer": ["--file-limit", "4999999"]}, "refused by the other end", []),
+    for who, limits, why, before in (("taker", {"answer": ["--file-limit", "4999999"]}, refused_of(5_000_000), []),
                                      ("giver", {"call": ["--file-limit", "4999999"]}, "alpha/send/large is larger than --file-limit",
                                       [too_large("alpha/send/large", 5_000_000, 4_999_999)])):
         ends.jobs("alpha", job)
@@ -249,7 +256,7 @@ def files_about_as_large_as_they_may_be(one):
         for who in ("call", "answer"):
             ends.jobs("alpha", *(f"send {name} {name} me" for name in sizes))
             caller, called = ends.talk(**{who: ["--file-limit", str(limit)]})
-            why = "alpha/send/more is larger than --file-limit" if who == "call" else "refused by the other end"
+            why = "alpha/send/more is larger than --file-limit" if who == "call" else refused_of(limit + 1)
             before = [too_large("alpha/send/more", limit + 1, limit)] if who == "call" else []
             job = "send more more me"
             one.row(f"{limit}, {who}", (caller.all(), called.status),
@@ -301,7 +308,7 @@ def what_is_there_already(one):
     caller, called = ends.talk()
     refused = ["send y ~/dir/y me", "send x ../x me", "send x ~/.h me", "send x dir me"]
     one.row("call", caller.all(), (0, report("caller", struck=1, failed=refused),
-            said(*(f"{job}: {PATH}" for job in refused[:3]), f"{refused[3]}: refused by the other end")))
+            said(*(f"{job}: {PATH}" for job in refused[:3]), f"{refused[3]}: {refused_of(4)}")))
     one.row("answer", called.all(), (0, report("called"), ""))
     one.row("beta's folder", ends.state("beta"), {"got/x": "new\n", "got/other": "other\n", "got/dir/f": "below\n"})
     one.row("alpha's folder", {name: text for name, text in ends.state("alpha").items() if name != "failed"},

@@ -1,6 +1,8 @@
 -- What is said of the jobs that an end has given up, and of those that its session put off (this project's profile).
-use Rattle.std.specs.Prelude.{ℕ, Bool, true, false, List, [], ◌∷◌, ◌++◌, Option, Some, None, codes}
-use Rattle.uug_conversation.specs.Holdings.{Holdings}
+use Rattle.std.specs.Fmt.{decimal}
+use Rattle.std.specs.Prelude.{ℕ, ◌==◌, Bool, true, false, List, [], ◌∷◌, ◌++◌, Option, Some, None, codes, length, if◌then◌else◌}
+use Rattle.uug_conversation.specs.Choice.{fetched_by}
+use Rattle.uug_conversation.specs.Holdings.{File, Holdings}
 use Rattle.uug_conversation.specs.MemoryHoldings.{has_name}
 use Rattle.uug_conversation.specs.declared.job.Job.{Job}
 use Rattle.uug_conversation.specs.declared.job.Job.TheVariants.{Send, Request}
@@ -38,27 +40,41 @@ abbrev pub local_lack : (dir : List ℕ) → (large : List (List ℕ)) → Optio
 local_lack dir large None = codes "a source is a name: NAME or ~/NAME, without a dot in front"
 local_lack dir large (Some name) = path_lack dir name (has_name large name)
 
--- of a job whose target the other end refuses, or this one
-abbrev pub refused_words : Option (List ℕ) → List ℕ
-refused_words (Some name) = codes "refused by the other end"
-refused_words None = codes "refused by the other end: in a folder a target is a name, NAME or ~/NAME, without a dot in front"
+-- how many bytes the file has that a job sends
+abbrev pub size_of : Option File → ℕ
+size_of None = 0
+size_of (Some file) = length file.bytes
+
+abbrev pub size_sent : Holdings → Job → ℕ
+size_sent own (Send source target user temp) = size_of (own.file (fetched_by source temp))
+size_sent own (Request source target user) = 0
+
+-- of a job whose target the other end refuses, for a file of this size, or this one
+abbrev pub sized_words : (size : ℕ) → List ℕ
+sized_words size =
+    if size == 0 then codes "refused by the other end: maybe a folder has that name there" else
+    codes "refused by the other end: maybe " ++ (decimal size ++ codes " bytes are over its --file-limit, or a folder has that name there")
+
+abbrev pub refused_words : Option (List ℕ) → (size : ℕ) → List ℕ
+refused_words (Some name) size = sized_words size
+refused_words None size = codes "refused by the other end: in a folder a target is a name, NAME or ~/NAME, without a dot in front"
 
 abbrev pub not_taken_words : Option (List ℕ) → List ℕ
 not_taken_words (Some name) = codes "no file of this name is taken here"
 not_taken_words None = codes "a target is a name: NAME or ~/NAME, without a dot in front"
 
 -- by the names of files that are too large
-abbrev pub failed_words : (dir : List ℕ) → (large : List (List ℕ)) → Job → WhyFailed → List ℕ
-failed_words dir large job NoFile = local_lack dir large (local_source (source_of job))
-failed_words dir large job Refused = refused_words (local_source (target_of job))
-failed_words dir large job NotTaken = not_taken_words (local_source (target_of job))
-failed_words dir large job NotGiven = codes "not given by the other end: no such file in its send, or one that may not go; or not to be put in its place here"
+abbrev pub failed_words : (dir : List ℕ) → (large : List (List ℕ)) → Job → WhyFailed → (size : ℕ) → List ℕ
+failed_words dir large job NoFile size = local_lack dir large (local_source (source_of job))
+failed_words dir large job Refused size = refused_words (local_source (target_of job)) size
+failed_words dir large job NotTaken size = not_taken_words (local_source (target_of job))
+failed_words dir large job NotGiven size = codes "not given by the other end: no such file in its send, or one that may not go; or not to be put in its place here"
 
 -- of each job by what the end's own files give and take
 abbrev pub failed_remark : (dir : List ℕ) → (large : List (List ℕ)) → Holdings → List Job → List ℕ
 failed_remark dir large own [] = []
 failed_remark dir large own (job ∷ more) =
-    job_line job (failed_words dir large job (why_failed own job)) ++ failed_remark dir large own more
+    job_line job (failed_words dir large job (why_failed own job) (size_sent own job)) ++ failed_remark dir large own more
 
 -- whether a session in which these jobs were given up counts as one that is not done
 abbrev pub has_failed : (is_fail_status : Bool) → (failed : List Job) → Bool

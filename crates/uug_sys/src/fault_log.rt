@@ -46,7 +46,7 @@ where
     for job in jobs {
         let why = why_failed(spool, job);
         if let WhyFailed::NoFile | WhyFailed::NotTaken = why {
-            if let Ok(line) = failed_line(alloc, task.dir, large, job, why) {
+            if let Ok(line) = failed_line(alloc, task.dir, large, job, why, 0) {
                 log_fault(alloc, rt, task, words_of(line.as_str()));
             }
         }

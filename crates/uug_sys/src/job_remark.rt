@@ -1,7 +1,8 @@
 //! Remarks about the jobs that an end has given up, and those that its session put off.
 ghost use Rattle.std.specs.Prelude.{◌≡◌, ◌∷◌, [], ◌++◌, IfOk, OnOk, codes, string_bytes};
+ghost use Rattle.uug_conversation.specs.Choice.{fetched_by};
 ghost use Rattle.uug_scan.specs.Detailed.{escaped};
-ghost use Rattle.uug_sys.specs.JobRemarks.{failed_remark, failed_words, job_line, local_lack, not_taken_words, path_lack, put_off_lines, put_off_remark, put_off_words, refused_words, source_of, target_of};
+ghost use Rattle.uug_sys.specs.JobRemarks.{failed_remark, failed_words, job_line, local_lack, not_taken_words, path_lack, put_off_lines, put_off_remark, put_off_words, refused_words, size_sent, source_of, target_of};
 ghost use Rattle.uug_talk.specs.Lines.{ended};
 ghost use Rattle.uug_talk.specs.Words.{joined};
 
@@ -49,20 +50,21 @@ pub(crate) fn put_off_remark<A: Allocator>(
     Ok(remark)
 }
 
-/// Returns the line of a job of the folder `dir` that was given up, with the reason.
+/// Returns the line of a job of the folder `dir` that was given up, with the reason. `size` is that of its file.
 pub(crate) fn failed_line<A: Allocator + Copy>(
     alloc: A,
     dir: &str,
     large: &[Name],
     job: &Job,
     why: WhyFailed,
+    size: usize,
 ) -> Result<String<A>, AllocError>
     ensures { IfOk result (λ line. string_bytes line
-        ≡ job_line job.now (failed_words (escaped dir.now) large.now job.now why)) }
+        ≡ job_line job.now (failed_words (escaped dir.now) large.now job.now why size)) }
 {
     let mut shown = String::new(alloc);
     add_escaped(&mut shown, dir.as_bytes())?;
-    let words = failed_words(alloc, shown.as_str(), large, job, why)?;
+    let words = failed_words(alloc, shown.as_str(), large, job, why, size)?;
     let mut line = String::new(alloc);
     add_line(&mut line, job, words.as_str())?;
     Ok(line)
@@ -81,7 +83,8 @@ fn add_failed<S: Spool, A: Allocator + Copy>(
         ≡ string_bytes text.old ++ failed_remark dir.now large.now (S.holdings spool.now) jobs.now) }
 {
     for job in jobs {
-        let words = failed_words(alloc, dir, large, job, why_failed(spool, job))?;
+        let (why, size) = (why_failed(spool, job), size_sent(spool, job));
+        let words = failed_words(alloc, dir, large, job, why, size)?;
         add_line(text, job, words.as_str())?;
     }
     Ok(())
@@ -141,20 +144,21 @@ fn add_words<A: Allocator>(
     write!(text, "uucpair: {first} {source} {target} {user}: {why}\n")
 }
 
-/// Returns the words for why a job was given up.
+/// Returns the words for why a job was given up. `size` is that of its file.
 fn failed_words<A: Allocator + Copy>(
     alloc: A,
     dir: &str,
     large: &[Name],
     job: &Job,
     why: WhyFailed,
+    size: usize,
 ) -> Result<String<A>, AllocError>
     ensures { IfOk result (λ words.
-        string_bytes words ≡ failed_words dir.now large.now job.now why) }
+        string_bytes words ≡ failed_words dir.now large.now job.now why size) }
 {
     match why {
         WhyFailed::NoFile => local_lack(alloc, dir, large, local_source(source_of(job))),
-        WhyFailed::Refused => String::from_str(alloc, refused_words(local_source(target_of(job)))),
+        WhyFailed::Refused => refused_words(alloc, local_source(target_of(job)), size),
         WhyFailed::NotTaken => {
             String::from_str(alloc, not_taken_words(local_source(target_of(job))))
         }
@@ -218,15 +222,50 @@ fn path_lack<A: Allocator + Copy>(
     }
 }
 
-/// Returns the words for a target that the other end has refused. It is a name in a folder, if it is one.
-fn refused_words(name: Option<Name>) -> &'static str
-    ensures { result.now ≡ refused_words name }
+/// Returns the number of bytes of the file that a job sends, which is 0 if it sends none.
+fn size_sent<S: Spool>(spool: &S, job: &Job) -> usize
+    ensures { result ≡ size_sent (S.holdings spool.now) job.now }
+{
+    match job {
+        Job::Send { source, temp, .. } => match spool.fetch(fetched_by(source, temp)) {
+            Some(file) => file.bytes.len(),
+            None => 0,
+        },
+        Job::Request { .. } => 0,
+    }
+}
+
+/// Returns the name by which the file of a Send job is fetched.
+fn fetched_by<'a>(source: &'a Name, temp: &'a Option<Name>) -> &'a Name
+    ensures { result.now ≡ fetched_by source.now temp.now }
+{
+    match temp {
+        Some(temp) => temp,
+        None => source,
+    }
+}
+
+/// Returns the words for a target that the other end has refused, for a file of this size. It is a name in a folder, if
+/// it is one.
+fn refused_words<A: Allocator>(
+    alloc: A,
+    name: Option<Name>,
+    size: usize,
+) -> Result<String<A>, AllocError>
+    ensures { IfOk result (λ words. string_bytes words ≡ refused_words name size) }
 {
     match name {
-        Some(_) => "refused by the other end",
-        None => {
-            "refused by the other end: in a folder a target is a name, NAME or ~/NAME, without a dot in front"
-        }
+        Some(_) if size == 0 => String::from_str(
+            alloc,
+            "refused by the other end: maybe a folder has that name there",
+        ),
+        Some(_) => format!(in alloc;
+            "refused by the other end: maybe {size} bytes are over its --file-limit, or a folder has that name there"
+        ),
+        None => String::from_str(
+            alloc,
+            "refused by the other end: in a folder a target is a name, NAME or ~/NAME, without a dot in front",
+        ),
     }
 }
 
