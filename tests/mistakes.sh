@@ -83,6 +83,15 @@ call_of tcp:127.0.0.1:1 a
 mistake "nobody listens at a port" 3 "${fault}tcp:127.0.0.1:1: connection refused" "${call[@]}"
 call_of tcp:nobody.invalid:540 a
 mistake "no such host" 3 "${fault}tcp:nobody.invalid:540: unknown host" "${call[@]}"
+call_of tcp:127.0.0.1:0 a
+mistake "port 0" 3 "${fault}tcp:127.0.0.1:0: connection refused (port 0 is none: give 1 to 65535)" "${call[@]}"
+brackets="unknown host (an IPv6 address has no brackets: tcp:::1:540)"
+call_of "tcp:[::1]:4000" a
+mistake "an IPv6 address in brackets" 3 "${fault}tcp:[::1]:4000: $brackets" "${call[@]}"
+mistake "the same of an end that waits" 3 "${fault}tcp:[::1]:4000: $brackets" answer "tcp:[::1]:4000" a --me alpha --peer beta
+call_of tcp://nobody.invalid:540 a
+mistake "a line that looks like a web address" 3 \
+    "${fault}tcp://nobody.invalid:540: unknown host (give tcp:HOST:PORT, without slashes)" "${call[@]}"
 call_of /dev/ttyNONE a
 mistake "no such device" 3 "${fault}/dev/ttyNONE: no such file or directory" "${call[@]}"
 call_of a unix:line
@@ -182,6 +191,9 @@ stream.bind(("127.0.0.1", 0))
 print(stream.getsockname()[1])')
 waiting "tcp:$port" "waiting on 127.0.0.1:$port (this machine only; tcp:0.0.0.0:$port for all)"
 waiting "tcp:127.0.0.1:$port" ""
+any_port="(any free port, which no caller knows: give 1 to 65535)"
+waiting tcp:0 "waiting on 127.0.0.1:0 $any_port"
+waiting tcp:0.0.0.0:0 "waiting on 0.0.0.0:0 $any_port"
 
 # ---- the folder
 

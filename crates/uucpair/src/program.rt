@@ -24,7 +24,9 @@ use uug_port::{SystemInput, SystemOutput};
 use uug_stop::{Stop, end_of, with_reason};
 use uug_stream::{Output, ToolFault, write_all};
 use uug_task::{CallTask, System};
-use uug_words::{Task, VERSION, has_no_host, hint_words, order_remark, task_of, waiting_words};
+use uug_words::{
+    Task, VERSION, has_no_host, has_no_port, hint_words, order_remark, task_of, waiting_words,
+};
 
 /// The remark on an order beside a job to cancel.
 const QUEUED_OR_CANCELLED: &str = "a job is queued or cancelled, not both";
@@ -143,12 +145,14 @@ where
 }
 
 /// Says that standard input is read, or at which line a call is waited for, if somebody sits there. Nobody has to, for
-/// it to be said of a port that only this machine can call because no host is given.
+/// it to be said of a port that only this machine can call because no host is given, or that no caller knows.
 fn greet<R: Eprint + AllocGlobal>(rt: &R, task: Task<'_>, console: Console) {
     match task {
         Task::Call(call)
             if call.side == Side::Called
-                && (console.is_errors_terminal || has_no_host(call.line)) => {
+                && (console.is_errors_terminal
+                    || has_no_host(call.line)
+                    || has_no_port(call.line)) => {
             // A message for which there is no memory is left out.
             let _ = say_waiting(rt, &call);
         }

@@ -29,6 +29,12 @@ host_places = places [] (codes "h:540") [] []
 abbrev pub word_places : Places
 word_places = places [] (codes "h") [] []
 
+abbrev pub bracketed_places : Places
+bracketed_places = places [] (codes "tcp:[::1]:5") [] []
+
+abbrev pub zero_places : Places
+zero_places = places [] (codes "tcp:h:0") [] []
+
 abbrev pub long_places : Places
 long_places = places [] (replicate 108 115) [] []
 
@@ -57,6 +63,8 @@ record AreSaid : Type 0 where
   named : reason_line host_places (record { end = 0; resource = on.Line; cause = causes.Refused kinds.NotFound (Some (pos 2)) }) ≡ codes "uucpair: h:540: no such file or directory (LINE is a terminal device, tcp:HOST:PORT, unix:PATH or -: give tcp:h:540)" ++ 10 ∷ []
   bare : reason_line word_places (record { end = 0; resource = on.Line; cause = causes.Refused kinds.NotFound (Some (pos 2)) }) ≡ codes "uucpair: h: no such file or directory (LINE is a terminal device, tcp:HOST:PORT, unix:PATH or -)" ++ 10 ∷ []
   long : reason_line long_places (record { end = 0; resource = on.Line; cause = causes.Refused kinds.InvalidInput None }) ≡ codes "uucpair: " ++ (replicate 108 115 ++ (codes ": invalid argument (the path of a socket has at most 107 bytes)" ++ 10 ∷ []))
+  bracketed : reason_line bracketed_places (record { end = 0; resource = on.Line; cause = causes.Refused kinds.Uncategorized None }) ≡ codes "uucpair: tcp:[::1]:5: unknown host (an IPv6 address has no brackets: tcp:::1:540)" ++ 10 ∷ []
+  zero : reason_line zero_places (record { end = 0; resource = on.Line; cause = causes.Refused kinds.ConnectionRefused (Some (pos 111)) }) ≡ codes "uucpair: tcp:h:0: connection refused (port 0 is none: give 1 to 65535)" ++ 10 ∷ []
   socket : reason_line pair_places (record { end = 0; resource = on.Line; cause = causes.Refused kinds.AddrInUse (Some (pos 98)) }) ≡ codes "uucpair: s: address in use" ++ 10 ∷ []
   pipe : reason_line output_places (record { end = 1; resource = on.Output; cause = causes.NotAFile }) ≡ codes "uucpair: standard output: a named pipe may have no reader: name a file, /dev/stdout or /dev/stderr" ++ 10 ∷ []
   told : reason_line pair_places (record { end = 0; resource = on.Text Jobs; cause = causes.NotAFile }) ≡ codes "uucpair: a/jobs: not a regular file" ++ 10 ∷ []
@@ -64,4 +72,4 @@ record AreSaid : Type 0 where
 
 said : AreSaid
 unfolding digits
-said = record { line = refl; host = refl; numbered = refl; escaped = refl; given = refl; got = refl; files = refl; spool = refl; exchanged = refl; shared = refl; lacks = refl; plain = refl; device = refl; named = refl; bare = refl; long = refl; socket = refl; pipe = refl; told = refl; output = refl }
+said = record { line = refl; host = refl; numbered = refl; escaped = refl; given = refl; got = refl; files = refl; spool = refl; exchanged = refl; shared = refl; lacks = refl; plain = refl; device = refl; named = refl; bare = refl; long = refl; bracketed = refl; zero = refl; socket = refl; pipe = refl; told = refl; output = refl }

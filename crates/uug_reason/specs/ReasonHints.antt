@@ -1,6 +1,6 @@
 -- What to do about a call of the system that a known mistake makes fail (this project's profile).
-use Rattle.std.specs.Prelude.{◌==◌, ◌&&◌, ◌||◌, ℕ, Bool, not, List, [], ◌++◌, codes, eqb, length, nat_eq, nat_le, if◌then◌else◌}
-use Rattle.std.specs.List.{list_any, starts_with}
+use Rattle.std.specs.Prelude.{◌==◌, ◌&&◌, ◌||◌, ℕ, Bool, not, List, [], ◌++◌, codes, eqb, length, nat_eq, nat_le, None, if◌then◌else◌}
+use Rattle.std.specs.List.{ends_with, list_any, starts_with}
 use Rattle.std.specs.Str.{bytes_eq}
 use Rattle.std.specs.declared.io.ErrorKind.TheVariants as kinds
 use Rattle.uug_failure.specs.declared.failure.Cause.{Cause}
@@ -50,12 +50,24 @@ absent_hint line =
 abbrev pub long_hint : (line : List ℕ) → List ℕ
 long_hint line = if nat_le (length line) 107 then [] else codes " (the path of a socket has at most 107 bytes)"
 
+-- of a port that refuses a call
+abbrev pub zero_hint : (line : List ℕ) → List ℕ
+zero_hint line = if ends_with nat_eq line (codes ":0") then codes " (port 0 is none: give 1 to 65535)" else []
+
+-- of a host that has no address
+abbrev pub host_hint : (line : List ℕ) → List ℕ
+host_hint line =
+    if starts_with nat_eq line (codes "tcp:[") then codes " (an IPv6 address has no brackets: tcp:::1:540)" else
+    (if starts_with nat_eq line (codes "tcp://") then codes " (give tcp:HOST:PORT, without slashes)" else [])
+
 -- of a line that is none
 abbrev pub line_hint : (line : List ℕ) → Cause → List ℕ
 line_hint line (Refused kinds.NotFound number) = absent_hint line
 line_hint line (Refused kinds.IsADirectory number) = codes " (LINE is a terminal device, tcp:HOST:PORT, unix:PATH or -)"
 line_hint line NoTerminal = codes " (LINE is a terminal device, tcp:HOST:PORT, unix:PATH or -)"
 line_hint line (Refused kinds.InvalidInput number) = long_hint line
+line_hint line (Refused kinds.ConnectionRefused number) = zero_hint line
+line_hint line (Refused kind None) = host_hint line
 line_hint line _ = []
 
 abbrev pub hint_words : (line dir : List ℕ) → Resource → Cause → List ℕ

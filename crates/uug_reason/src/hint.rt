@@ -1,6 +1,6 @@
 //! Hints about what to do after a call of the system that a known mistake makes fail.
 ghost use Rattle.std.specs.Prelude.{◌≡◌, ◌++◌, OnOk, string_bytes};
-ghost use Rattle.uug_reason.specs.ReasonHints.{absent_hint, are_exchanged, exchanged_hint, got_hint, guess_words, has_byte, hint_words, is_bare, line_hint, long_hint, names_line};
+ghost use Rattle.uug_reason.specs.ReasonHints.{absent_hint, are_exchanged, exchanged_hint, got_hint, guess_words, has_byte, hint_words, host_hint, is_bare, line_hint, long_hint, names_line, zero_hint};
 
 use crate::escape::add_escaped;
 use std::alloc::{AllocError, Allocator};
@@ -84,6 +84,8 @@ fn add_line_hint<A: Allocator>(
             text.push_str(" (LINE is a terminal device, tcp:HOST:PORT, unix:PATH or -)")
         }
         Cause::Refused(ErrorKind::InvalidInput, _) => text.push_str(long_hint(line)),
+        Cause::Refused(ErrorKind::ConnectionRefused, _) => text.push_str(zero_hint(line)),
+        Cause::Refused(_, None) => text.push_str(host_hint(line)),
         _ => Ok(()),
     }
 }
@@ -123,6 +125,30 @@ fn long_hint(line: &str) -> &'static str
 {
     if line.len() > SOCKET_PATH_MAX {
         " (the path of a socket has at most 107 bytes)"
+    } else {
+        ""
+    }
+}
+
+/// Returns the hint about a port that refuses a call: port 0.
+fn zero_hint(line: &str) -> &'static str
+    ensures { result.now ≡ zero_hint line.now }
+{
+    if line.as_bytes().ends_with(b":0") {
+        " (port 0 is none: give 1 to 65535)"
+    } else {
+        ""
+    }
+}
+
+/// Returns the hint about a host that has no address: one that is written as in a web address.
+fn host_hint(line: &str) -> &'static str
+    ensures { result.now ≡ host_hint line.now }
+{
+    if line.as_bytes().starts_with(b"tcp:[") {
+        " (an IPv6 address has no brackets: tcp:::1:540)"
+    } else if line.as_bytes().starts_with(b"tcp://") {
+        " (give tcp:HOST:PORT, without slashes)"
     } else {
         ""
     }

@@ -3,7 +3,7 @@ ghost use Rattle.std.specs.Prelude.{◌≡◌, IfOk, codes, string_bytes};
 ghost use Rattle.std.specs.Option.{option_copied};
 ghost use Rattle.uug_scan.specs.Detailed.{escaped};
 ghost use Rattle.uug_transfer.specs.LineNames.{behind, shown};
-ghost use Rattle.uug_words.specs.WaitingWords.{has_colon, has_no_host, name_words, reach_words, tcp_words, waiting_words};
+ghost use Rattle.uug_words.specs.WaitingWords.{has_colon, has_no_host, has_no_port, name_words, reach_words, tcp_words, waiting_words};
 
 use std::alloc::{AllocError, Allocator};
 use uug_reason::add_escaped;
@@ -47,6 +47,16 @@ pub fn has_no_host(line: &str) -> bool
     }
 }
 
+/// Returns whether a line is port 0 of a host, for which the system picks one that no caller knows.
+pub fn has_no_port(line: &str) -> bool
+    ensures { result ≡ has_no_port line.now }
+{
+    match read_line_name(line) {
+        Some(LineName::Tcp(_, port)) => port == 0,
+        _ => false,
+    }
+}
+
 /// Returns the address of a line that is a port.
 fn address_of(line: &str) -> Option<&str>
     ensures { option_copied result ≡ behind (codes "tcp:") line.now }
@@ -72,11 +82,13 @@ fn tcp_words<A: Allocator + Copy>(alloc: A, host: &str, port: u16) -> Result<Str
     format!(in alloc; "{shown}:{port}{reach}")
 }
 
-/// Returns who can call this port, if only this machine can.
+/// Returns who can call this port, if only this machine can, or nobody knows it.
 fn reach_words<A: Allocator>(alloc: A, host: &str, port: u16) -> Result<String<A>, AllocError>
     ensures { IfOk result (λ words. string_bytes words ≡ reach_words host.now port) }
 {
-    if host.as_bytes() == b"127.0.0.1".as_slice() {
+    if port == 0 {
+        String::from_str(alloc, " (any free port, which no caller knows: give 1 to 65535)")
+    } else if host.as_bytes() == b"127.0.0.1".as_slice() {
         format!(in alloc; " (this machine only; tcp:0.0.0.0:{port} for all)")
     } else {
         Ok(String::new(alloc))
