@@ -419,7 +419,34 @@ unhappy "an end that is busy" refused 'the other end refused: "RLCK" (it is busy
 folders "send x ~/y me"
 speaker '\x10Shere=beta\0' '\x10RLOGIN\0'
 unhappy "an end that does not know us" refused \
-    'the other end refused: "RLOGIN" (it does not know the name of this end)' "${alpha[@]}"
+    'the other end refused: "RLOGIN" (it does not let the name of --me in, or not by this login)' "${alpha[@]}"
+
+# parting [TEXT]: an end at the socket `line` that hangs up when it is called, behind this text.
+parting() {
+    python3 - "$work/line" "${1:-}" <<'END' &
+import os, socket, sys
+listener = socket.socket(socket.AF_UNIX)
+listener.bind(sys.argv[1])
+os.chmod(sys.argv[1], 0o777)
+listener.listen()
+stream = listener.accept()[0]
+stream.sendall(sys.argv[2].encode().decode("unicode_escape").encode("latin-1"))
+stream.shutdown(socket.SHUT_WR)
+while stream.recv(4096):
+    pass
+END
+    answerer=$!
+    wait_for_socket "$work/line" || true
+}
+
+folders "send x ~/y me"
+parting
+unhappy "an end that hangs up at once" hungup \
+    "the other end hung up, and said nothing (no uucico or uucpair answers there, or it turns this machine away)" "${alpha[@]}"
+folders "send x ~/y me"
+parting '\x10Shere=beta\0'
+unhappy "an end that hangs up behind its name" hungup \
+    'heard "Shere=beta", and then it hung up (it may not know the name of this end)' "${alpha[@]}"
 folders "send x ~/y me"
 speaker '\x10Shere=beta\0' '\x10ROK\0\x10Pxyz\0'
 unhappy "an end without the protocol" noprotocol 'no protocol g: heard "Pxyz"' "${alpha[@]}"
@@ -452,6 +479,12 @@ while stream.recv(4096):
     pass' "$work/line" "$1"
 }
 
+folders
+refusing "a caller that hangs up at once" \
+    "the caller hung up, and said nothing (it may expect another name than that of --me)" saying ''
+folders
+refusing "a caller that hangs up behind its name" \
+    'heard "Salpha", and then the caller hung up (it may lack protocol g)' saying '\x10Salpha\0'
 folders
 refusing "another end that answers" \
     'heard "Shere=alpha", expected "alpha" (one end has to call, and both answer; or a terminal echoes: stty raw -echo)' \

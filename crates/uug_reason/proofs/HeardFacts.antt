@@ -2,7 +2,7 @@
 use Rattle.std.proofs.Common.{◌≡◌, [], ◌∷◌, ◌++◌, codes, refl}
 use Rattle.std.specs.Fmt.{digits}
 use Rattle.uug_conversation.specs.declared.side.Side.TheVariants.{Caller, Called}
-use Rattle.uug_session.specs.declared.end.End.TheVariants.{Done, Refused, WrongName, GaveUp}
+use Rattle.uug_session.specs.declared.end.End.TheVariants.{Done, Refused, WrongName, GaveUp, HungUp}
 use Rattle.uug_reason.specs.HeardWords.{heard_remark, nothing, noise, text}
 
 record AreSaid : Type 0 where
@@ -18,8 +18,11 @@ record AreSaid : Type 0 where
   mute : heard_remark Caller GaveUp (codes "b") nothing ≡ codes "uucpair: heard nothing (is the other end answering? a terminal has to be raw: stty raw -echo)" ++ 10 ∷ []
   uncalled : heard_remark Called GaveUp (codes "b") nothing ≡ codes "uucpair: heard nothing (is the other end calling? a terminal has to be raw: stty raw -echo)" ++ 10 ∷ []
   deaf : heard_remark Caller GaveUp (codes "b") (text (codes "Shere=b")) ≡ codes "uucpair: heard \"Shere=b\", and then no answer (a terminal has to be raw: stty raw -echo, at the other end too)" ++ 10 ∷ []
+  gone : heard_remark Called HungUp (codes "a") nothing ≡ codes "uucpair: the caller hung up, and said nothing (it may expect another name than that of --me)" ++ 10 ∷ []
+  gone_behind : heard_remark Caller HungUp (codes "b") (text (codes "Shere=b")) ≡ codes "uucpair: heard \"Shere=b\", and then it hung up (it may not know the name of this end)" ++ 10 ∷ []
+  login : heard_remark Caller Refused (codes "b") (text (codes "RLOGIN")) ≡ codes "uucpair: the other end refused: \"RLOGIN\" (it does not let the name of --me in, or not by this login)" ++ 10 ∷ []
   done : heard_remark Caller Done (codes "b") (text (codes "Pg")) ≡ []
 
 said : AreSaid
 unfolding digits
-said = record { other = refl; busy = refl; stranger = refl; unknown = refl; getty = refl; both_call = refl; echo = refl; both_answer = refl; both_refuse = refl; mute = refl; uncalled = refl; deaf = refl; done = refl }
+said = record { other = refl; busy = refl; stranger = refl; unknown = refl; getty = refl; both_call = refl; echo = refl; both_answer = refl; both_refuse = refl; mute = refl; uncalled = refl; deaf = refl; gone = refl; gone_behind = refl; login = refl; done = refl }

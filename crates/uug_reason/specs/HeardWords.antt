@@ -36,9 +36,9 @@ other_words said peer = codes "heard " ++ (quoted said ++ expected_words peer)
 abbrev pub hint_words : (said : List ℕ) → List ℕ
 hint_words said =
     if bytes_eq said (codes "RLCK") then codes " (it is busy: call later)" else
-    (if bytes_eq said (codes "RLOGIN") || bytes_eq said (codes "RYou are unknown to me")
-    then codes " (it does not know the name of this end)" else
-    (if bytes_eq said (codes "RCB") then codes " (it will call back)" else []))
+    (if bytes_eq said (codes "RLOGIN") then codes " (it does not let the name of --me in, or not by this login)" else
+    (if bytes_eq said (codes "RYou are unknown to me") then codes " (it does not know the name of this end)" else
+    (if bytes_eq said (codes "RCB") then codes " (it will call back)" else [])))
 
 abbrev pub refusal_words : (said hint : List ℕ) → List ℕ
 refusal_words said hint = codes "the other end refused: " ++ (quoted said ++ hint)
@@ -79,6 +79,20 @@ abbrev pub nothing_words : Side → List ℕ
 nothing_words Caller = codes "heard nothing (is the other end answering? a terminal has to be raw: stty raw -echo)"
 nothing_words Called = codes "heard nothing (is the other end calling? a terminal has to be raw: stty raw -echo)"
 
+-- the other end hung up, and nothing was heard of it
+abbrev pub gone_words : Side → List ℕ
+gone_words Caller = codes "the other end hung up, and said nothing (no uucico or uucpair answers there, or it turns this machine away)"
+gone_words Called = codes "the caller hung up, and said nothing (it may expect another name than that of --me)"
+
+-- the other end hung up in the greeting
+abbrev pub gone_hint : Side → List ℕ
+gone_hint Caller = codes ", and then it hung up (it may not know the name of this end)"
+gone_hint Called = codes ", and then the caller hung up (it may lack protocol g)"
+
+-- a text was heard, and then the other end hung up
+abbrev pub gone_behind_words : Side → (said : List ℕ) → List ℕ
+gone_behind_words side said = codes "heard " ++ (quoted said ++ gone_hint side)
+
 -- a text was heard, and no answer to what was said then
 abbrev pub unanswered_words : (said : List ℕ) → List ℕ
 unanswered_words said = codes "heard " ++ (quoted said ++ codes ", and then no answer (a terminal has to be raw: stty raw -echo, at the other end too)")
@@ -94,6 +108,8 @@ end_words side Refused peer (text said) = refused_words side said peer
 end_words side NoProtocol peer (text said) = protocols_words said
 end_words side GaveUp peer (noise count bytes) = noise_words count bytes
 end_words side HungUp peer (noise count bytes) = noise_words count bytes
+end_words side HungUp peer nothing = gone_words side
+end_words side HungUp peer (text said) = gone_behind_words side said
 end_words side GaveUp peer nothing = nothing_words side
 end_words side GaveUp peer (text said) = unanswered_words said
 end_words side end peer heard = []

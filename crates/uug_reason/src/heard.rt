@@ -1,6 +1,6 @@
 //! The words for what was heard from the other end, if a session ended badly.
 ghost use Rattle.std.specs.Prelude.{◌≡◌, ◌≤◌, ◌++◌, IfOk, OnOk, length, string_bytes};
-ghost use Rattle.uug_reason.specs.HeardWords.{answering_hint, end_words, expected_words, heard_remark, hint_words, line_ends, line_with, noise_hint, noise_words, nothing_words, other_words, protocols_words, refusal_words, refused_words, shown, unanswered_words};
+ghost use Rattle.uug_reason.specs.HeardWords.{answering_hint, end_words, expected_words, gone_behind_words, gone_hint, gone_words, heard_remark, hint_words, line_ends, line_with, noise_hint, noise_words, nothing_words, other_words, protocols_words, refusal_words, refused_words, shown, unanswered_words};
 
 use crate::jobs::add_quoted;
 use std::alloc::{AllocError, Allocator};
@@ -63,6 +63,8 @@ fn add_end<A: Allocator>(
         (End::NoProtocol, Heard::Text(said)) => add_protocols(text, said),
         (End::GaveUp, Heard::Noise(count, bytes)) => add_noise(text, count, bytes),
         (End::HungUp, Heard::Noise(count, bytes)) => add_noise(text, count, bytes),
+        (End::HungUp, Heard::Nothing) => text.push_str(gone_words(side)),
+        (End::HungUp, Heard::Text(said)) => add_gone(text, side, said),
         (End::GaveUp, Heard::Nothing) => text.push_str(nothing_words(side)),
         (End::GaveUp, Heard::Text(said)) => add_unanswered(text, said),
         _ => Ok(()),
@@ -158,6 +160,40 @@ fn nothing_words(side: Side) -> &'static str
     }
 }
 
+/// Returns that the other end hung up before it said anything, and what that may mean.
+fn gone_words(side: Side) -> &'static str
+    ensures { result.now ≡ gone_words side }
+{
+    match side {
+        Side::Caller => {
+            "the other end hung up, and said nothing (no uucico or uucpair answers there, or it turns this machine away)"
+        }
+        Side::Called => {
+            "the caller hung up, and said nothing (it may expect another name than that of --me)"
+        }
+    }
+}
+
+/// Appends that this was heard, and that the other end hung up then.
+fn add_gone<A: Allocator>(text: &mut String<A>, side: Side, said: &[u8]) -> Result<(), AllocError>
+    ensures { OnOk result
+        (string_bytes text.new ≡ string_bytes text.old ++ gone_behind_words side said.now) }
+{
+    text.push_str("heard ")?;
+    add_quoted(text, said)?;
+    text.push_str(gone_hint(side))
+}
+
+/// Returns that the other end hung up in the greeting, and what that may mean.
+fn gone_hint(side: Side) -> &'static str
+    ensures { result.now ≡ gone_hint side }
+{
+    match side {
+        Side::Caller => ", and then it hung up (it may not know the name of this end)",
+        Side::Called => ", and then the caller hung up (it may lack protocol g)",
+    }
+}
+
 /// Appends that this was heard, and no answer to what this end said then.
 fn add_unanswered<A: Allocator>(text: &mut String<A>, said: &[u8]) -> Result<(), AllocError>
     ensures { OnOk result
@@ -176,7 +212,9 @@ fn hint_words(said: &[u8]) -> &'static str
 {
     if said == b"RLCK".as_slice() {
         " (it is busy: call later)"
-    } else if said == b"RLOGIN".as_slice() || said == b"RYou are unknown to me".as_slice() {
+    } else if said == b"RLOGIN".as_slice() {
+        " (it does not let the name of --me in, or not by this login)"
+    } else if said == b"RYou are unknown to me".as_slice() {
         " (it does not know the name of this end)"
     } else if said == b"RCB".as_slice() {
         " (it will call back)"

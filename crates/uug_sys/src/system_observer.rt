@@ -120,7 +120,9 @@ impl<'a, R: Eprint + Clock, A: Allocator + Copy> SystemObserver<'a, R, A> {
         match (phase, &self.peer) {
             (Phase::Ended(End::BadTalk), _) => self.last(true),
             // Past the greeting no text of it says why.
-            (Phase::Ended(End::GaveUp), _) if self.has_met => Ok(String::new(self.alloc)),
+            (Phase::Ended(End::GaveUp | End::HungUp), _) if self.has_met => {
+                Ok(String::new(self.alloc))
+            }
             (Phase::Ended(end), Some(peer)) => {
                 let heard = self.hearing.heard();
                 let expected = if self.is_hub { "" } else { peer.as_str() };
