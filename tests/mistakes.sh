@@ -468,6 +468,72 @@ refusing "a stranger who calls" 'heard "Sgamma", expected "alpha"' \
     unhappy "a name that the other end does not know" refused \
     'the other end refused: "RYou are unknown to me" (it does not know the name of this end)' --me gamma --peer beta
 
+# narrow HOW WORD..: both ends talk over a line of terminals that drops something of the called end's bytes: the eighth bit, XON and
+# XOFF, or all behind the greeting.
+narrow() {
+    python3 - "$work/line" "$@" <<'END' &
+import os, select, socket, sys
+listener = socket.socket(socket.AF_UNIX)
+listener.bind(sys.argv[1])
+os.chmod(sys.argv[1], 0o777)
+listener.listen()
+near = listener.accept()[0]
+far = socket.socket(socket.AF_UNIX)
+far.connect(os.path.join(os.path.dirname(sys.argv[1]), "far"))
+how, texts = sys.argv[2], 0
+while True:
+    for side in select.select([near, far], [], [])[0]:
+        piece = side.recv(4096)
+        if not piece:
+            os._exit(0)
+        if side is far:
+            if how == "seven":
+                piece = bytes(byte & 0x7f for byte in piece)
+            elif how == "flow":
+                piece = bytes(byte for byte in piece if byte not in (0x11, 0x13))
+            elif texts >= 3:
+                piece = b""
+            texts += piece.count(0)
+        try:
+            (far if side is near else near).sendall(piece)
+        except OSError:
+            os._exit(0)
+END
+    answerer=$!
+    wait_for_socket "$work/line" || true
+}
+
+# narrowed NAME HOW SAID JOB: what the caller says that gives up over such a line.
+narrowed() {
+    local far
+    folders
+    [ -z "$4" ] || echo "$4" >"$work/a/jobs"
+    python3 -c 'import sys
+sys.stdout.buffer.write(bytes(range(256)) * 40)' >"$work/b/send/bytes"
+    chmod -R a+rwX "$work/a" "$work/b"
+    (cd "$work" && "${as_user[@]}" timeout 60 "$program" answer unix:far b --me beta --peer alpha --timeout 1 \
+        >/dev/null 2>&1 </dev/null) &
+    far=$!
+    wait_for_socket "$work/far" || true
+    narrow "$2"
+    (cd "$work" && "${as_user[@]}" timeout 60 "$program" call unix:line a --timeout 1 "${alpha[@]}") \
+        >"$work/printed" 2>"$work/said" </dev/null || true
+    wait "$answerer" "$far" || true
+    if [ "$(sed 's/ [0-9]* bytes/ N bytes/' "$work/said")" = "uucpair: $3" ]; then
+        passed=$((passed + 1))
+    else
+        failed=$((failed + 1))
+        echo "$1: said $(cat "$work/said")"
+    fi
+}
+
+narrowed "a line of seven bits" seven \
+    "N bytes came after the greeting, all of seven bits (the line has to pass eight: stty raw pass8, at both ends)" ""
+narrowed "flow control that drops bytes" flow "N bytes came after the greeting, none of them XON or XOFF \
+(flow control may drop these: stty raw -ixon -ixoff, at both ends)" "request bytes y me"
+narrowed "a line that drops what comes behind the greeting" all \
+    "nothing came after the greeting (the other end is gone, or the line drops bytes: stty raw pass8, at both ends)" ""
+
 # saying TEXT: who calls says this, and then nothing more.
 saying() {
     python3 -c 'import socket, sys

@@ -1,3 +1,4 @@
 pub mod ReasonFacts
 pub mod JobsFacts
 pub mod HeardFacts
+pub mod PassedFacts

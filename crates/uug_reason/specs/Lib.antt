@@ -4,3 +4,4 @@ pub mod Reasons
 pub mod JobsWords
 pub mod HeardWords
 pub mod LargeWords
+pub mod PassedWords

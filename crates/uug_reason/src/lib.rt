@@ -9,10 +9,12 @@ mod hint;
 mod jobs;
 mod kind;
 mod large;
+mod passed;
 mod reason;
 
 pub use escape::add_escaped;
 pub use heard::{Heard, heard_remark};
 pub use jobs::{add_quoted, jobs_remark};
 pub use large::large_line;
+pub use passed::{Passed, passed_remark};
 pub use reason::reason_line;

@@ -1,12 +1,34 @@
 //! The bytes heard from the other end, as far as they are reported to a person.
 
-use uug_reason::Heard;
+use uug_reason::{Heard, Passed};
 
 /// The maximum number of bytes that are kept of a text.
 const KEPT_MAX: usize = 60;
 
 /// The byte before each text.
 const TEXT_START: u8 = 0x10;
+
+/// The bytes by which a terminal's flow control starts and stops its output.
+const XON: u8 = 0x11;
+const XOFF: u8 = 0x13;
+
+/// No byte.
+pub(crate) const NOTHING_PASSED: Passed = Passed {
+    count: 0,
+    has_high: false,
+    has_flow: false,
+};
+
+/// Returns what has come after the greeting with these bytes after it.
+pub(crate) fn passed_then(passed: Passed, piece: &[u8]) -> Passed {
+    let mut then = passed;
+    for byte in piece {
+        then.count = then.count.saturating_add(1);
+        then.has_high = then.has_high || *byte >= 0x80;
+        then.has_flow = then.has_flow || matches!(*byte, XON | XOFF);
+    }
+    then
+}
 
 /// The last text that came, or the first bytes if no text came.
 #[derive(Clone, Copy)]

@@ -1,7 +1,7 @@
 //! The reports of a session on standard error, and in a log.
 
 use crate::hailed_line::caller_in;
-use crate::hearing::Hearing;
+use crate::hearing::{Hearing, NOTHING_PASSED, passed_then};
 use crate::last_text::Tail;
 use crate::spool_call::ANY;
 use crate::tellers::Tellers;
@@ -11,7 +11,7 @@ use std::alloc::{AllocError, Allocator};
 use std::time::Clock;
 use uug_follow::{Observer, Way};
 use uug_log::SessionLog;
-use uug_reason::{Heard, heard_remark};
+use uug_reason::{Heard, Passed, heard_remark, passed_remark};
 use uug_session::{End, Phase, Side};
 use uug_talk::{Hail, Name};
 use uug_task::CallTask;
@@ -42,8 +42,9 @@ pub struct SystemObserver<'a, R, A: Allocator> {
     /// Set if any system of a spool may call, and the first text of the one that does.
     is_hub: bool,
     hail: Hail,
-    /// The bytes heard from it: the texts of its greeting, and the bytes that came last.
+    /// The bytes heard from it: the texts of its greeting, what came after that, and the bytes that came last.
     hearing: Hearing,
+    passed: Passed,
     tail: Tail<A>,
 }
 
@@ -82,6 +83,7 @@ impl<'a, R: Eprint + Clock, A: Allocator + Copy> SystemObserver<'a, R, A> {
             is_hub: task.is_spool && task.peer == ANY,
             hail: Hail::new(),
             hearing: Hearing::nothing(),
+            passed: NOTHING_PASSED,
             tail: Tail::new(alloc),
         })
     }
@@ -98,6 +100,7 @@ impl<'a, R: Eprint + Clock, A: Allocator + Copy> SystemObserver<'a, R, A> {
         self.silences = 0;
         self.hail.clear();
         self.hearing = Hearing::nothing();
+        self.passed = NOTHING_PASSED;
         self.tail.clear();
     }
 
@@ -120,15 +123,25 @@ impl<'a, R: Eprint + Clock, A: Allocator + Copy> SystemObserver<'a, R, A> {
         match (phase, &self.peer) {
             (Phase::Ended(End::BadTalk), _) => self.last(true),
             // Past the greeting no text of it says why.
-            (Phase::Ended(End::GaveUp | End::HungUp), _) if self.has_met => {
-                Ok(String::new(self.alloc))
-            }
+            (Phase::Ended(End::GaveUp), _) if self.has_met => self.passed_remark(true),
+            (Phase::Ended(End::HungUp), _) if self.has_met => self.passed_remark(false),
             (Phase::Ended(end), Some(peer)) => {
                 let heard = self.hearing.heard();
                 let expected = if self.is_hub { "" } else { peer.as_str() };
                 heard_remark(self.alloc, self.side, end, expected, heard)
             }
             _ => Ok(String::new(self.alloc)),
+        }
+    }
+
+    /// Returns a line with what came after the greeting of a session that ended badly, if that says why, else an empty
+    /// one. If the other end has hung up, only a line of seven bits does.
+    fn passed_remark(&self, has_given_up: bool) -> Result<String<A>, AllocError> {
+        let is_narrow = self.passed.count > 0 && !self.passed.has_high;
+        if has_given_up || is_narrow {
+            passed_remark(self.alloc, self.passed)
+        } else {
+            Ok(String::new(self.alloc))
         }
     }
 
@@ -207,6 +220,8 @@ impl<R: Eprint + Clock, A: Allocator + Copy> SessionObserver for SystemObserver<
         // Only packets come after the greeting.
         if matches!(self.phase, None | Some(Phase::Hail)) {
             self.hear(piece);
+        } else {
+            self.passed = passed_then(self.passed, piece);
         }
         self.tail.hear(piece);
         self.see(Way::In, piece);
