@@ -166,6 +166,21 @@ flock "$held"
 mistake "a device that another program has opened" 3 \
     "${fault}./line is in use"$'\n'"it has no lock file: who has opened it is told by fuser ./line" "${call[@]}"
 exec {held}>&-
+no_lock="no lock file can be made (--locks): none: no such file or directory"
+ended=0
+(cd "$work" && "${as_user[@]}" timeout 60 "$program" call ./line a --me alpha --peer beta --timeout 1 --locks none) \
+    >"$work/printed" 2>"$work/said" </dev/null || ended=$?
+if [ "$ended" -eq 1 ] && [ "$(head -n 1 "$work/said")" = "uucpair: $no_lock" ]; then
+    passed=$((passed + 1))
+else
+    failed=$((failed + 1))
+    echo "no folder of locks: ended with $ended, said $(cat "$work/said")"
+fi
+mkdir "$work/spool"
+chmod 777 "$work/spool"
+mistake "no folder of locks for a spool" 3 "${fault}$no_lock" \
+    call unix:none spool --spool --me alpha --peer beta --locks none
+rm -rf "$work/spool"
 kill "$terminals"
 wait "$terminals" || true
 

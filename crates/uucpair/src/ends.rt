@@ -19,8 +19,8 @@ use uug_folder::BadNumber;
 use uug_log::{LogFile, SessionLog, end_text, words_of};
 use uug_pair::{PairRun, pair_run_with_reason};
 use uug_port::{ReportFile, SystemOutput};
-use uug_reason::reason_line;
-use uug_stop::{LOG, REPORT, STATS};
+use uug_reason::{locks_line, reason_line};
+use uug_stop::{LOG, REPORT, STATS, is_refused_lock};
 use uug_stream::{Output, ToolFault};
 use uug_sys::{SystemObserver, call_run, line_held_remark, log_fault};
 use uug_task::{CallTask, ReportPlace, System};
@@ -303,7 +303,11 @@ fn failure_text(
         (_, Cause::NotANumber) => word = format!(in alloc; "{}", BadNumber)?,
         _ => (),
     }
-    let report = call.report.unwrap_or("");
-    let reason = reason_line(alloc, report, call.line, call.dir, call.locks, failure)?;
+    let reason = if is_refused_lock(failure) {
+        locks_line(alloc, call.locks, failure)?
+    } else {
+        let report = call.report.unwrap_or("");
+        reason_line(alloc, report, call.line, call.dir, call.locks, failure)?
+    };
     end_text(alloc, word.as_str(), words_of(reason.as_str()))
 }

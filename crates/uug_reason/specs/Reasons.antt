@@ -93,3 +93,7 @@ abbrev pub reason_line : Places → SystemFailure → List ℕ
 reason_line p failure = codes "uucpair: "
     ++ (place_words p failure.end failure.resource ++ (codes ": " ++ (cause_words failure.resource failure.cause
     ++ ended (hint_words p.line p.first failure.resource failure.cause))))
+
+-- why no lock file can be made in this folder, the second of an end
+abbrev pub locks_line : (locks : List ℕ) → SystemFailure → List ℕ
+locks_line locks failure = reason_line (places [] [] [] (codes "no lock file can be made (--locks): " ++ locks)) failure

@@ -17,4 +17,4 @@ pub use heard::{Heard, heard_remark};
 pub use jobs::{add_quoted, jobs_remark};
 pub use large::large_line;
 pub use passed::{Passed, passed_remark};
-pub use reason::reason_line;
+pub use reason::{locks_line, reason_line};

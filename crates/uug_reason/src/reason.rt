@@ -1,6 +1,6 @@
 //! The line that says on what a call of the system failed, and why.
 ghost use Rattle.std.specs.Prelude.{◌≡◌, ◌++◌, IfOk, OnOk, string_bytes};
-ghost use Rattle.uug_reason.specs.Reasons.{below_words, dir_of, place_words, places, reason_line, text_words};
+ghost use Rattle.uug_reason.specs.Reasons.{below_words, dir_of, locks_line, place_words, places, reason_line, text_words};
 ghost use Rattle.uug_scan.specs.Detailed.{escaped};
 
 use crate::cause::add_cause;
@@ -38,6 +38,18 @@ pub fn reason_line<A: Allocator>(
     add_hint(&mut text, line, first, failure.resource, failure.cause)?;
     text.push_str("\n")?;
     Ok(text)
+}
+
+/// Returns the line that says why no lock file can be made in this folder, the second of an end.
+pub fn locks_line<A: Allocator + Copy>(
+    alloc: A,
+    locks: &str,
+    failure: SystemFailure,
+) -> Result<String<A>, AllocError>
+    ensures { IfOk result (λ text. string_bytes text ≡ locks_line locks.now failure) }
+{
+    let folder = format!(in alloc; "no lock file can be made (--locks): {locks}")?;
+    reason_line(alloc, "", "", "", folder.as_str(), failure)
 }
 
 /// Returns the name of the file of this text.

@@ -1,5 +1,5 @@
 -- How the program ends (this project's profile).
-use Rattle.std.specs.Prelude.{◌≡◌, ◌==◌, ℕ, Bool, true, false, List, [], codes, if◌then◌else◌, None, Option, Some, Result, Ok, Err, IsErrAnd, string_bytes}
+use Rattle.std.specs.Prelude.{◌≡◌, ◌==◌, ℕ, Bool, true, false, not, List, [], codes, if◌then◌else◌, None, Option, Some, Result, Ok, Err, IsErrAnd, string_bytes}
 use Rattle.uug_stream.specs.Fault.{status_of}
 use Rattle.uug_stream.specs.declared.fault.ToolFault.{ToolFault}
 use Rattle.uug_stream.specs.declared.fault.ToolFault.TheVariants.{Device, Jobs, Memory, Read, Script, Usage, Write}
@@ -7,12 +7,12 @@ use Rattle.uug_disk.specs.Queued.{word_or_empty}
 use Rattle.uug_failure.specs.declared.failure.Cause.{Cause}
 use Rattle.uug_failure.specs.declared.failure.Cause.TheVariants as causes
 use Rattle.uug_failure.specs.declared.failure.Resource.{Resource}
-use Rattle.uug_failure.specs.declared.failure.Resource.TheVariants.{Line}
+use Rattle.uug_failure.specs.declared.failure.Resource.TheVariants.{Dir, Line}
 use Rattle.uug_failure.specs.declared.failure.SystemFailure.{SystemFailure}
 use Rattle.uug_failure.specs.declared.run_fault.RunFault.{RunFault}
 use Rattle.uug_failure.specs.declared.run_fault.RunFault.TheVariants.{System, Tool, Unread}
 use Rattle.uug_failure.specs.Failures.{fault_of_run}
-use Rattle.uug_reason.specs.Reasons.{Places, dir_of, places, reason_line}
+use Rattle.uug_reason.specs.Reasons.{Places, dir_of, locks_line, places, reason_line}
 use Rattle.uug_words.specs.UsageWords.{IsUsageOf, pair_words}
 use Rattle.uug_task.specs.declared.task.CallTask.{CallTask}
 use Rattle.uug_words.specs.declared.command_line.PairTask.{PairTask}
@@ -179,10 +179,22 @@ abbrev pub StopsOnPair : PairTask → RunFault → (remark : List ℕ) → Stop 
 StopsOnPair pair (Tool Usage) remark stop = SaysUsage (λ said. said ≡ pair_words pair.drop_every pair.flip_every) stop
 StopsOnPair pair fault remark stop = StopsOnPairBy pair.is_loud pair fault remark stop
 
+-- the system refused to make a lock file in the second folder of an end
+abbrev pub is_refused_in : (end : ℕ) → Resource → Cause → Bool
+is_refused_in end Dir (causes.Refused kind number) = not (end == 0)
+is_refused_in end resource cause = false
+
+abbrev pub is_refused_lock : SystemFailure → Bool
+is_refused_lock failure = is_refused_in failure.end failure.resource failure.cause
+
+abbrev pub StopsOnSystem : (is_refused_lock : Bool) → CallTask → SystemFailure → (remark : List ℕ) → Stop → Type 0
+StopsOnSystem true call failure remark stop = SaysReason (locks_line call.locks.now failure) stop
+StopsOnSystem false call failure remark stop = StopsOnCause (places (output_of call failure.end) call.line.now call.dir.now call.locks.now) failure remark failure.cause stop
+
 -- The message of one end reports bad usage, a bad line of its jobs, or the failed call of the system. Its folders are its own, and
 -- that of the locks.
 abbrev pub StopsOnEnd : CallTask → RunFault → (remark : List ℕ) → Stop → Type 0
-StopsOnEnd call (System failure) remark stop = StopsOnCause (places (output_of call failure.end) call.line.now call.dir.now call.locks.now) failure remark failure.cause stop
+StopsOnEnd call (System failure) remark stop = StopsOnSystem (is_refused_lock failure) call failure remark stop
 StopsOnEnd call (Tool Usage) remark stop = SaysUsage (IsUsageOf call) stop
 StopsOnEnd call (Tool (Jobs line)) remark stop = HasLine (Jobs line) remark stop
 StopsOnEnd call fault remark stop = stop ≡ Fault (fault_of_run fault)

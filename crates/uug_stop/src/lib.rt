@@ -8,5 +8,5 @@ mod said;
 mod stop;
 
 pub use ending::{end, end_of, with_reason};
-pub use of_end::{LOG, REPORT, STATS};
+pub use of_end::{LOG, REPORT, STATS, is_refused_lock};
 pub use stop::Stop;

@@ -2,14 +2,14 @@
 ghost use Rattle.std.specs.Prelude.{◌≡◌, [], string_bytes};
 ghost use Rattle.uug_disk.specs.Queued.{word_or_empty};
 ghost use Rattle.uug_reason.specs.Reasons.{places};
-ghost use Rattle.uug_stop.specs.Stop.{StopsOnCancel, StopsOnCause, StopsOnEnd, StopsOnLoudPair, StopsOnPair, StopsOnPairBy, StopsOnQueue, held_by_another, output_of};
+ghost use Rattle.uug_stop.specs.Stop.{StopsOnCancel, StopsOnCause, StopsOnEnd, StopsOnLoudPair, StopsOnPair, StopsOnPairBy, StopsOnQueue, StopsOnSystem, held_by_another, is_refused_lock, output_of};
 ghost use Rattle.uug_stop.specs.declared.of_end.TheConstants.{LOG};
 
 use crate::said::{names_copied, names_folder, says_fault, says_number, says_reason, says_usage};
 use crate::stop::Stop;
 use std::alloc::Global;
 use uug_failure::{Cause, Resource, RunFault, SystemFailure};
-use uug_reason::reason_line;
+use uug_reason::{locks_line, reason_line};
 use uug_stream::ToolFault;
 use uug_task::CallTask;
 use uug_words::{PairTask, pair_remark, usage_remark};
@@ -76,13 +76,37 @@ pub(crate) fn stop_of_end(
     ensures { StopsOnEnd call.now fault (string_bytes remark) result }
 {
     match fault {
-        RunFault::System(failure) => {
-            let output = output_named(call, failure.end);
-            stop_of_cause(alloc, output, call.line, call.dir, call.locks, failure, remark)
-        }
+        RunFault::System(failure) => stop_of_system(alloc, call, failure, remark),
         RunFault::Tool(ToolFault::Usage) => says_usage(usage_remark(alloc, call)),
         RunFault::Tool(ToolFault::Jobs(line)) => Stop::Told(ToolFault::Jobs(line), remark),
         fault => Stop::Fault(fault.answer()),
+    }
+}
+
+/// Returns why one end gave up after a failed call of the system.
+fn stop_of_system(
+    alloc: Global,
+    call: &CallTask<'_>,
+    failure: SystemFailure,
+    remark: String,
+) -> Stop
+    ensures { StopsOnSystem (is_refused_lock failure) call.now failure
+        (string_bytes remark) result }
+{
+    if is_refused_lock(failure) {
+        return says_reason(locks_line(alloc, call.locks, failure));
+    }
+    let output = output_named(call, failure.end);
+    stop_of_cause(alloc, output, call.line, call.dir, call.locks, failure, remark)
+}
+
+/// Returns whether the system of one end refused to make a lock file.
+pub fn is_refused_lock(failure: SystemFailure) -> bool
+    ensures { result ≡ is_refused_lock failure }
+{
+    match (failure.resource, failure.cause) {
+        (Resource::Dir, Cause::Refused(_, _)) => failure.end != 0,
+        _ => false,
     }
 }
 

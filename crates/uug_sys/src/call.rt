@@ -20,6 +20,7 @@ use crate::parts::{SystemParts, failure_of, read_parts};
 use crate::resumed::hold_left_in;
 use crate::session_mark::{mark_session, unmark_session};
 use crate::spool_call::{call_over_spool, talk_in_spool};
+use crate::spool_lock::tell_unlocked;
 use crate::waking_line::WakingLine;
 use std::alloc::{AllocError, Allocator};
 use std::fs::File;
@@ -288,6 +289,9 @@ where
             return Outcome::of(run.alloc, Err(fault));
         }
     };
+    if lock.is_none() {
+        tell_unlocked(run.alloc, run.rt, run.task.locks);
+    }
     let line = DeviceLine::open(run.alloc, run.rt, path, run.station.time());
     let outcome = talk_when_called(run, held, line, observer, output);
     if let Some(lock) = lock {

@@ -13,7 +13,7 @@ use std::{fs, io};
 use uug_disk::{DeviceLock, lock_device};
 use uug_failure::{Cause, EndDir, Resource, RunFault};
 use uug_locks::lock_path;
-use uug_reason::add_escaped;
+use uug_reason::{add_escaped, locks_line};
 use uug_stream::ToolFault;
 use uug_talk::{Name, TEXT_START};
 use uug_transfer::{EndLine, LineFailed};
@@ -81,6 +81,20 @@ fn why_refused<A: Allocator + Copy, R: Files<File = File>>(
     match try_file(alloc, rt, locks) {
         Ok(()) => refused(locks, ErrorKind::PermissionDenied, None),
         Err(error) => refused(locks, error.kind(), error.raw_os_error()),
+    }
+}
+
+/// Says why no lock file can be made in this folder. Only other runs of uucpair are kept off a device then.
+pub(crate) fn tell_unlocked<A: Allocator + Copy, R: Files<File = File> + Eprint>(
+    alloc: A,
+    rt: &R,
+    locks: &str,
+) {
+    if let RunFault::System(failure) = why_refused(alloc, rt, locks) {
+        if let Ok(line) = locks_line(alloc, locks, failure) {
+            let line = line.as_str();
+            let _ = eprint!(rt; "{line}");
+        }
     }
 }
 
