@@ -117,7 +117,7 @@ uucpair far - Call complete (0 seconds 0 bytes 0 bps)"
 folders "put x"
 call_at --log near.log
 logged "bad jobs" near.log "uucpair far - Calling system far (port unix:line)
-uucpair far - ERROR: bad jobs at line 1"
+uucpair far - ERROR: bad jobs at line 1: near/jobs: line 1: \"put\" is neither send nor request"
 folders "send x ~/x me"
 "$program" call $'unix:\e[31m' near --me near --peer far --log near.log >near.out 2>near.err && true
 logged "a line that can't be opened, of which not all can be seen" near.log 'uucpair far - Calling system far (port unix:\x1b[31m)

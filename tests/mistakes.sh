@@ -615,6 +615,48 @@ heard_last() {
 heard_last "an end that is gone" '\x10ROK\0' '"ROK"'
 heard_last "the same, of which not all can be seen" '\x10ROK\x1b[31m\0' '"ROK\x1b[31m"'
 
+# ---- the log of an end over a folder
+
+# errors_are NAME LINE..: the log `Log` has these errors of the other system, and no others.
+errors_are() {
+    local name=$1 found
+    found=$(sed -nE 's/^uucpair beta - \([^)]*\) ERROR: //p' "$work/Log" 2>&1)
+    if [ "$found" = "$(printf '%s\n' "${@:2}")" ]; then
+        passed=$((passed + 1))
+    else
+        failed=$((failed + 1))
+        echo "$name: the log has $(cat "$work/Log")"
+    fi
+}
+
+# called_with WORD..: a call with these words, and with a log.
+called_with() {
+    (cd "$work" && "${as_user[@]}" timeout 60 "$program" call "$@" a "${alpha[@]}" --timeout 1 --locks . --log Log) \
+        >"$work/printed" 2>"$work/said" </dev/null || true
+}
+
+folders "put x y"
+called_with unix:none
+errors_are "the log of bad jobs" 'bad jobs at line 1: a/jobs: line 1: "put" is neither send nor request'
+folders
+exec {held}<"$work/a"
+flock "$held"
+called_with unix:none
+exec {held}<&-
+errors_are "the log of a folder in use" "device fault: a: in use"
+folders
+printf '%10d\n' $$ >"$work/LCK..tty"
+called_with ./tty
+errors_are "the log of a device in use" \
+    "device fault: ./tty: in use: process $$ holds it, by ./LCK..tty: call again when that has ended"
+folders "send x ~/y me"
+echo 17 >"$work/a/number"
+chmod 666 "$work/a/number"
+speaker '\x10Shere=beta\0' '\x10RBADSEQ\0'
+called_with unix:line
+wait "$answerer" || true
+errors_are "the log of another number" badsequence "the number of this end is 17"
+
 # ---- the log of an end over a spool
 
 # spool_of END: the words for its spool, which is made.

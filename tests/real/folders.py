@@ -433,7 +433,8 @@ def the_log_is_appended_to(one):
     ends.jobs("alpha", "put x")
     ended = one.run(ends.words("call", one.line, "--log", "fault"))
     one.row("bad jobs", ended.all(), (2, "", said("bad jobs at line 1", 'alpha/jobs: line 1: "put" is neither send nor request')))
-    one.row("their log", masked(one.path("fault")), [start, "uucpair beta - (TIME) ERROR: bad jobs at line 1"])
+    one.row("their log", masked(one.path("fault")), [start,
+            'uucpair beta - (TIME) ERROR: bad jobs at line 1: alpha/jobs: line 1: "put" is neither send nor request'])
     one.row("bad jobs stay", text_of(ends.at("alpha", "jobs")), "put x\n")
     os.remove(ends.at("alpha", "jobs"))
     ended = one.run(ends.words("call", "unix:none", "--log", "none.log"))

@@ -186,10 +186,9 @@ where
         output,
     );
     if let Err(fault) = &answer {
-        if let Some(said) = fault_remark(rt, call, fault) {
-            let _ = remark.push_str(said.as_str());
-        }
-        log_answer(rt, call, fault);
+        let said = fault_remark(rt, call, fault).unwrap_or(String::new(rt.alloc()));
+        let _ = remark.push_str(said.as_str());
+        log_answer(rt, call, fault, said.as_str());
     }
     Outcome { answer, remark }
 }
@@ -267,8 +266,8 @@ fn failure_of_log(error: &io::Error) -> SystemFailure
     }
 }
 
-/// Logs why one end gave up, if there is a log. What can't be written is left out.
-fn log_answer<R>(rt: &R, call: &CallTask<'_>, fault: &RunFault)
+/// Logs why one end gave up, and what else is said of that, if there is a log. What can't be written is left out.
+fn log_answer<R>(rt: &R, call: &CallTask<'_>, fault: &RunFault, said: &str)
 where
     R: Files<File = File> + Env + Clock + AllocGlobal,
 {
@@ -276,7 +275,9 @@ where
         return;
     }
     if let Ok(text) = fault_text(rt.alloc(), call, fault) {
-        log_fault(rt.alloc(), rt, call, text.as_str());
+        if let Ok(text) = end_text(rt.alloc(), text.as_str(), words_of(said)) {
+            log_fault(rt.alloc(), rt, call, text.as_str());
+        }
     }
 }
 
@@ -298,10 +299,8 @@ fn failure_text(
 ) -> Result<String, AllocError> {
     let device = ToolFault::Device;
     let mut word = format!(in alloc; "{device}")?;
-    match (failure.resource, failure.cause) {
-        (Resource::Dir, Cause::InUse) => return Ok(word),
-        (_, Cause::NotANumber) => word = format!(in alloc; "{}", BadNumber)?,
-        _ => (),
+    if let Cause::NotANumber = failure.cause {
+        word = format!(in alloc; "{}", BadNumber)?;
     }
     let reason = if is_refused_lock(failure) {
         locks_line(alloc, call.locks, failure)?

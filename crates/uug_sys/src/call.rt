@@ -9,7 +9,7 @@ ghost use Rattle.uug_task.specs.Tasks.{IsTask};
 use crate::answer::answer_at;
 use crate::end_run::EndRun;
 use crate::failing_line::{FailingLine, failure_remark};
-use crate::fault_log::{log_failure, log_unoffered};
+use crate::fault_log::{log_failure, log_fault, log_unoffered};
 use crate::folder_kind::see_no_spool;
 use crate::hailed_line::HailedLine;
 use crate::job_remark::{failed_remark, put_off_remark};
@@ -34,6 +34,7 @@ use uug_disk::{
     DirLock, lock_device, lock_dir, open_jobs, see_folders, see_writable, settle_copies,
 };
 use uug_failure::{Cause, EndDir, Ended, Outcome, Resource, RunFault, SystemFailure};
+use uug_log::words_of;
 use uug_port::{
     DeviceLine, PolledStream, SessionLine, SilentLine, StandardLine, StandardStreams, StreamLine,
     SystemLine, TimedLine, TimedStream, call_tcp, call_unix, listen_tcp, listen_unix,
@@ -577,7 +578,7 @@ where
 
 /// Returns the remark on a session that is over: why jobs have failed or were put off, and which numbers the ends have
 /// if they differ.
-fn remark_on<A: Allocator + Copy, R, S: Spool>(
+fn remark_on<A: Allocator + Copy, R: System, S: Spool>(
     run: &EndRun<'_, A, R>,
     numbers: Numbers,
     large: &[Name],
@@ -591,6 +592,11 @@ fn remark_on<A: Allocator + Copy, R, S: Spool>(
     let put_off = put_off_remark(alloc, phase, task.tells_digests, pending);
     let remark = with_part(remark, put_off);
     let differ = numbers_remark(alloc, phase, numbers.begins, numbers.heard);
+    if let Ok(line) = &differ {
+        if !line.is_empty() {
+            log_fault(alloc, run.rt, task, words_of(line.as_str()));
+        }
+    }
     with_part(remark, differ)
 }
 
