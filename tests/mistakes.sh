@@ -300,6 +300,21 @@ failing "no such file at the other end" \
     "not given by the other end: no such file in its send, or one that may not go; or not to be put in its place here" \
     "request none ~/y me"
 
+# A caller that has no job, and a file in `send`.
+folders
+(cd "$work" && "${as_user[@]}" timeout 60 "$program" answer unix:line b --me beta --peer alpha >/dev/null 2>&1 </dev/null) &
+answerer=$!
+wait_for_socket "$work/line" || true
+call_of unix:line a
+(cd "$work" && "${as_user[@]}" timeout 60 "$program" "${call[@]}") >"$work/printed" 2>"$work/said" </dev/null || true
+wait "$answerer" || true
+if [ "$(cat "$work/said")" = "uucpair: no job sends the files in a/send: make one by uucpair queue DIR send FILE" ]; then
+    passed=$((passed + 1))
+else
+    failed=$((failed + 1))
+    echo "a file that is not queued: said $(cat "$work/said")"
+fi
+
 # over_there NAME SAID JOB: what a caller says of a job that an end refuses which takes files of at most 5 bytes.
 over_there() {
     local answerer

@@ -17,7 +17,7 @@ use uug_disk::{
 };
 use uug_failure::{EndText, RunFault, SystemFailure};
 use uug_folder::{FolderSpool, JobsFile, LocalNames, first_jobs};
-use uug_session::{Job, Place, Spool, Stored};
+use uug_session::{Job, Place, Side, Spool, Stored};
 use uug_stream::ToolFault;
 use uug_talk::Name;
 use uug_task::{CallTask, EndParts};
@@ -112,8 +112,30 @@ fn see_given<A: Allocator + Copy, R: Files<File = File> + Eprint + Alloc + Clone
     ensures no_other { IfErr result IsFolderFault }
 {
     match see_jobs(alloc, rt, lock.dir(), jobs) {
-        Ok(()) => read_given(alloc, rt, lock, jobs, task.allowance()),
+        Ok(()) => {
+            let given = read_given(alloc, rt, lock, jobs, task.allowance());
+            tell_unqueued(rt, task, jobs, &given);
+            given
+        }
         Err(fault) => Err(fault),
+    }
+}
+
+/// Says of a calling end without jobs that it has files, and how they are sent.
+fn tell_unqueued<A: Allocator, R: Eprint>(
+    rt: &R,
+    task: &CallTask<'_>,
+    jobs: &[Job],
+    given: &Result<Given<A>, RunFault>,
+) {
+    if task.side == Side::Called || !jobs.is_empty() {
+        return;
+    }
+    if let Ok(given) = given {
+        if !given.files.is_empty() {
+            let dir = task.dir.escape_debug();
+            let _ = eprint!(rt; "uucpair: no job sends the files in {dir}/send: make one by uucpair queue DIR send FILE\n");
+        }
     }
 }
 
