@@ -92,6 +92,11 @@ mistake "the same of an end that waits" 3 "${fault}tcp:[::1]:4000: $brackets" an
 call_of tcp://nobody.invalid:540 a
 mistake "a line that looks like a web address" 3 \
     "${fault}tcp://nobody.invalid:540: unknown host (give tcp:HOST:PORT, without slashes)" "${call[@]}"
+if [ ${#as_user[@]} -ne 0 ] && [ "$(cat /proc/sys/net/ipv4/ip_unprivileged_port_start)" -gt 540 ]; then
+    mistake "a port that needs a privilege" 3 \
+        "${fault}tcp:127.0.0.1:540: permission denied (a port below 1024 needs root, or CAP_NET_BIND_SERVICE)" \
+        answer tcp:127.0.0.1:540 a --me alpha --peer beta
+fi
 call_of /dev/ttyNONE a
 mistake "no such device" 3 "${fault}/dev/ttyNONE: no such file or directory" "${call[@]}"
 call_of a unix:line

@@ -50,6 +50,12 @@ absent_hint line =
 abbrev pub long_hint : (line : List ℕ) → List ℕ
 long_hint line = if nat_le (length line) 107 then [] else codes " (the path of a socket has at most 107 bytes)"
 
+-- of a port or a device that this user may not have
+abbrev pub right_hint : (line : List ℕ) → List ℕ
+right_hint line =
+    if starts_with nat_eq line (codes "tcp:") then codes " (a port below 1024 needs root, or CAP_NET_BIND_SERVICE)" else
+    (if starts_with nat_eq line (codes "/dev/") then codes " (its group may use it, mostly dialout: adduser USER dialout)" else [])
+
 -- of a port that refuses a call
 abbrev pub zero_hint : (line : List ℕ) → List ℕ
 zero_hint line = if ends_with nat_eq line (codes ":0") then codes " (port 0 is none: give 1 to 65535)" else []
@@ -67,6 +73,7 @@ line_hint line (Refused kinds.IsADirectory number) = codes " (LINE is a terminal
 line_hint line NoTerminal = codes " (LINE is a terminal device, tcp:HOST:PORT, unix:PATH or -)"
 line_hint line (Refused kinds.InvalidInput number) = long_hint line
 line_hint line (Refused kinds.ConnectionRefused number) = zero_hint line
+line_hint line (Refused kinds.PermissionDenied number) = right_hint line
 line_hint line (Refused kind None) = host_hint line
 line_hint line _ = []
 

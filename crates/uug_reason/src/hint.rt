@@ -1,6 +1,6 @@
 //! Hints about what to do after a call of the system that a known mistake makes fail.
 ghost use Rattle.std.specs.Prelude.{◌≡◌, ◌++◌, OnOk, string_bytes};
-ghost use Rattle.uug_reason.specs.ReasonHints.{absent_hint, are_exchanged, exchanged_hint, got_hint, guess_words, has_byte, hint_words, host_hint, is_bare, line_hint, long_hint, names_line, zero_hint};
+ghost use Rattle.uug_reason.specs.ReasonHints.{absent_hint, are_exchanged, exchanged_hint, got_hint, guess_words, has_byte, hint_words, host_hint, is_bare, line_hint, long_hint, names_line, right_hint, zero_hint};
 
 use crate::escape::add_escaped;
 use std::alloc::{AllocError, Allocator};
@@ -85,6 +85,7 @@ fn add_line_hint<A: Allocator>(
         }
         Cause::Refused(ErrorKind::InvalidInput, _) => text.push_str(long_hint(line)),
         Cause::Refused(ErrorKind::ConnectionRefused, _) => text.push_str(zero_hint(line)),
+        Cause::Refused(ErrorKind::PermissionDenied, _) => text.push_str(right_hint(line)),
         Cause::Refused(_, None) => text.push_str(host_hint(line)),
         _ => Ok(()),
     }
@@ -125,6 +126,19 @@ fn long_hint(line: &str) -> &'static str
 {
     if line.len() > SOCKET_PATH_MAX {
         " (the path of a socket has at most 107 bytes)"
+    } else {
+        ""
+    }
+}
+
+/// Returns the hint about a port or a device that this user may not have.
+fn right_hint(line: &str) -> &'static str
+    ensures { result.now ≡ right_hint line.now }
+{
+    if line.as_bytes().starts_with(b"tcp:") {
+        " (a port below 1024 needs root, or CAP_NET_BIND_SERVICE)"
+    } else if line.as_bytes().starts_with(b"/dev/") {
+        " (its group may use it, mostly dialout: adduser USER dialout)"
     } else {
         ""
     }
