@@ -120,6 +120,11 @@ mistake "the same of a pair" 3 "${fault}taken: address in use" pair taken a b -v
 python3 -c 'import socket, sys
 socket.socket(socket.AF_UNIX).bind(sys.argv[1])' "$work/old"
 chmod 777 "$work/old"
+call_of ./old a
+mistake "a socket without unix:" 3 "${fault}./old: error 6 (for a socket give unix:PATH)" "${call[@]}"
+mistake "an address of another machine" 3 \
+    "${fault}tcp:192.0.2.1:54000: address not available (no address of this machine; 0.0.0.0 is all of them)" \
+    answer tcp:192.0.2.1:54000 a --me alpha --peer beta
 call_of unix:old a
 mistake "a socket at which nobody listens" 3 "${fault}unix:old: connection refused" "${call[@]}"
 mistake "a socket in a folder that is not there" 3 "${fault}none/s: no such file or directory" pair none/s a b -v

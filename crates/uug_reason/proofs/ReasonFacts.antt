@@ -65,6 +65,7 @@ record AreSaid : Type 0 where
   long : reason_line long_places (record { end = 0; resource = on.Line; cause = causes.Refused kinds.InvalidInput None }) ≡ codes "uucpair: " ++ (replicate 108 115 ++ (codes ": invalid argument (the path of a socket has at most 107 bytes)" ++ 10 ∷ []))
   bracketed : reason_line bracketed_places (record { end = 0; resource = on.Line; cause = causes.Refused kinds.Uncategorized None }) ≡ codes "uucpair: tcp:[::1]:5: unknown host (an IPv6 address has no brackets: tcp:::1:540)" ++ 10 ∷ []
   zero : reason_line zero_places (record { end = 0; resource = on.Line; cause = causes.Refused kinds.ConnectionRefused (Some (pos 111)) }) ≡ codes "uucpair: tcp:h:0: connection refused (port 0 is none: give 1 to 65535)" ++ 10 ∷ []
+  bare_socket : reason_line device_places (record { end = 0; resource = on.Line; cause = causes.Refused kinds.Uncategorized (Some (pos 6)) }) ≡ codes "uucpair: ttyS0: error 6 (for a socket give unix:PATH)" ++ 10 ∷ []
   port : reason_line zero_places (record { end = 0; resource = on.Line; cause = causes.Refused kinds.PermissionDenied (Some (pos 13)) }) ≡ codes "uucpair: tcp:h:0: permission denied (a port below 1024 needs root, or CAP_NET_BIND_SERVICE)" ++ 10 ∷ []
   locks : locks_line (codes "l") (record { end = 1; resource = on.Dir; cause = causes.Refused kinds.NotFound (Some (pos 2)) }) ≡ codes "uucpair: no lock file can be made (--locks): l: no such file or directory" ++ 10 ∷ []
   socket : reason_line pair_places (record { end = 0; resource = on.Line; cause = causes.Refused kinds.AddrInUse (Some (pos 98)) }) ≡ codes "uucpair: s: address in use" ++ 10 ∷ []
@@ -74,4 +75,4 @@ record AreSaid : Type 0 where
 
 said : AreSaid
 unfolding digits
-said = record { line = refl; host = refl; numbered = refl; escaped = refl; given = refl; got = refl; files = refl; spool = refl; exchanged = refl; shared = refl; lacks = refl; plain = refl; device = refl; named = refl; bare = refl; long = refl; bracketed = refl; zero = refl; port = refl; locks = refl; socket = refl; pipe = refl; told = refl; output = refl }
+said = record { line = refl; host = refl; numbered = refl; escaped = refl; given = refl; got = refl; files = refl; spool = refl; exchanged = refl; shared = refl; lacks = refl; plain = refl; device = refl; named = refl; bare = refl; long = refl; bracketed = refl; zero = refl; bare_socket = refl; port = refl; locks = refl; socket = refl; pipe = refl; told = refl; output = refl }

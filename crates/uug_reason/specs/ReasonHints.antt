@@ -1,5 +1,5 @@
 -- What to do about a call of the system that a known mistake makes fail (this project's profile).
-use Rattle.std.specs.Prelude.{◌==◌, ◌&&◌, ◌||◌, ℕ, Bool, not, List, [], ◌++◌, codes, eqb, length, nat_eq, nat_le, None, if◌then◌else◌}
+use Rattle.std.specs.Prelude.{◌==◌, ◌&&◌, ◌||◌, ℕ, Bool, not, List, [], ◌++◌, codes, eqb, length, nat_eq, nat_le, Some, None, if◌then◌else◌}
 use Rattle.std.specs.List.{ends_with, list_any, starts_with}
 use Rattle.std.specs.Str.{bytes_eq}
 use Rattle.std.specs.declared.io.ErrorKind.TheVariants as kinds
@@ -66,6 +66,10 @@ host_hint line =
     if starts_with nat_eq line (codes "tcp:[") then codes " (an IPv6 address has no brackets: tcp:::1:540)" else
     (if starts_with nat_eq line (codes "tcp://") then codes " (give tcp:HOST:PORT, without slashes)" else [])
 
+-- of a path that can't be opened, as that of a socket
+abbrev pub socket_hint : (line : List ℕ) → List ℕ
+socket_hint line = if names_line line then [] else codes " (for a socket give unix:PATH)"
+
 -- of a line that is none
 abbrev pub line_hint : (line : List ℕ) → Cause → List ℕ
 line_hint line (Refused kinds.NotFound number) = absent_hint line
@@ -74,7 +78,9 @@ line_hint line NoTerminal = codes " (LINE is a terminal device, tcp:HOST:PORT, u
 line_hint line (Refused kinds.InvalidInput number) = long_hint line
 line_hint line (Refused kinds.ConnectionRefused number) = zero_hint line
 line_hint line (Refused kinds.PermissionDenied number) = right_hint line
+line_hint line (Refused kinds.AddrNotAvailable number) = codes " (no address of this machine; 0.0.0.0 is all of them)"
 line_hint line (Refused kind None) = host_hint line
+line_hint line (Refused kind (Some number)) = socket_hint line
 line_hint line _ = []
 
 abbrev pub hint_words : (line dir : List ℕ) → Resource → Cause → List ℕ

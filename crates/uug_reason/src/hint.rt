@@ -1,6 +1,6 @@
 //! Hints about what to do after a call of the system that a known mistake makes fail.
 ghost use Rattle.std.specs.Prelude.{◌≡◌, ◌++◌, OnOk, string_bytes};
-ghost use Rattle.uug_reason.specs.ReasonHints.{absent_hint, are_exchanged, exchanged_hint, got_hint, guess_words, has_byte, hint_words, host_hint, is_bare, line_hint, long_hint, names_line, right_hint, zero_hint};
+ghost use Rattle.uug_reason.specs.ReasonHints.{absent_hint, are_exchanged, exchanged_hint, got_hint, guess_words, has_byte, hint_words, host_hint, is_bare, line_hint, long_hint, names_line, right_hint, socket_hint, zero_hint};
 
 use crate::escape::add_escaped;
 use std::alloc::{AllocError, Allocator};
@@ -86,7 +86,11 @@ fn add_line_hint<A: Allocator>(
         Cause::Refused(ErrorKind::InvalidInput, _) => text.push_str(long_hint(line)),
         Cause::Refused(ErrorKind::ConnectionRefused, _) => text.push_str(zero_hint(line)),
         Cause::Refused(ErrorKind::PermissionDenied, _) => text.push_str(right_hint(line)),
+        Cause::Refused(ErrorKind::AddrNotAvailable, _) => {
+            text.push_str(" (no address of this machine; 0.0.0.0 is all of them)")
+        }
         Cause::Refused(_, None) => text.push_str(host_hint(line)),
+        Cause::Refused(_, Some(_)) => text.push_str(socket_hint(line)),
         _ => Ok(()),
     }
 }
@@ -141,6 +145,17 @@ fn right_hint(line: &str) -> &'static str
         " (its group may use it, mostly dialout: adduser USER dialout)"
     } else {
         ""
+    }
+}
+
+/// Returns the hint about a path that can't be opened: of a socket, which is called otherwise.
+fn socket_hint(line: &str) -> &'static str
+    ensures { result.now ≡ socket_hint line.now }
+{
+    if names_line(line.as_bytes()) {
+        ""
+    } else {
+        " (for a socket give unix:PATH)"
     }
 }
 
