@@ -230,6 +230,10 @@ call_of unix:none a
 mistake "no folder for what comes" 3 \
     "${fault}a/got: no such file or directory (make it; only a spool, with --spool, has none)" "${call[@]}"
 mkdir "$work/a/got"
+mv "$work/a/send" "$work/a/sent"
+mistake "no folder for what is sent" 3 \
+    "${fault}a/send: no such file or directory (make it: the files of jobs are there)" "${call[@]}"
+mv "$work/a/sent" "$work/a/send"
 chmod 0 "$work/a/jobs"
 mistake "no right to the jobs" 3 "${fault}a/jobs: permission denied" "${call[@]}"
 rm -f "$work/a/jobs"

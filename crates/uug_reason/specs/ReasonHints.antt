@@ -6,7 +6,7 @@ use Rattle.std.specs.declared.io.ErrorKind.TheVariants as kinds
 use Rattle.uug_failure.specs.declared.failure.Cause.{Cause}
 use Rattle.uug_failure.specs.declared.failure.Cause.TheVariants.{Refused, NoTerminal}
 use Rattle.uug_failure.specs.declared.failure.Resource.{Resource}
-use Rattle.uug_failure.specs.declared.failure.Resource.TheVariants.{Dir, GotFolder, Line}
+use Rattle.uug_failure.specs.declared.failure.Resource.TheVariants.{Dir, GotFolder, Line, Send}
 use Rattle.uug_scan.specs.Detailed.{escaped}
 
 -- A word begins as the name of a line does, unless that is the path of a device elsewhere.
@@ -25,6 +25,11 @@ exchanged_hint line dir = if are_exchanged line dir then codes " (LINE and DIR l
 abbrev pub got_hint : Cause → List ℕ
 got_hint (Refused kinds.NotFound number) = codes " (make it; only a spool, with --spool, has none)"
 got_hint _ = []
+
+-- of the folder for what is sent
+abbrev pub send_hint : Cause → List ℕ
+send_hint (Refused kinds.NotFound number) = codes " (make it: the files of jobs are there)"
+send_hint _ = []
 
 -- a word has this byte
 abbrev pub has_byte : (word : List ℕ) → (byte : ℕ) → Bool
@@ -86,5 +91,6 @@ line_hint line _ = []
 abbrev pub hint_words : (line dir : List ℕ) → Resource → Cause → List ℕ
 hint_words line dir Dir cause = exchanged_hint line dir
 hint_words line dir GotFolder cause = got_hint cause
+hint_words line dir Send cause = send_hint cause
 hint_words line dir Line cause = line_hint line cause
 hint_words line dir _ cause = []

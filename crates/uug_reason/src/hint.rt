@@ -1,6 +1,6 @@
 //! Hints about what to do after a call of the system that a known mistake makes fail.
 ghost use Rattle.std.specs.Prelude.{◌≡◌, ◌++◌, OnOk, string_bytes};
-ghost use Rattle.uug_reason.specs.ReasonHints.{absent_hint, are_exchanged, exchanged_hint, got_hint, guess_words, has_byte, hint_words, host_hint, is_bare, line_hint, long_hint, names_line, right_hint, socket_hint, zero_hint};
+ghost use Rattle.uug_reason.specs.ReasonHints.{absent_hint, are_exchanged, exchanged_hint, got_hint, guess_words, has_byte, hint_words, host_hint, is_bare, line_hint, long_hint, names_line, right_hint, send_hint, socket_hint, zero_hint};
 
 use crate::escape::add_escaped;
 use std::alloc::{AllocError, Allocator};
@@ -24,6 +24,7 @@ pub(crate) fn add_hint<A: Allocator>(
     match resource {
         Resource::Dir => text.push_str(exchanged_hint(line, dir)),
         Resource::GotFolder => text.push_str(got_hint(cause)),
+        Resource::Send => text.push_str(send_hint(cause)),
         Resource::Line => add_line_hint(text, line, cause),
         _ => Ok(()),
     }
@@ -65,6 +66,16 @@ fn got_hint(cause: Cause) -> &'static str
         Cause::Refused(ErrorKind::NotFound, _) => {
             " (make it; only a spool, with --spool, has none)"
         }
+        _ => "",
+    }
+}
+
+/// Returns the hint about a call on the folder `send` that failed.
+fn send_hint(cause: Cause) -> &'static str
+    ensures { result.now ≡ send_hint cause }
+{
+    match cause {
+        Cause::Refused(ErrorKind::NotFound, _) => " (make it: the files of jobs are there)",
         _ => "",
     }
 }
