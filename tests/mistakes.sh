@@ -818,6 +818,8 @@ misspoken "an option that there is not" call unix:s a --me alpha --peer beta --b
 misspoken "a port apart" call unix:s a --me alpha --peer beta --port 540 -- "error: unexpected argument '--port' found" \
     "uucpair: the port is part of LINE: tcp:HOST:PORT"
 misspoken "an order without its command" send a x -- "uucpair: queue a file by: uucpair queue DIR send FILE"
+misspoken "a file behind a call" call unix:s a --me alpha --peer beta send x -- "error: unexpected argument 'send' found" \
+    "uucpair: queue a file by: uucpair queue DIR send FILE"
 misspoken "a timeout that is no whole number" call unix:s a --me alpha --peer beta --timeout 0.5 -- \
     "error: invalid value '0.5' for '--timeout <SECONDS>': invalid digit found in string"
 misspoken "an option in front of its command" -v call unix:s a --me alpha --peer beta -- "error: unexpected argument '-v' found" \
