@@ -6,3 +6,4 @@ pub mod Partials
 pub mod Parts
 pub mod Pipes
 pub mod Queued
+pub mod Seen

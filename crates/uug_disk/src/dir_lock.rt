@@ -62,7 +62,7 @@ pub fn lock_dir<A: Allocator + Copy, R: Files<File = File> + Alloc + Clone + Dro
 }
 
 /// Checks that the folder of an end exists.
-pub(crate) fn see_dir<R: Files>(rt: &R, dir: EndDir<'_>) -> Result<(), RunFault>
+pub fn see_dir<R: Files>(rt: &R, dir: EndDir<'_>) -> Result<(), RunFault>
     ensures no_other { IfErr result IsFolderFault }
 {
     match open_dir(rt, dir.path) {

@@ -153,7 +153,7 @@ fn add_sources<A: Allocator + Copy, R: Files>(
 }
 
 /// Returns the name in `send` of the file that a job gives.
-fn source_of(job: &Job) -> Option<Name> {
+pub(crate) fn source_of(job: &Job) -> Option<Name> {
     match job {
         Job::Send { source, .. } => local_source(source),
         Job::Request { .. } => None,
@@ -188,7 +188,7 @@ fn add_source<A: Allocator + Copy, R: Files>(
 }
 
 /// Returns the path of the file of this name, which a job names: in `send`, else with the files of failed jobs.
-fn source_path<A: Allocator + Copy, R: Files>(
+pub(crate) fn source_path<A: Allocator + Copy, R: Files>(
     alloc: A,
     rt: &R,
     dir: EndDir<'_>,

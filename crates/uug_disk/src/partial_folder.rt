@@ -31,7 +31,7 @@ const PARTIAL_MAX: usize = TELLING_MAX + 1 + FILE_LIMIT_MAX;
 const DAY: u64 = 86_400;
 
 /// Returns whether a name is that of such a file.
-fn is_partial(name: &str) -> bool
+pub(crate) fn is_partial(name: &str) -> bool
     ensures { result ≡ is_partial name.now }
 {
     name.len() == DIGITS && are_digits(name.as_bytes())
@@ -73,7 +73,10 @@ pub fn read_partials<A: Allocator + Copy, R: Files + Clock + Alloc + Clone + Dro
 }
 
 /// Returns the entries of the folder at `path`.
-fn entries_in<R: Files + Alloc + Clone + Drop>(rt: &R, path: &str) -> io::Result<ReadDir<R, R::A>> {
+pub(crate) fn entries_in<R: Files + Alloc + Clone + Drop>(
+    rt: &R,
+    path: &str,
+) -> io::Result<ReadDir<R, R::A>> {
     see_no_link(rt, path)?;
     fs::read_dir(rt, path)
 }

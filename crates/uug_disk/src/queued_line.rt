@@ -89,7 +89,7 @@ fn is_at<R: Files>(rt: &R, file: &File, path: &str) -> bool {
 }
 
 /// Returns the text of the jobs in the folder of an end, which is empty if there is no file.
-pub(crate) fn jobs_at<A: Allocator + Copy, R: Files>(
+pub fn jobs_at<A: Allocator + Copy, R: Files>(
     alloc: A,
     rt: &R,
     dir: EndDir<'_>,
@@ -103,7 +103,7 @@ pub(crate) fn jobs_at<A: Allocator + Copy, R: Files>(
 }
 
 /// Returns the jobs in a text.
-pub(crate) fn jobs_in<A: Allocator + Copy>(alloc: A, text: &[u8]) -> Result<Queue<A>, RunFault>
+pub fn jobs_in<A: Allocator + Copy>(alloc: A, text: &[u8]) -> Result<Queue<A>, RunFault>
     ensures jobs { IfOk result (IsQueueOf text.now) }
     ensures fault { IfErr result (λ fault.
         IsJobsFault (fault_of_run fault) (jobs_of text.now)) }

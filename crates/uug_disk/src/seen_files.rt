@@ -1,0 +1,172 @@
+//! The files of an end's folder that somebody looks at while a session may run: nothing is locked or changed for it.
+ghost use Rattle.std.specs.Prelude.{◌≡◌, ◌≤◌, IfErr, IfOk, length};
+ghost use Rattle.uug_disk.specs.Seen.{held_by};
+ghost use Rattle.uug_failure.specs.Faults.{IsFolderFault};
+ghost use Rattle.uug_folder.specs.PartialTexts.{partial_in};
+
+use crate::given_files::{source_of, source_path};
+use crate::partial_folder::{entries_in, is_partial};
+use std::alloc::{AllocError, Allocator};
+use std::cmp::Ordering;
+use std::fs::{DirEntry, File, Metadata};
+use std::io::{ErrorKind, Read};
+use std::rt::Files;
+use std::time::Clock;
+use std::{fs, io};
+use uug_digest::TELLING_MAX;
+use uug_failure::{EndDir, RunFault};
+use uug_folder::read_partial;
+use uug_session::Job;
+use uug_talk::Name;
+
+/// The maximum number of bytes before those of the file in the text in which it is held: a line and its end.
+const HELD_LINE_MAX: u64 = TELLING_MAX as u64 + 1;
+
+/// The size and the age of a file.
+#[derive(Clone, Copy, Debug, PartialEq, Eq)]
+pub struct SeenFile {
+    /// The number of its bytes.
+    pub size: u64,
+    /// The seconds since it was written, if the clock gives them.
+    pub age: Option<u64>,
+}
+
+/// A file that was cut off, of which an end holds the first bytes.
+#[derive(Clone, Copy, Debug, PartialEq, Eq)]
+pub struct HeldFile {
+    /// Its name at the other end.
+    pub name: Name,
+    /// The size of the whole file.
+    pub whole: u32,
+    /// The bytes that are held, and the seconds since the last ones came.
+    pub held: SeenFile,
+}
+
+/// Returns the file that a job of an end sends, if there is one.
+pub fn see_sent<A: Allocator + Copy, R: Files + Clock>(
+    alloc: A,
+    rt: &R,
+    dir: EndDir<'_>,
+    job: &Job,
+) -> Result<Option<SeenFile>, RunFault>
+    ensures { IfErr result IsFolderFault }
+{
+    let Some(name) = source_of(job) else {
+        return Ok(None);
+    };
+    match source_path(alloc, rt, dir, name) {
+        Ok(Some(path)) => Ok(see_file(rt, path.as_str())),
+        Ok(None) => Ok(None),
+        Err(fault) => Err(fault),
+    }
+}
+
+/// Returns what is at a path, if anything is.
+pub fn see_file<R: Files + Clock>(rt: &R, path: &str) -> Option<SeenFile> {
+    let metadata = fs::metadata(rt, path).ok()?;
+    Some(seen(rt, &metadata))
+}
+
+fn seen<R: Clock>(rt: &R, metadata: &Metadata) -> SeenFile {
+    SeenFile {
+        size: metadata.len(),
+        age: age_of(rt, metadata).ok(),
+    }
+}
+
+/// Returns the seconds since a file was written.
+fn age_of<R: Clock>(rt: &R, metadata: &Metadata) -> io::Result<u64> {
+    Ok(metadata.modified()?.elapsed(rt)?.as_secs())
+}
+
+/// Returns the files that an end holds in the folder at `path`, by their names. What can't be read is not held. Without
+/// a folder there, or with a link to one, nothing is held.
+pub fn see_held<A: Allocator + Copy, R: Files + Clock + Alloc + Clone + Drop>(
+    alloc: A,
+    rt: &R,
+    path: &str,
+) -> Result<Vec<HeldFile, A>, AllocError> {
+    let mut held = Vec::new(alloc);
+    let Ok(entries) = entries_in(rt, path) else {
+        return Ok(held);
+    };
+    for entry in entries {
+        let Ok(entry) = entry else {
+            continue;
+        };
+        if let Some(file) = see_entry(alloc, rt, &entry)? {
+            held.insert(place_of(held.as_slice(), &file), file)?;
+        }
+    }
+    Ok(held)
+}
+
+/// Returns what an entry of that folder holds, if it is such a file.
+fn see_entry<A: Allocator + Copy, R: Files + Clock + Drop, B: Allocator>(
+    alloc: A,
+    rt: &R,
+    entry: &DirEntry<R, B>,
+) -> Result<Option<HeldFile>, AllocError> {
+    let Ok(metadata) = entry.metadata() else {
+        return Ok(None);
+    };
+    if !is_partial(entry.file_name()) || !metadata.is_file() {
+        return Ok(None);
+    }
+    match front_of(alloc, rt, entry.path().as_str()) {
+        Ok(front) => held_by(alloc, front.as_slice(), seen(rt, &metadata)),
+        Err(error) if error.kind() == ErrorKind::OutOfMemory => Err(AllocError),
+        Err(_) => Ok(None),
+    }
+}
+
+/// Returns the first bytes of a file, among which is its line.
+fn front_of<A: Allocator, R: Files>(alloc: A, rt: &R, path: &str) -> io::Result<Vec<u8, A>> {
+    let mut front = Vec::new(alloc);
+    let mut reader = File::open(rt, path)?.take(HELD_LINE_MAX);
+    reader.read_to_end(&mut front)?;
+    Ok(front)
+}
+
+/// Returns the file that is held in a text of this size and age, of which these are the first bytes.
+fn held_by<A: Allocator + Copy>(
+    alloc: A,
+    front: &[u8],
+    text: SeenFile,
+) -> Result<Option<HeldFile>, AllocError>
+    ensures { IfOk result (λ found. found ≡ held_by (length front.now) (partial_in front.now) text) }
+{
+    let Some(file) = read_partial(alloc, front)? else {
+        return Ok(None);
+    };
+    let line = front.len().saturating_sub(file.bytes.len()) as u64;
+    Ok(Some(HeldFile {
+        name: file.source,
+        whole: file.told.size,
+        held: SeenFile {
+            size: text.size.saturating_sub(line),
+            age: text.age,
+        },
+    }))
+}
+
+/// Returns the place of a file among others, which are in order.
+fn place_of(held: &[HeldFile], file: &HeldFile) -> usize
+    ensures { result ≤ length held.now }
+{
+    for (place, other) in held.iter().enumerate() {
+        if is_before(file, other) {
+            return place;
+        }
+    }
+    held.len()
+}
+
+/// Returns whether a file is listed before another one: by their names, and of one name by what is held.
+fn is_before(file: &HeldFile, other: &HeldFile) -> bool {
+    match file.name.as_bytes().cmp(other.name.as_bytes()) {
+        Ordering::Less => true,
+        Ordering::Equal => file.held.size < other.held.size,
+        Ordering::Greater => false,
+    }
+}
