@@ -1,1 +1,2 @@
 pub mod CancelLemmas
+mod StatusFacts

@@ -1,2 +1,6 @@
 pub mod Cancelled
+pub mod Failed
 pub mod Rivals
+pub mod Status
+pub mod StatusJson
+pub mod StatusText

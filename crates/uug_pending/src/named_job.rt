@@ -38,7 +38,10 @@ fn nth_job(jobs: &[Job], number: u32) -> Option<Job>
 }
 
 /// Returns the job of a text that has one alone.
-fn said_job<A: Allocator + Copy>(alloc: A, text: &[u8]) -> Result<Option<Job>, AllocError>
+pub(crate) fn said_job<A: Allocator + Copy>(
+    alloc: A,
+    text: &[u8],
+) -> Result<Option<Job>, AllocError>
     ensures { IfOk result (λ said. said ≡ said_job (jobs_of text.now)) }
 {
     match read_jobs(alloc, text) {

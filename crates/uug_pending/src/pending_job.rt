@@ -1,0 +1,12 @@
+//! A job that waits, with its file.
+use uug_disk::SeenFile;
+use uug_session::Job;
+
+/// A job that waits.
+#[derive(Clone, Copy, Debug, PartialEq, Eq)]
+pub struct PendingJob {
+    /// The job.
+    pub job: Job,
+    /// The file that it sends, if there is one.
+    pub file: Option<SeenFile>,
+}

@@ -1,0 +1,174 @@
+//! The status of an end's folder, which anybody may look at while a session runs over it.
+ghost use Rattle.std.specs.Prelude.{◌≡◌, IfErr, IfOk, OnOk, map, string_bytes};
+ghost use Rattle.uug_failure.specs.Faults.{IsFolderFault, IsQueueFault, IsReadingFault};
+ghost use Rattle.uug_pending.specs.Status.{IsStatus, WritesStatus, job_of, status_as};
+
+use crate::failed_job::{FailedJob, failed_jobs};
+use crate::pending_job::PendingJob;
+use crate::status_json::status_json;
+use crate::status_text::status_text;
+use std::alloc::{AllocError, Allocator};
+use std::rt::Files;
+use std::time::Clock;
+use uug_disk::{
+    HeldFile, SeenFile, jobs_at, jobs_in, read_text, see_dir, see_file, see_held, see_sent,
+};
+use uug_failure::{EndDir, EndText, RunFault};
+use uug_session::Job;
+use uug_stream::{Output, write_all};
+
+/// The words of a person who asks for the status of a folder.
+#[derive(Clone, Copy, Debug, PartialEq, Eq)]
+pub struct StatusTask<'a> {
+    /// The folder of the end.
+    pub dir: &'a str,
+    /// Set if it is printed as JSON.
+    pub is_json: bool,
+}
+
+impl<'a> StatusTask<'a> {
+    /// Returns the folder of the end.
+    fn end_dir(&self) -> EndDir<'a> {
+        EndDir {
+            path: self.dir,
+            number: 0,
+        }
+    }
+}
+
+/// Prints the status of an end's folder: which jobs wait, what is held of files that were cut off, which jobs have failed
+/// and why, and whether a session is marked that is not over. Nothing is locked or changed.
+pub fn status_run<A, R, O>(
+    alloc: A,
+    rt: &R,
+    task: &StatusTask<'_>,
+    output: &mut O,
+) -> Result<(), RunFault>
+where
+    A: Allocator + Copy,
+    R: Files + Clock + Alloc + Clone + Drop,
+    O: Output,
+    ensures prints { OnOk result
+        (WritesStatus task.now.is_json (O.written output.old) (O.written output.new)) }
+    // A device fault always says which call it was.
+    ensures no_other { IfErr result IsQueueFault }
+{
+    let text = status_at(alloc, rt, task.end_dir(), task.is_json)?;
+    write_all(output, text.as_bytes())?;
+    Ok(())
+}
+
+/// Returns the status of an end's folder, as JSON or in lines.
+fn status_at<A, R>(alloc: A, rt: &R, dir: EndDir<'_>, is_json: bool) -> Result<String<A>, RunFault>
+where
+    A: Allocator + Copy,
+    R: Files + Clock + Alloc + Clone + Drop,
+    ensures is { IfOk result (λ text. IsStatus is_json (string_bytes text)) }
+    ensures no_other { IfErr result IsReadingFault }
+{
+    see_dir(rt, dir)?;
+    let pending = pending_at(alloc, rt, dir)?;
+    let held = held_at(alloc, rt, dir)?;
+    // A job that fails meanwhile is rather listed twice than not at all.
+    let failed = failed_at(alloc, rt, dir)?;
+    let failed = failed_jobs(alloc, failed.as_slice())?;
+    let session = session_at(alloc, rt, dir)?;
+    let text = status_as(
+        alloc,
+        is_json,
+        &session,
+        pending.as_slice(),
+        held.as_slice(),
+        failed.as_slice(),
+    )?;
+    Ok(text)
+}
+
+/// Returns the status of an end's folder, as JSON or in lines.
+fn status_as<A: Allocator>(
+    alloc: A,
+    is_json: bool,
+    session: &Option<SeenFile>,
+    pending: &[PendingJob],
+    held: &[HeldFile],
+    failed: &[FailedJob<'_>],
+) -> Result<String<A>, AllocError>
+    ensures { IfOk result (λ text. string_bytes text
+        ≡ status_as is_json session.now pending.now held.now failed.now) }
+{
+    if is_json {
+        status_json(alloc, session, pending, held, failed)
+    } else {
+        status_text(alloc, session, pending, held, failed)
+    }
+}
+
+/// Returns the jobs that wait in the folder of an end, with their files.
+fn pending_at<A: Allocator + Copy, R: Files + Clock>(
+    alloc: A,
+    rt: &R,
+    dir: EndDir<'_>,
+) -> Result<Vec<PendingJob, A>, RunFault>
+    ensures { IfErr result IsReadingFault }
+{
+    let text = jobs_at(alloc, rt, dir)?;
+    let queue = jobs_in(alloc, text.as_slice())?;
+    let pending = with_files(alloc, rt, dir, queue.pending())?;
+    Ok(pending)
+}
+
+/// Returns these jobs, with their files.
+fn with_files<A: Allocator + Copy, R: Files + Clock>(
+    alloc: A,
+    rt: &R,
+    dir: EndDir<'_>,
+    jobs: &[Job],
+) -> Result<Vec<PendingJob, A>, RunFault>
+    ensures jobs { IfOk result (λ pending. map job_of pending.items ≡ jobs.now) }
+    ensures no_other { IfErr result IsFolderFault }
+{
+    let mut pending = Vec::new(alloc);
+    for job in jobs {
+        let file = see_sent(alloc, rt, dir, job)?;
+        pending.reserve(1)?;
+        pending.push_reserved(PendingJob { job: *job, file });
+    }
+    Ok(pending)
+}
+
+/// Returns the files that an end holds.
+fn held_at<A, R>(alloc: A, rt: &R, dir: EndDir<'_>) -> Result<Vec<HeldFile, A>, AllocError>
+where
+    A: Allocator + Copy,
+    R: Files + Clock + Alloc + Clone + Drop,
+{
+    let front = dir.path;
+    let path = format!(in alloc; "{front}/partial")?;
+    see_held(alloc, rt, path.as_str())
+}
+
+/// Returns the text of the jobs that have failed, which is empty if there is no file.
+fn failed_at<A: Allocator + Copy, R: Files>(
+    alloc: A,
+    rt: &R,
+    dir: EndDir<'_>,
+) -> Result<Vec<u8, A>, RunFault>
+    ensures { IfErr result IsFolderFault }
+{
+    match read_text(alloc, rt, dir, EndText::Failed) {
+        Ok(Some(text)) => Ok(text),
+        Ok(None) => Ok(Vec::new(alloc)),
+        Err(fault) => Err(fault),
+    }
+}
+
+/// Returns the mark of a session that is not over.
+fn session_at<A: Allocator + Copy, R: Files + Clock>(
+    alloc: A,
+    rt: &R,
+    dir: EndDir<'_>,
+) -> Result<Option<SeenFile>, AllocError> {
+    let front = dir.path;
+    let path = format!(in alloc; "{front}/.session")?;
+    Ok(see_file(rt, path.as_str()))
+}

@@ -1,0 +1,293 @@
+//! The status of an end's folder, as JSON.
+ghost use Rattle.std.specs.Prelude.{◌≡◌, ◌++◌, IfOk, OnOk, string_bytes};
+ghost use Rattle.uug_pending.specs.StatusJson.{age_of, byte_words, bytes_words, failed_items, failed_object, failed_rest, held_items, held_object, held_rest, job_members, members, number_words, pending_items, pending_object, pending_rest, session_words, size_of, status_json, text_words};
+ghost use Rattle.uug_scan.specs.Detailed.{is_plain};
+
+use crate::failed_job::FailedJob;
+use crate::pending_job::PendingJob;
+use std::alloc::{AllocError, Allocator};
+use uug_disk::{HeldFile, SeenFile};
+use uug_scan::add_byte;
+use uug_session::Job;
+use uug_talk::Name;
+
+/// Returns the status of a folder as one object of JSON, in a line: what `status_text` says. A byte that is no printing
+/// character is `\xNN` in a string, as there.
+pub fn status_json<A: Allocator>(
+    alloc: A,
+    session: &Option<SeenFile>,
+    pending: &[PendingJob],
+    held: &[HeldFile],
+    failed: &[FailedJob<'_>],
+) -> Result<String<A>, AllocError>
+    ensures { IfOk result (λ text. string_bytes text
+        ≡ status_json session.now pending.now held.now failed.now) }
+{
+    let mut text = String::from_str(alloc, "{\"session\":")?;
+    add_session(&mut text, session)?;
+    text.push_str(",\"pending\":[")?;
+    add_pending(&mut text, pending)?;
+    text.push_str("],\"held\":[")?;
+    add_held(&mut text, held)?;
+    text.push_str("],\"failed\":[")?;
+    add_failed(&mut text, failed)?;
+    text.push_str("]}\n")?;
+    Ok(text)
+}
+
+/// Appends the mark of a session that is not over.
+fn add_session<A: Allocator>(
+    text: &mut String<A>,
+    session: &Option<SeenFile>,
+) -> Result<(), AllocError>
+    ensures { OnOk result
+        (string_bytes text.new ≡ string_bytes text.old ++ session_words session.now) }
+{
+    let Some(mark) = session else {
+        return text.push_str("null");
+    };
+    text.push_str("{\"age\":")?;
+    add_number(text, mark.age)?;
+    text.push_str("}")
+}
+
+/// Appends the jobs that wait.
+fn add_pending<A: Allocator>(text: &mut String<A>, pending: &[PendingJob]) -> Result<(), AllocError>
+    ensures { OnOk result
+        (string_bytes text.new ≡ string_bytes text.old ++ pending_items pending.now) }
+{
+    let Some((first, more)) = pending.split_first() else {
+        return Ok(());
+    };
+    add_pending_job(text, first)?;
+    add_pending_rest(text, more)
+}
+
+/// Appends the jobs that wait behind the first one.
+fn add_pending_rest<A: Allocator>(
+    text: &mut String<A>,
+    more: &[PendingJob],
+) -> Result<(), AllocError>
+    ensures { OnOk result
+        (string_bytes text.new ≡ string_bytes text.old ++ pending_rest more.now) }
+{
+    for job in more {
+        text.push_str(",")?;
+        add_pending_job(text, job)?;
+    }
+    Ok(())
+}
+
+/// Appends a job that waits.
+fn add_pending_job<A: Allocator>(
+    text: &mut String<A>,
+    pending: &PendingJob,
+) -> Result<(), AllocError>
+    ensures { OnOk result
+        (string_bytes text.new ≡ string_bytes text.old ++ pending_object pending.now) }
+{
+    text.push_str("{")?;
+    add_job(text, &pending.job)?;
+    text.push_str(",\"bytes\":")?;
+    add_number(text, size_of(&pending.file))?;
+    text.push_str(",\"age\":")?;
+    add_number(text, age_of(&pending.file))?;
+    text.push_str("}")
+}
+
+/// Returns the size of a file, if there is one.
+fn size_of(file: &Option<SeenFile>) -> Option<u64>
+    ensures { result ≡ size_of file.now }
+{
+    match file {
+        Some(file) => Some(file.size),
+        None => None,
+    }
+}
+
+/// Returns the age of a file, if there is one, and it is known.
+fn age_of(file: &Option<SeenFile>) -> Option<u64>
+    ensures { result ≡ age_of file.now }
+{
+    match file {
+        Some(file) => file.age,
+        None => None,
+    }
+}
+
+/// Appends a number, or `null` if there is none.
+fn add_number<A: Allocator>(text: &mut String<A>, number: Option<u64>) -> Result<(), AllocError>
+    ensures { OnOk result
+        (string_bytes text.new ≡ string_bytes text.old ++ number_words number) }
+{
+    match number {
+        Some(number) => write!(text, "{number}"),
+        None => text.push_str("null"),
+    }
+}
+
+/// Appends the members of a job.
+fn add_job<A: Allocator>(text: &mut String<A>, job: &Job) -> Result<(), AllocError>
+    ensures { OnOk result
+        (string_bytes text.new ≡ string_bytes text.old ++ job_members job.now) }
+{
+    match job {
+        Job::Send {
+            source,
+            target,
+            user,
+            ..
+        } => add_members(text, "send", source, target, user),
+        Job::Request {
+            source,
+            target,
+            user,
+        } => add_members(text, "request", source, target, user),
+    }
+}
+
+/// Appends the members of a job of this kind.
+fn add_members<A: Allocator>(
+    text: &mut String<A>,
+    kind: &str,
+    source: &Name,
+    target: &Name,
+    user: &Name,
+) -> Result<(), AllocError>
+    ensures { OnOk result (string_bytes text.new
+        ≡ string_bytes text.old ++ members kind.now source.now target.now user.now) }
+{
+    write!(text, "\"kind\":\"{kind}\",\"source\":")?;
+    add_text(text, source.as_bytes())?;
+    text.push_str(",\"target\":")?;
+    add_text(text, target.as_bytes())?;
+    text.push_str(",\"user\":")?;
+    add_text(text, user.as_bytes())
+}
+
+/// Appends a string of these bytes.
+fn add_text<A: Allocator>(text: &mut String<A>, bytes: &[u8]) -> Result<(), AllocError>
+    ensures { OnOk result
+        (string_bytes text.new ≡ string_bytes text.old ++ text_words bytes.now) }
+{
+    text.push_str("\"")?;
+    add_bytes(text, bytes)?;
+    text.push_str("\"")
+}
+
+/// Appends these bytes inside a string.
+fn add_bytes<A: Allocator>(text: &mut String<A>, bytes: &[u8]) -> Result<(), AllocError>
+    ensures { OnOk result
+        (string_bytes text.new ≡ string_bytes text.old ++ bytes_words bytes.now) }
+{
+    for byte in bytes {
+        add_one(text, *byte)?;
+    }
+    Ok(())
+}
+
+/// Appends a byte inside a string: one that is no printing character, or is a backslash, in hex behind a backslash, which
+/// JSON writes twice.
+fn add_one<A: Allocator>(text: &mut String<A>, byte: u8) -> Result<(), AllocError>
+    ensures { OnOk result
+        (string_bytes text.new ≡ string_bytes text.old ++ byte_words byte) }
+{
+    if byte == b'"' {
+        text.push_str("\\\"")
+    } else if is_plain(byte) {
+        add_byte(text, byte, true)
+    } else {
+        text.push_str("\\")?;
+        add_byte(text, byte, false)
+    }
+}
+
+/// Returns whether a byte is written as it is, but for a quotation mark.
+fn is_plain(byte: u8) -> bool
+    ensures { result ≡ is_plain byte }
+{
+    (byte.is_ascii_graphic() || byte == b' ') && byte != b'\\'
+}
+
+/// Appends the files that are held.
+fn add_held<A: Allocator>(text: &mut String<A>, held: &[HeldFile]) -> Result<(), AllocError>
+    ensures { OnOk result
+        (string_bytes text.new ≡ string_bytes text.old ++ held_items held.now) }
+{
+    let Some((first, more)) = held.split_first() else {
+        return Ok(());
+    };
+    add_held_file(text, first)?;
+    add_held_rest(text, more)
+}
+
+/// Appends the files that are held behind the first one.
+fn add_held_rest<A: Allocator>(text: &mut String<A>, more: &[HeldFile]) -> Result<(), AllocError>
+    ensures { OnOk result
+        (string_bytes text.new ≡ string_bytes text.old ++ held_rest more.now) }
+{
+    for file in more {
+        text.push_str(",")?;
+        add_held_file(text, file)?;
+    }
+    Ok(())
+}
+
+/// Appends a file that is held.
+fn add_held_file<A: Allocator>(text: &mut String<A>, file: &HeldFile) -> Result<(), AllocError>
+    ensures { OnOk result
+        (string_bytes text.new ≡ string_bytes text.old ++ held_object file.now) }
+{
+    let count = file.held.size;
+    let whole = file.whole;
+    text.push_str("{\"name\":")?;
+    add_text(text, file.name.as_bytes())?;
+    write!(text, ",\"bytes\":{count},\"whole\":{whole},\"age\":")?;
+    add_number(text, file.held.age)?;
+    text.push_str("}")
+}
+
+/// Appends the jobs that have failed.
+fn add_failed<A: Allocator>(
+    text: &mut String<A>,
+    failed: &[FailedJob<'_>],
+) -> Result<(), AllocError>
+    ensures { OnOk result
+        (string_bytes text.new ≡ string_bytes text.old ++ failed_items failed.now) }
+{
+    let Some((first, more)) = failed.split_first() else {
+        return Ok(());
+    };
+    add_failed_job(text, first)?;
+    add_failed_rest(text, more)
+}
+
+/// Appends the jobs that have failed behind the first one.
+fn add_failed_rest<A: Allocator>(
+    text: &mut String<A>,
+    more: &[FailedJob<'_>],
+) -> Result<(), AllocError>
+    ensures { OnOk result
+        (string_bytes text.new ≡ string_bytes text.old ++ failed_rest more.now) }
+{
+    for job in more {
+        text.push_str(",")?;
+        add_failed_job(text, job)?;
+    }
+    Ok(())
+}
+
+/// Appends a job that has failed.
+fn add_failed_job<A: Allocator>(
+    text: &mut String<A>,
+    failed: &FailedJob<'_>,
+) -> Result<(), AllocError>
+    ensures { OnOk result
+        (string_bytes text.new ≡ string_bytes text.old ++ failed_object failed.now) }
+{
+    text.push_str("{")?;
+    add_job(text, &failed.job)?;
+    text.push_str(",\"why\":")?;
+    add_text(text, failed.why)?;
+    text.push_str("}")
+}

@@ -1,0 +1,250 @@
+//! The status of an end's folder, in lines for a person.
+ghost use Rattle.std.specs.Prelude.{◌≡◌, ◌∷◌, [], ◌++◌, IfOk, OnOk, string_bytes};
+ghost use Rattle.uug_folder.specs.JobsText.{job_words};
+ghost use Rattle.uug_pending.specs.StatusText.{age_words, count_words, failed_line, failed_lines, file_words, held_line, held_lines, pending_line, pending_lines, session_words, span_words, status_text, why_words};
+ghost use Rattle.uug_talk.specs.Words.{joined};
+
+use crate::failed_job::FailedJob;
+use crate::pending_job::PendingJob;
+use std::alloc::{AllocError, Allocator};
+use uug_disk::{HeldFile, SeenFile};
+use uug_reason::add_escaped;
+use uug_session::Job;
+use uug_talk::Name;
+
+const MINUTE: u64 = 60;
+
+const HOUR: u64 = 3_600;
+
+const DAY: u64 = 86_400;
+
+/// Returns the status of a folder, a line for each fact: how many jobs wait, files are held and jobs have failed; the age
+/// of the mark of a session that is not over; and each of them.
+pub fn status_text<A: Allocator>(
+    alloc: A,
+    session: &Option<SeenFile>,
+    pending: &[PendingJob],
+    held: &[HeldFile],
+    failed: &[FailedJob<'_>],
+) -> Result<String<A>, AllocError>
+    ensures { IfOk result (λ text. string_bytes text
+        ≡ status_text session.now pending.now held.now failed.now) }
+{
+    let mut text = String::new(alloc);
+    add_counts(&mut text, pending.len(), held.len(), failed.len())?;
+    add_session(&mut text, session)?;
+    add_pending_lines(&mut text, pending)?;
+    add_held_lines(&mut text, held)?;
+    add_failed_lines(&mut text, failed)?;
+    Ok(text)
+}
+
+/// Appends how many there are of each.
+fn add_counts<A: Allocator>(
+    text: &mut String<A>,
+    pending: usize,
+    held: usize,
+    failed: usize,
+) -> Result<(), AllocError>
+    ensures { OnOk result (string_bytes text.new
+        ≡ string_bytes text.old ++ count_words pending held failed) }
+{
+    write!(text, "{pending} pending, {held} held, {failed} failed\n")
+}
+
+/// Appends that a session is not over, if its mark is there.
+fn add_session<A: Allocator>(
+    text: &mut String<A>,
+    session: &Option<SeenFile>,
+) -> Result<(), AllocError>
+    ensures { OnOk result
+        (string_bytes text.new ≡ string_bytes text.old ++ session_words session.now) }
+{
+    let Some(mark) = session else {
+        return Ok(());
+    };
+    text.push_str("session not over: its mark is there")?;
+    add_age(text, mark.age)?;
+    text.push_str("\n")
+}
+
+/// Appends the lines of the jobs that wait.
+fn add_pending_lines<A: Allocator>(
+    text: &mut String<A>,
+    pending: &[PendingJob],
+) -> Result<(), AllocError>
+    ensures { OnOk result
+        (string_bytes text.new ≡ string_bytes text.old ++ pending_lines pending.now) }
+{
+    for job in pending {
+        add_pending_line(text, job)?;
+    }
+    Ok(())
+}
+
+/// Appends the line of a job that waits.
+fn add_pending_line<A: Allocator>(
+    text: &mut String<A>,
+    pending: &PendingJob,
+) -> Result<(), AllocError>
+    ensures { OnOk result
+        (string_bytes text.new ≡ string_bytes text.old ++ pending_line pending.now) }
+{
+    text.push_str("pending ")?;
+    add_job(text, &pending.job)?;
+    add_file(text, &pending.job, &pending.file)?;
+    text.push_str("\n")
+}
+
+/// Appends the words of a job.
+fn add_job<A: Allocator>(text: &mut String<A>, job: &Job) -> Result<(), AllocError>
+    ensures { OnOk result
+        (string_bytes text.new ≡ string_bytes text.old ++ joined (job_words job.now)) }
+{
+    match job {
+        Job::Send {
+            source,
+            target,
+            user,
+            ..
+        } => add_words(text, "send", source, target, user),
+        Job::Request {
+            source,
+            target,
+            user,
+        } => add_words(text, "request", source, target, user),
+    }
+}
+
+/// Appends these words, with a space between each two.
+fn add_words<A: Allocator>(
+    text: &mut String<A>,
+    first: &str,
+    source: &Name,
+    target: &Name,
+    user: &Name,
+) -> Result<(), AllocError>
+    ensures { OnOk result (string_bytes text.new ≡ string_bytes text.old
+        ++ joined (first.now ∷ source.now ∷ target.now ∷ user.now ∷ [])) }
+{
+    let source = source.as_str();
+    let target = target.as_str();
+    let user = user.as_str();
+    write!(text, "{first} {source} {target} {user}")
+}
+
+/// Appends what is known of the file of a job that sends one.
+fn add_file<A: Allocator>(
+    text: &mut String<A>,
+    job: &Job,
+    file: &Option<SeenFile>,
+) -> Result<(), AllocError>
+    ensures { OnOk result
+        (string_bytes text.new ≡ string_bytes text.old ++ file_words job.now file.now) }
+{
+    match (job, file) {
+        (Job::Request { .. }, _) => Ok(()),
+        (Job::Send { .. }, None) => text.push_str(": no file"),
+        (Job::Send { .. }, Some(file)) => {
+            let size = file.size;
+            write!(text, ": {size} bytes")?;
+            add_age(text, file.age)
+        }
+    }
+}
+
+/// Appends an age, if it is known.
+fn add_age<A: Allocator>(text: &mut String<A>, age: Option<u64>) -> Result<(), AllocError>
+    ensures { OnOk result (string_bytes text.new ≡ string_bytes text.old ++ age_words age) }
+{
+    let Some(seconds) = age else {
+        return Ok(());
+    };
+    text.push_str(", ")?;
+    add_span(text, seconds)?;
+    text.push_str(" old")
+}
+
+/// Appends a span of time, in the greatest unit of which it has one.
+fn add_span<A: Allocator>(text: &mut String<A>, seconds: u64) -> Result<(), AllocError>
+    ensures { OnOk result
+        (string_bytes text.new ≡ string_bytes text.old ++ span_words seconds) }
+{
+    if seconds < MINUTE {
+        return write!(text, "{seconds} s");
+    }
+    if seconds < HOUR {
+        let minutes = seconds / MINUTE;
+        return write!(text, "{minutes} min");
+    }
+    if seconds < DAY {
+        let hours = seconds / HOUR;
+        return write!(text, "{hours} h");
+    }
+    let days = seconds / DAY;
+    write!(text, "{days} d")
+}
+
+/// Appends the lines of the files that are held.
+fn add_held_lines<A: Allocator>(text: &mut String<A>, held: &[HeldFile]) -> Result<(), AllocError>
+    ensures { OnOk result
+        (string_bytes text.new ≡ string_bytes text.old ++ held_lines held.now) }
+{
+    for file in held {
+        add_held_line(text, file)?;
+    }
+    Ok(())
+}
+
+/// Appends the line of a file that is held.
+fn add_held_line<A: Allocator>(text: &mut String<A>, file: &HeldFile) -> Result<(), AllocError>
+    ensures { OnOk result
+        (string_bytes text.new ≡ string_bytes text.old ++ held_line file.now) }
+{
+    let name = file.name.as_str();
+    let count = file.held.size;
+    let whole = file.whole;
+    write!(text, "held {name}: {count} of {whole} bytes")?;
+    add_age(text, file.held.age)?;
+    text.push_str("\n")
+}
+
+/// Appends the lines of the jobs that have failed.
+fn add_failed_lines<A: Allocator>(
+    text: &mut String<A>,
+    failed: &[FailedJob<'_>],
+) -> Result<(), AllocError>
+    ensures { OnOk result
+        (string_bytes text.new ≡ string_bytes text.old ++ failed_lines failed.now) }
+{
+    for job in failed {
+        add_failed_line(text, job)?;
+    }
+    Ok(())
+}
+
+/// Appends the line of a job that has failed.
+fn add_failed_line<A: Allocator>(
+    text: &mut String<A>,
+    failed: &FailedJob<'_>,
+) -> Result<(), AllocError>
+    ensures { OnOk result
+        (string_bytes text.new ≡ string_bytes text.old ++ failed_line failed.now) }
+{
+    text.push_str("failed ")?;
+    add_job(text, &failed.job)?;
+    add_why(text, failed.why)?;
+    text.push_str("\n")
+}
+
+/// Appends why a job has failed, if that is said.
+fn add_why<A: Allocator>(text: &mut String<A>, why: &[u8]) -> Result<(), AllocError>
+    ensures { OnOk result
+        (string_bytes text.new ≡ string_bytes text.old ++ why_words why.now) }
+{
+    if why.is_empty() {
+        return Ok(());
+    }
+    text.push_str(": ")?;
+    add_escaped(text, why)
+}
