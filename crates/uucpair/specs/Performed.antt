@@ -1,5 +1,5 @@
 -- What the program does for each task: its answer, what it read, and what it wrote (this project's profile).
-use Rattle.std.specs.Prelude.{◌≡◌, ◌≤◌, ◌⊎◌, ℕ, List, Result, Err, IfOk, IfErr, OnOk, codes, true}
+use Rattle.std.specs.Prelude.{◌≡◌, ◌≤◌, ◌⊎◌, ℕ, Bool, List, Result, Err, IfOk, IfErr, OnOk, codes, true}
 use Rattle.uug_scan.specs.Listing.{ended}
 use Rattle.uug_stream.specs.Streams.{Appends}
 use Rattle.uug_stream.specs.declared.fault.ToolFault.TheVariants as faults
@@ -9,7 +9,8 @@ use Rattle.uug_failure.specs.declared.run_fault.RunFault.{RunFault}
 use Rattle.uug_words.specs.Asked.{Asks}
 use Rattle.uug_words.specs.Tools.{uucpair}
 use Rattle.uug_words.specs.declared.command_line.Task.{Task}
-use Rattle.uug_words.specs.declared.command_line.Task.TheVariants.{Version, Scan, ScanVerbose, Play, PlayVerbose, PlaySettled, PlayDrawn, Pair, Call, Queue, Cancel}
+use Rattle.uug_words.specs.declared.command_line.Task.TheVariants.{Version, Scan, ScanVerbose, Play, PlayVerbose, PlaySettled, PlayDrawn, Pair, Call, Queue, Cancel, Status}
+use Rattle.uug_pending.specs.Status.{WritesStatus}
 use Rattle.uug_input.specs.Inputs.{DoesOn, StaysUnread, StaysUnwritten, Streams}
 use Rattle.uug_input.specs.declared.input_task.InputTask.TheVariants as over
 use Rattle.uug_stop.specs.Refused.{IsNoTask}
@@ -44,6 +45,13 @@ pub record Cancels (s : Streams) (answer : Result ℕ RunFault) : Type 0 where
   pub reads : StaysUnread s
   pub no_other : IfErr answer IsQueueFault
 
+-- `status`: nothing was read of the input, and what was written is the status of a folder
+pub record ShowsStatus (is_json : Bool) (s : Streams) (answer : Result ℕ RunFault) : Type 0 where
+  pub status : IfOk answer (λ status. status ≡ 0)
+  pub reads : StaysUnread s
+  pub writes : OnOk answer (WritesStatus is_json s.before s.after)
+  pub no_other : IfErr answer IsQueueFault
+
 -- ---- the tasks
 
 abbrev pub Does : Task → Streams → (remark : List ℕ) → Result ℕ RunFault → Type 0
@@ -58,6 +66,7 @@ Does (Pair pair) s remark answer = Pairs s answer
 Does (Call call) s remark answer = Pairs s answer
 Does (Queue queue) s remark answer = Queues s answer
 Does (Cancel cancel) s remark answer = Cancels s answer
+Does (Status task) s remark answer = ShowsStatus task.is_json s answer
 
 -- ---- the program
 

@@ -2,6 +2,7 @@
 ghost use Rattle.std.specs.Prelude.{◌≡◌, ◌≤◌, IfErr, IfOk, IsErr, OnOk, map, string_bytes};
 ghost use Rattle.uug_failure.specs.Faults.{IsQueueFault};
 ghost use Rattle.uug_input.specs.Inputs.{streams};
+ghost use Rattle.uug_pending.specs.Status.{WritesStatus};
 ghost use Rattle.uug_stream.specs.Streams.{Appends};
 ghost use Rattle.uucpair.specs.Performed.{Does, Performs, version_line};
 
@@ -19,7 +20,9 @@ use uug_conversation::Side;
 use uug_disk::{QueueFault, QueueTask, queue_run};
 use uug_failure::{Outcome, RunFault};
 use uug_input::{InputTask, do_on};
-use uug_pending::{CancelFault, CancelOutcome, CancelTask, cancel_run, rival_remark};
+use uug_pending::{
+    CancelFault, CancelOutcome, CancelTask, StatusTask, cancel_run, rival_remark, status_run,
+};
 use uug_port::{SystemInput, SystemOutput};
 use uug_stop::{Stop, end_of, with_reason};
 use uug_stream::{Output, ToolFault, write_all};
@@ -88,6 +91,23 @@ where
     }
 }
 
+/// Shows the status of a folder.
+fn do_status<R, O>(rt: &R, status: &StatusTask<'_>, output: &mut O) -> Outcome<u8, Global>
+where
+    R: Files + Clock + AllocGlobal + Clone + Drop,
+    O: Output,
+    ensures status { IfOk result.answer (λ status. status ≡ 0) }
+    ensures writes { OnOk result.answer
+        (WritesStatus status.now.is_json (O.written output.old) (O.written output.new)) }
+    ensures no_other { IfErr result.answer IsQueueFault }
+{
+    let alloc = rt.alloc();
+    match status_run(alloc, rt, status, output) {
+        Ok(()) => Outcome::of(alloc, Ok(0)),
+        Err(fault) => gave_up(rt, status.dir, fault),
+    }
+}
+
 /// Returns that the usage is bad, with this remark if there was memory for it.
 fn bad_usage(alloc: Global, remark: Result<String, AllocError>) -> Outcome<u8, Global>
     ensures gives_up { IsErr result.answer }
@@ -140,6 +160,7 @@ where
         Task::Call(call) => return do_call(rt, &call, console, output),
         Task::Queue(queue) => return do_queue(rt, &queue, output),
         Task::Cancel(cancel) => return do_cancel(rt, &cancel, output),
+        Task::Status(status) => return do_status(rt, &status, output),
     };
     do_on(rt, over, file, input, output)
 }

@@ -17,7 +17,7 @@ use Rattle.uug_words.specs.UsageWords.{IsUsageOf, pair_words}
 use Rattle.uug_task.specs.declared.task.CallTask.{CallTask}
 use Rattle.uug_words.specs.declared.command_line.PairTask.{PairTask}
 use Rattle.uug_words.specs.declared.command_line.Task.{Task}
-use Rattle.uug_words.specs.declared.command_line.Task.TheVariants.{Scan, ScanVerbose, Play, PlayVerbose, PlaySettled, PlayDrawn, Pair, Call, Queue, Cancel}
+use Rattle.uug_words.specs.declared.command_line.Task.TheVariants.{Scan, ScanVerbose, Play, PlayVerbose, PlaySettled, PlayDrawn, Pair, Call, Queue, Cancel, Status}
 use Rattle.uug_stop.specs.declared.stop.Stop.{Stop}
 use Rattle.uug_stop.specs.declared.stop.Stop.TheVariants.{Fault, Remarked, File, Told, CommandLine}
 use Rattle.uug_stop.specs.declared.stop.Stop.TheVariants as stops
@@ -242,6 +242,7 @@ StopsAs (Pair pair) fault remark stop = StopsOnPair pair fault remark stop
 StopsAs (Call call) fault remark stop = StopsOnEnd call fault remark stop
 StopsAs (Queue queue) fault remark stop = StopsOnQueue queue.dir.now (word_or_empty queue.file) fault remark stop
 StopsAs (Cancel cancel) fault remark stop = StopsOnCancel cancel.dir.now fault remark stop
+StopsAs (Status status) fault remark stop = StopsOnQueue status.dir.now [] fault remark stop
 StopsAs task fault remark stop = stop ≡ Fault (fault_of_run fault)
 
 -- how the program ends after a task that answered this, with this remark

@@ -164,7 +164,7 @@ fn output_named<'a>(call: &CallTask<'a>, number: usize) -> &'a str
     path.unwrap_or("")
 }
 
-/// Returns why nothing was queued or listed. It names the file that can't be copied, and says what is wrong with the
+/// Returns why nothing was queued or listed, or no status was shown. It names the file that can't be copied, and says what is wrong with the
 /// order, or with a line of jobs. It says on what a call of the system failed, and why, if that is known.
 pub(crate) fn stop_of_queue(
     alloc: Global,

@@ -239,6 +239,27 @@ cancel_is_taken : takes uucpair cancel_words ≡ true
 unfolding clap_on_literals
 cancel_is_taken = refl
 
+-- ---- uucpair status dir --json
+
+abbrev status_words : List Text
+status_words = codes "uucpair" ∷ codes "status" ∷ codes "dir" ∷ codes "--json" ∷ []
+
+status_is_named : tool_of status_words ≡ Some (codes "status")
+unfolding clap_on_literals
+status_is_named = refl
+
+status_has_folder : text_in (entries_of status_words) (codes "DIR") ≡ codes "dir"
+unfolding clap_on_literals
+status_has_folder = refl
+
+status_is_json : is_given (entries_of status_words) (codes "json") ≡ true
+unfolding clap_on_literals
+status_is_json = refl
+
+status_is_taken : takes uucpair status_words ≡ true
+unfolding clap_on_literals
+status_is_taken = refl
+
 -- ---- uucpair --version
 
 version_is_no_tool : takes uucpair (codes "uucpair" ∷ codes "--version" ∷ []) ≡ false

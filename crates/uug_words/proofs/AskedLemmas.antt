@@ -19,7 +19,7 @@ use Rattle.clap.proofs.WalkLemmas.{both}
 use Rattle.uug_words.specs.Asked.{Asks, AsksIn, Entries, IsToolName, is_number, number_of}
 use Rattle.uug_words.specs.Tools.{uucpair}
 use Rattle.uug_words.specs.declared.command_line.Task.{Task}
-use Rattle.uug_words.specs.declared.command_line.Task.TheVariants.{Version, Scan, ScanVerbose, Play, PlayVerbose, PlaySettled, PlayDrawn, Pair, Call, Queue, Cancel}
+use Rattle.uug_words.specs.declared.command_line.Task.TheVariants.{Version, Scan, ScanVerbose, Play, PlayVerbose, PlaySettled, PlayDrawn, Pair, Call, Queue, Cancel, Status}
 
 -- the text of an argument
 pub text_read : (found : Option (Bor Text)) (empty : Bor Text) (text : Option Text) → option_map (λ s. s.now) found ≡ text → empty.now ≡ []
@@ -130,9 +130,10 @@ is_tool_name words tool entries is =
       | inr (inr (inl pair)) ↦ inr (inr (inl pair))
       | inr (inr (inr (inl call))) ↦ inr (inr (inr (inl call)))
       | inr (inr (inr (inr (inl answer)))) ↦ inr (inr (inr (inr (inl answer))))
-      | inr (inr (inr (inr (inr (inl queue))))) ↦ inr (inr (inr (inr (inr queue))))
-      | inr (inr (inr (inr (inr (inr (inl help)))))) ↦ inl (inr help)
-      | inr (inr (inr (inr (inr (inr (inr none)))))) ↦ absurd none
+      | inr (inr (inr (inr (inr (inl queue))))) ↦ inr (inr (inr (inr (inr (inl queue)))))
+      | inr (inr (inr (inr (inr (inr (inl status)))))) ↦ inr (inr (inr (inr (inr (inr status)))))
+      | inr (inr (inr (inr (inr (inr (inr (inl help))))))) ↦ inl (inr help)
+      | inr (inr (inr (inr (inr (inr (inr (inr none))))))) ↦ absurd none
     ]
 
 -- a tool that the words name asks for the task
@@ -149,6 +150,7 @@ asks_by words tool entries (Pair pair) read asks = record { tool = tool; entries
 asks_by words tool entries (Call call) read asks = record { tool = tool; entries = entries; read = read; asks = asks }
 asks_by words tool entries (Queue queue) read asks = record { tool = tool; entries = entries; read = read; asks = asks }
 asks_by words tool entries (Cancel cancel) read asks = record { tool = tool; entries = entries; read = read; asks = asks }
+asks_by words tool entries (Status status) read asks = record { tool = tool; entries = entries; read = read; asks = asks }
 
 -- words that a tool takes are refused only for want of memory
 pub not_taken : (taken : Bool) (kind : ErrorKind) → (taken ≡ true → kind ≡ OutOfMemory) → kind ≡ DisplayVersion → taken ≡ false

@@ -14,9 +14,10 @@ use Rattle.uug_conversation.specs.declared.side.Side.TheVariants.{Caller, Called
 use Rattle.uug_task.specs.declared.task.CallTask.{CallTask}
 use Rattle.uug_disk.specs.declared.queue.QueueTask.{QueueTask}
 use Rattle.uug_pending.specs.declared.cancel.CancelTask.{CancelTask}
+use Rattle.uug_pending.specs.declared.status.StatusTask.{StatusTask}
 use Rattle.uug_words.specs.declared.command_line.PairTask.{PairTask}
 use Rattle.uug_words.specs.declared.command_line.Task.{Task}
-use Rattle.uug_words.specs.declared.command_line.Task.TheVariants.{Version, Scan, ScanVerbose, Play, PlayVerbose, PlaySettled, PlayDrawn, Pair, Call, Queue, Cancel}
+use Rattle.uug_words.specs.declared.command_line.Task.TheVariants.{Version, Scan, ScanVerbose, Play, PlayVerbose, PlaySettled, PlayDrawn, Pair, Call, Queue, Cancel, Status}
 
 -- ---- what stands behind the name of a tool: an entry for each argument that has a value
 
@@ -193,11 +194,20 @@ pub record AsksToCancel (tool : Text) (entries : Entries) (task : CancelTask) : 
   pub job : first_of (codes "cancel") entries ≡ Some task.job.now
   pub order : IsWordIn entries (codes "ORDER") task.order
 
+-- whose status is shown, and how
+pub record IsStatusIn (entries : Entries) (task : StatusTask) : Type 0 where
+  pub dir : task.dir.now ≡ text_in entries (codes "DIR")
+  pub is_json : task.is_json ≡ is_given entries (codes "json")
+
+pub record AsksForStatus (tool : Text) (entries : Entries) (task : StatusTask) : Type 0 where
+  pub shows : tool ≡ codes "status"
+  pub says : IsStatusIn entries task
+
 -- ---- the words of a command line
 
 -- a name that a parse gives for a tool
 abbrev pub IsToolName : Text → Type 0
-IsToolName tool = NamesScan tool ⊎ ((tool ≡ codes "play") ⊎ ((tool ≡ codes "pair") ⊎ ((tool ≡ codes "call") ⊎ ((tool ≡ codes "answer") ⊎ (tool ≡ codes "queue")))))
+IsToolName tool = NamesScan tool ⊎ ((tool ≡ codes "play") ⊎ ((tool ≡ codes "pair") ⊎ ((tool ≡ codes "call") ⊎ ((tool ≡ codes "answer") ⊎ ((tool ≡ codes "queue") ⊎ (tool ≡ codes "status"))))))
 
 -- a tool of this name, with these entries, asks for the task
 abbrev pub AsksIn : (tool : Text) → Entries → Task → Type 0
@@ -212,6 +222,7 @@ AsksIn tool entries (Pair pair) = AsksForPair tool entries pair
 AsksIn tool entries (Call call) = AsksForEnd tool entries call
 AsksIn tool entries (Queue queue) = AsksToQueue tool entries queue
 AsksIn tool entries (Cancel cancel) = AsksToCancel tool entries cancel
+AsksIn tool entries (Status status) = AsksForStatus tool entries status
 
 -- the words, of which the first is the program's name, name this tool, and have these entries behind its name
 pub record AsksByTool (words : List Text) (task : Task) : Type 0 where

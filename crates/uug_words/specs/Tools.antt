@@ -135,8 +135,11 @@ queue_tool = tool (codes "queue")
     (path_rule (codes "DIR") ∷ optional_rule (codes "ORDER") ∷ optional_rule (codes "FILE") ∷ optional_rule (codes "TARGET")
     ∷ word_rule (codes "user") ∷ word_rule (codes "cancel") ∷ [])
 
+abbrev pub status_tool : Shape
+status_tool = tool (codes "status") (path_rule (codes "DIR") ∷ flag_rule (codes "json") ∷ [])
+
 abbrev pub tools : List Shape
-tools = scan_tool ∷ play_tool ∷ pair_tool ∷ call_tool ∷ answer_tool ∷ queue_tool ∷ []
+tools = scan_tool ∷ play_tool ∷ pair_tool ∷ call_tool ∷ answer_tool ∷ queue_tool ∷ status_tool ∷ []
 
 -- ---- the program
 

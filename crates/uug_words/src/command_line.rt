@@ -2,7 +2,7 @@
 ghost use Rattle.std.specs.Prelude.{◌≡◌, IfErr, IfOk, codes, map, true};
 ghost use Rattle.clap.specs.Words.{Text, kind_of, takes};
 ghost use Rattle.clap.specs.declared.error.kind.ErrorKind.TheVariants.{OutOfMemory};
-ghost use Rattle.uug_words.specs.Asked.{Asks, AsksIn, IsEndIn, IsFileIn, IsPairIn, IsQueueIn, IsToolName, IsWordIn, NamesScan, entries_of, is_given, number_in, peer_in, size_in, text_in, usual_size};
+ghost use Rattle.uug_words.specs.Asked.{Asks, AsksIn, IsEndIn, IsFileIn, IsPairIn, IsQueueIn, IsStatusIn, IsToolName, IsWordIn, NamesScan, entries_of, is_given, number_in, peer_in, size_in, text_in, usual_size};
 ghost use Rattle.uug_words.specs.Tools.{uucpair};
 
 use crate::tools::command;
@@ -12,7 +12,7 @@ use std::alloc::Global;
 use std::convert::AsStr;
 use uug_conversation::Side;
 use uug_disk::QueueTask;
-use uug_pending::CancelTask;
+use uug_pending::{CancelTask, StatusTask};
 use uug_task::CallTask;
 
 /// The default packet size of an end. A smaller one lets more of what a line changes pass the checksum.
@@ -51,6 +51,8 @@ pub enum Task<'a> {
     Queue(QueueTask<'a>),
     /// A job that is cancelled.
     Cancel(CancelTask<'a>),
+    /// The status of a folder.
+    Status(StatusTask<'a>),
 }
 
 /// The task of two ends.
@@ -218,6 +220,16 @@ fn order_task<'a>(matches: &ArgMatches<'a>) -> QueueTask<'a>
     }
 }
 
+/// Returns the task of `status`, from the words after it.
+fn status_task<'a>(matches: &ArgMatches<'a>) -> StatusTask<'a>
+    ensures { IsStatusIn (entries_of matches.now) result }
+{
+    StatusTask {
+        dir: text(matches, "DIR"),
+        is_json: is_given(matches, "json"),
+    }
+}
+
 /// Returns the task of `scan`.
 fn scan_task<'a>(matches: &ArgMatches<'a>) -> Task<'a>
     ensures { (tool : Text) → NamesScan tool → AsksIn tool (entries_of matches.now) result }
@@ -256,6 +268,7 @@ fn task_of_tool<'a>(tool: &str, matches: &ArgMatches<'a>) -> Task<'a>
         "call" => Task::Call(end_task(Side::Caller, matches)),
         "answer" => Task::Call(end_task(Side::Called, matches)),
         "queue" => queue_task(matches),
+        "status" => Task::Status(status_task(matches)),
         _ => scan_task(matches),
     }
 }

@@ -144,6 +144,29 @@ Example:
 prints
   queued send x y me";
 
+pub const STATUS: &str =
+    "It changes nothing, and may be asked for while a session runs. The lines are:
+  P pending, H held, F failed
+                    how many there are of each
+  session not over: its mark is there, AGE old
+                    a session with a log runs, or was broken off
+  pending JOB: N bytes, AGE old
+                    a job that waits, with its file; or its file is missing
+  held NAME: N of M bytes, AGE old
+                    what has come of a file that was cut off
+  failed JOB: WHY   a job that was given up
+What can't be seen is \\xNN. With --json the same is one object, with null for what is not
+known, and ages in seconds.
+
+Status: 0 done, 2 bad usage or bad jobs, 3 a device fault, 4 out of memory
+
+Example:
+  mkdir -p a/send && echo hello > x && uucpair queue a send x y --user me
+  uucpair status a
+prints
+  1 pending, 0 held, 0 failed
+  pending send x y me: 6 bytes, 0 s old";
+
 pub const WHY: &str = "Says why it gave up, where it did";
 
 pub const USER: &str = "Who queues it; without it USER, LOGNAME or uucp";

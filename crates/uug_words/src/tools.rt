@@ -1,7 +1,7 @@
 //! The tools of the program and their arguments, as the parser of the words takes them.
 ghost use Rattle.std.specs.Prelude.{◌≡◌, [], IfOk, codes};
 ghost use Rattle.clap.specs.Words.{Shape, app_of};
-ghost use Rattle.uug_words.specs.Tools.{IsArg, IsTool, alone, answer_tool, call_tool, end_rules, every_rule, excluding, file_rule, file_rules, flag_rule, folder_rule, name_rule, number_rule, optional_rule, pair_tool, path_rule, play_tool, program, queue_tool, scan_tool, talk_rules, tool, uucpair, verbose_rule, with_arguments, word_rule};
+ghost use Rattle.uug_words.specs.Tools.{IsArg, IsTool, alone, answer_tool, call_tool, end_rules, every_rule, excluding, file_rule, file_rules, flag_rule, folder_rule, name_rule, number_rule, optional_rule, pair_tool, path_rule, play_tool, program, queue_tool, scan_tool, status_tool, talk_rules, tool, uucpair, verbose_rule, with_arguments, word_rule};
 
 use crate::help;
 use clap::{Arg, ArgAction, Command, value_parser};
@@ -40,7 +40,8 @@ pub fn command<'a>(alloc: Global) -> Result<Command<'a>, AllocError>
         .subcommand(pair_command(alloc)?)?
         .subcommand(call_command(alloc)?)?
         .subcommand(answer_command(alloc)?)?
-        .subcommand(queue_command(alloc)?)
+        .subcommand(queue_command(alloc)?)?
+        .subcommand(status_command(alloc)?)
 }
 
 /// Returns the program without its tools.
@@ -283,6 +284,20 @@ fn queue_command<'a>(alloc: Global) -> Result<Command<'a>, AllocError>
     ))?
     .arg(named(alloc, "user", "USER", help::USER))?
     .arg(named(alloc, "cancel", "JOB", help::CANCEL))
+}
+
+/// Returns the tool that shows the status of a folder.
+fn status_command<'a>(alloc: Global) -> Result<Command<'a>, AllocError>
+    ensures { IfOk result (IsTool status_tool) }
+{
+    tool(
+        alloc,
+        "status",
+        "Shows the jobs that wait in the folder of an end, what is held of files, and what has failed",
+        help::STATUS,
+    )
+    .arg(path(alloc, "DIR", "The folder of the end"))?
+    .arg(flag(alloc, "json", "Prints one object of JSON"))
 }
 
 /// Returns the argument for the file that is read, if there is one.

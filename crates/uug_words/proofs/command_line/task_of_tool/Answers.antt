@@ -8,5 +8,6 @@ returns-in_default c named = elim named [
   | inr (inr (inl pair)) ↦ absurd (c.in_default.not-pair pair)
   | inr (inr (inr (inl call))) ↦ absurd (c.in_default.not-call call)
   | inr (inr (inr (inr (inl answer)))) ↦ absurd (c.in_default.not-answer answer)
-  | inr (inr (inr (inr (inr queue)))) ↦ absurd (c.in_default.not-queue queue)
+  | inr (inr (inr (inr (inr (inl queue))))) ↦ absurd (c.in_default.not-queue queue)
+  | inr (inr (inr (inr (inr (inr status))))) ↦ absurd (c.in_default.not-status status)
 ]

@@ -9,4 +9,5 @@ returns c =
     let pair = adds_tool play c.in_ok-subcommand-3.ensures c.in_ok-pair_command.ensures in
     let call = adds_tool pair c.in_ok-subcommand-4.ensures c.in_ok-call_command.ensures in
     let answer = adds_tool call c.in_ok-subcommand-5.ensures c.in_ok-answer_command.ensures in
-    IfOk-weaker c.subcommand-6.result _ _ (λ made step. adds_tool answer step c.in_ok-queue_command.ensures) c.subcommand-6.ensures
+    let queue = adds_tool answer c.in_ok-subcommand-6.ensures c.in_ok-queue_command.ensures in
+    IfOk-weaker c.subcommand-7.result _ _ (λ made step. adds_tool queue step c.in_ok-status_command.ensures) c.subcommand-7.ensures
