@@ -1,4 +1,5 @@
-//! Two ends: jobs as a text, a line and folders in memory of which one call fails, and a socket and folders of the system.
+//! Two ends: jobs as a text, a line and folders in memory of which one call fails, and a socket and folders of the
+//! system. Also the status of a folder.
 
 mod assertions;
 mod ends;
@@ -13,5 +14,6 @@ mod over_memory;
 pub mod runs;
 mod short_output;
 mod stages;
+mod statuses;
 mod tasks;
 mod wires;

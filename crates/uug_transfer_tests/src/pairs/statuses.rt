@@ -1,0 +1,98 @@
+//! The status of a folder, in lines and as JSON. The tests catch beyond the clauses a form that is wrong in the
+//! definition, and a call that reports that memory ran out when none was refused.
+
+use crate::pairs::assertions::{assert_same, assert_same_at};
+use std::alloc::{AllocError, Allocator, Global};
+use std::process::Abort;
+use uug_disk::{HeldFile, SeenFile};
+use uug_pending::{FailedJob, PendingJob, status_json, status_text};
+use uug_refusal::Refusing;
+use uug_session::Job;
+use uug_talk::Name;
+
+const LINES: &str = "3 pending, 1 held, 2 failed
+session not over: its mark is there, 2 h old
+pending send a\" a\" a\": 9000 bytes, 2 h old
+pending send a\" a\" a\": no file
+pending request a\" a\" a\"
+held a\": 9000 of 60000 bytes, 2 h old
+failed request a\" a\" a\": \\xff \"
+failed send a\" a\" a\"
+";
+
+const OBJECT: &str = "{\"session\":{\"age\":7300},\"pending\":[\
+{\"kind\":\"send\",\"source\":\"a\\\"\",\"target\":\"a\\\"\",\"user\":\"a\\\"\",\"bytes\":9000,\"age\":7300},\
+{\"kind\":\"send\",\"source\":\"a\\\"\",\"target\":\"a\\\"\",\"user\":\"a\\\"\",\"bytes\":null,\"age\":null},\
+{\"kind\":\"request\",\"source\":\"a\\\"\",\"target\":\"a\\\"\",\"user\":\"a\\\"\",\"bytes\":null,\"age\":null}],\
+\"held\":[{\"name\":\"a\\\"\",\"bytes\":9000,\"whole\":60000,\"age\":7300}],\"failed\":[\
+{\"kind\":\"request\",\"source\":\"a\\\"\",\"target\":\"a\\\"\",\"user\":\"a\\\"\",\"why\":\"\\\\xff \\\"\"},\
+{\"kind\":\"send\",\"source\":\"a\\\"\",\"target\":\"a\\\"\",\"user\":\"a\\\"\",\"why\":\"\"}]}
+";
+
+/// Returns the status of a folder with jobs of each kind, whose names are this one.
+fn shown<A: Allocator>(alloc: A, name: Name, is_json: bool) -> Result<String<A>, AllocError> {
+    let file = SeenFile {
+        size: 9000,
+        age: Some(7300),
+    };
+    let send = Job::Send {
+        source: name,
+        target: name,
+        user: name,
+        temp: None,
+    };
+    let request = Job::Request {
+        source: name,
+        target: name,
+        user: name,
+    };
+    let pending = [(send, Some(file)), (send, None), (request, None)].map(|(job, file)| PendingJob {
+        job,
+        file,
+    });
+    let held = [HeldFile {
+        name,
+        whole: 60_000,
+        held: file,
+    }];
+    let failed = [(request, b"\xff \"".as_slice()), (send, b"")].map(|(job, why)| FailedJob {
+        job,
+        why,
+    });
+    if is_json {
+        status_json(alloc, &Some(file), &pending, &held, &failed)
+    } else {
+        status_text(alloc, &Some(file), &pending, &held, &failed)
+    }
+}
+
+fn name(rt: &impl Abort) -> Name {
+    Name::new(b"a\"").expect(rt, "a name")
+}
+
+#[test]
+fn shows_a_status(rt: HostRuntime) {
+    for (is_json, text) in [(false, LINES), (true, OBJECT)] {
+        let shown = shown(rt.alloc(), name(&rt), is_json).expect(&rt, "memory for a status");
+        assert_same(&rt, shown.as_str(), text);
+    }
+}
+
+/// Refuses a request of a status. Returns whether there was one.
+fn refuse(rt: &impl Abort, heap: &Refusing<Global>, is_json: bool, nth: u64) -> bool {
+    heap.refuse(nth);
+    let is_done = shown(heap, name(rt), is_json).is_ok();
+    let was_refused = heap.was_refused();
+    assert_same_at(rt, is_done, !was_refused, nth);
+    was_refused
+}
+
+#[test]
+fn reports_that_memory_ran_out(rt: HostRuntime) {
+    let heap = Refusing::new(rt.alloc(), 0);
+    for is_json in [false, true] {
+        assert_same(&rt, refuse(&rt, &heap, is_json, 1), true);
+        assert_same(&rt, refuse(&rt, &heap, is_json, 2), true);
+        assert_same(&rt, refuse(&rt, &heap, is_json, 100), false);
+    }
+}
