@@ -285,6 +285,8 @@ row "an answer without the name of the other end" 2 \
 begins=yes row "a call without the name of the other end" 2 "error: " "" call l a --spool --me a </dev/null
 row "an order with a cancel" 2 "${usage}a job is queued or cancelled, not both$line_feed" "" queue a send x --cancel 1 </dev/null
 begins=yes row "a cancel of nothing" 2 "error: " "" queue a --cancel </dev/null
+begins=yes row "a status of nothing" 2 "error: " "" status --json </dev/null
+begins=yes row "a status of two folders" 2 "error: " "" status a b </dev/null
 row "a word that is no text" 2 "uucpair: bad usage$line_feed" "" $'\377' </dev/null
 begins=yes row "help" 2 "Tools for the" "" --help </dev/null
 helps "help on scan" "scan    Reads bytes"
@@ -293,6 +295,7 @@ helps "help on pair" "pair    Moves files"
 helps "help on call" "call    Calls another system"
 helps "help on answer" "answer  Waits for the call"
 helps "help on queue" "queue   Queues a job"
+helps "help on status" "status  Shows the jobs"
 begins=yes row "help of scan" 2 "Reads bytes" "" scan --help </dev/null
 helps "a line of a listing" "  DATA N ACK N SIZE N VALID N"
 helps "a line of a detailed listing" "  CONTROL BAD checksum"
@@ -306,6 +309,9 @@ begins=yes row "help of pair" 2 "Moves files" "" pair --help </dev/null
 helps "a line of jobs" "request SOURCE TARGET USER"
 helps "the statuses of pair" "Status: 0 both sessions are done"
 helps "an example of pair" "uucpair pair line a b --drop-every 7"
+begins=yes row "help of status" 2 "Shows the jobs" "" status --help </dev/null
+helps "a line of a status" "  failed JOB: WHY"
+helps "the statuses of status" "Status: 0 done, 2 bad usage or bad jobs"
 begins=yes row "help of call" 2 "Calls another system" "" call --help </dev/null
 helps "a name of a line" "  tcp:HOST:PORT  "
 helps "the statuses of call" "Status: 0 the session is done"
@@ -567,6 +573,8 @@ folders "send x y u"
 by=to_a_full_disk row "why the output of a pair fails" 3 "$full" "" pair "$socket" "$a" "$b" -v </dev/null
 folders "send x y u"
 by=to_a_full_disk row "a list whose output fails" 3 "$full" "" queue "$a" </dev/null
+by=to_a_full_disk row "a status whose output fails" 3 "$full" "" status "$a" </dev/null
+by=to_a_full_disk row "a status in JSON whose output fails" 3 "$full" "" status "$a" --json </dev/null
 by=to_a_full_disk row "a cancel whose output fails" 3 "$full" "" queue "$a" --cancel 1 </dev/null
 holds "the jobs behind a cancel whose output fails" "$a/jobs" ""
 by=with_little_memory row "a script that memory does not hold" 4 "uucpair: out of memory$line_feed" "" \

@@ -777,6 +777,7 @@ folders
 mistake "no file to list" 3 "${fault}can't read none"$'\n'"none: no such file or directory" scan -v none
 mistake "a folder to play" 3 "${fault}can't read a"$'\n'"a: is a directory" play -v a
 mistake "nothing to queue in" 3 "${fault}none: no such file or directory" queue none
+mistake "nothing to show the status of" 3 "${fault}none: no such file or directory" status none
 queue="uucpair queue DIR"
 mistake "an order without its file" 2 "${usage}FILE is missing: $queue send FILE" queue a send
 mistake "a request without its file" 2 "${usage}FILE is missing: $queue request FILE" queue a request
@@ -789,9 +790,9 @@ chmod 644 "$work/large"
 mistake "a file to queue that is too large" 3 "over a limit"$'\n'"large: too large" queue a send large
 
 folders "send x y me" "get x y me"
-for words in a "a send a/send/x" "a request x" "a --cancel 1"; do
+for words in "queue a" "queue a send a/send/x" "queue a request x" "queue a --cancel 1" "status a" "status a --json"; do
     # shellcheck disable=SC2086  # the words are several
-    mistake "bad jobs: queue $words" 2 "$jobs 2"$'\n''a/jobs: line 2: "get" is neither send nor request' queue $words
+    mistake "bad jobs: $words" 2 "$jobs 2"$'\n''a/jobs: line 2: "get" is neither send nor request' $words
 done
 mapfile -t many < <(for ((i = 0; i < 1024; i++)); do echo "send x y me"; done)
 folders "${many[@]}"
