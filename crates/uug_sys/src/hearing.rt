@@ -10,6 +10,7 @@ const TEXT_START: u8 = 0x10;
 
 /// The bytes by which a terminal's flow control starts and stops its output.
 const XON: u8 = 0x11;
+
 const XOFF: u8 = 0x13;
 
 /// No byte.

@@ -134,7 +134,9 @@ fn tell_unqueued<A: Allocator, R: Eprint>(
     if let Ok(given) = given {
         if !given.files.is_empty() {
             let dir = task.dir.escape_debug();
-            let _ = eprint!(rt; "uucpair: no job sends the files in {dir}/send: make one by uucpair queue DIR send FILE\n");
+            let _ = eprint!(rt;
+                "uucpair: no job sends the files in {dir}/send: make one by uucpair queue DIR send FILE\n"
+            );
         }
     }
 }

@@ -28,24 +28,47 @@ pub struct SystemObserver<'a, R, A: Allocator> {
     /// None without `-v` or a log.
     observer: Option<Observer<A>>,
     tellers: Tellers<'a, R, A>,
-    /// The phase of the session that was noted last.
+    /// The side of this end, and the name of the other end, if it is a name.
+    side: Side,
+    peer: Option<Name>,
+    /// Set if any system of a spool may call.
+    is_hub: bool,
+    seen: Seen,
+    /// The bytes that came last.
+    tail: Tail<A>,
+}
+
+/// The part of a session that has passed.
+#[derive(Drop)]
+struct Seen {
+    /// The phase that was noted last.
     phase: Option<Phase>,
-    /// Set once it came past its greeting.
+    /// Set once the session came past its greeting.
     has_met: bool,
     /// The numbers of bytes written and read, and of silences. They saturate.
     written: u64,
     read: u64,
     silences: u64,
-    /// The side of this end, and the name of the other end, if it is a name.
-    side: Side,
-    peer: Option<Name>,
-    /// Set if any system of a spool may call, and the first text of the one that does.
-    is_hub: bool,
+    /// The bytes heard: the first text, the texts of the greeting, and what came after that.
     hail: Hail,
-    /// The bytes heard from it: the texts of its greeting, what came after that, and the bytes that came last.
     hearing: Hearing,
     passed: Passed,
-    tail: Tail<A>,
+}
+
+impl Seen {
+    /// Returns nothing: the session has not begun.
+    fn nothing() -> Self {
+        Seen {
+            phase: None,
+            has_met: false,
+            written: 0,
+            read: 0,
+            silences: 0,
+            hail: Hail::new(),
+            hearing: Hearing::nothing(),
+            passed: NOTHING_PASSED,
+        }
+    }
 }
 
 impl<'a, R: Eprint + Clock, A: Allocator + Copy> SystemObserver<'a, R, A> {
@@ -73,17 +96,10 @@ impl<'a, R: Eprint + Clock, A: Allocator + Copy> SystemObserver<'a, R, A> {
                 voice: Voice::new(alloc, rt, at_terminal),
                 log,
             },
-            phase: None,
-            has_met: false,
-            written: 0,
-            read: 0,
-            silences: 0,
             side: task.side,
             peer: Name::new(task.peer.as_bytes()).ok(),
             is_hub: task.is_spool && task.peer == ANY,
-            hail: Hail::new(),
-            hearing: Hearing::nothing(),
-            passed: NOTHING_PASSED,
+            seen: Seen::nothing(),
             tail: Tail::new(alloc),
         })
     }
@@ -93,14 +109,7 @@ impl<'a, R: Eprint + Clock, A: Allocator + Copy> SystemObserver<'a, R, A> {
         if self.observer.is_some() {
             self.observer = Observer::new(self.alloc, self.is_lenient, self.file_limit).ok();
         }
-        self.phase = None;
-        self.has_met = false;
-        self.written = 0;
-        self.read = 0;
-        self.silences = 0;
-        self.hail.clear();
-        self.hearing = Hearing::nothing();
-        self.passed = NOTHING_PASSED;
+        self.seen = Seen::nothing();
         self.tail.clear();
     }
 
@@ -113,9 +122,9 @@ impl<'a, R: Eprint + Clock, A: Allocator + Copy> SystemObserver<'a, R, A> {
             return;
         }
         let voice = &self.tellers.voice;
-        voice.say_counts("wrote", self.written, observer.counts(Way::Out));
-        voice.say_counts("read", self.read, observer.counts(Way::In));
-        voice.say_silences(self.silences);
+        voice.say_counts("wrote", self.seen.written, observer.counts(Way::Out));
+        voice.say_counts("read", self.seen.read, observer.counts(Way::In));
+        voice.say_silences(self.seen.silences);
     }
 
     /// Returns a line with what was heard of the other end, if the session ended badly, else an empty one.
@@ -123,10 +132,10 @@ impl<'a, R: Eprint + Clock, A: Allocator + Copy> SystemObserver<'a, R, A> {
         match (phase, &self.peer) {
             (Phase::Ended(End::BadTalk), _) => self.last(true),
             // Past the greeting no text of it says why.
-            (Phase::Ended(End::GaveUp), _) if self.has_met => self.passed_remark(true),
-            (Phase::Ended(End::HungUp), _) if self.has_met => self.passed_remark(false),
+            (Phase::Ended(End::GaveUp), _) if self.seen.has_met => self.passed_remark(true),
+            (Phase::Ended(End::HungUp), _) if self.seen.has_met => self.passed_remark(false),
             (Phase::Ended(end), Some(peer)) => {
-                let heard = self.hearing.heard();
+                let heard = self.seen.hearing.heard();
                 let expected = if self.is_hub { "" } else { peer.as_str() };
                 heard_remark(self.alloc, self.side, end, expected, heard)
             }
@@ -137,9 +146,9 @@ impl<'a, R: Eprint + Clock, A: Allocator + Copy> SystemObserver<'a, R, A> {
     /// Returns a line with what came after the greeting of a session that ended badly, if that says why, else an empty
     /// one. If the other end has hung up, only a line of seven bits does.
     fn passed_remark(&self, has_given_up: bool) -> Result<String<A>, AllocError> {
-        let is_narrow = self.passed.count > 0 && !self.passed.has_high;
+        let is_narrow = self.seen.passed.count > 0 && !self.seen.passed.has_high;
         if has_given_up || is_narrow {
-            passed_remark(self.alloc, self.passed)
+            passed_remark(self.alloc, self.seen.passed)
         } else {
             Ok(String::new(self.alloc))
         }
@@ -152,9 +161,9 @@ impl<'a, R: Eprint + Clock, A: Allocator + Copy> SystemObserver<'a, R, A> {
         if last.is_whole() {
             return remark_of(self.alloc, last.bytes(), ended_for_it);
         }
-        match self.hearing.heard() {
+        match self.seen.hearing.heard() {
             // A session past its greeting does not end because of a text of the greeting.
-            Heard::Text(text) if !(self.has_met && ended_for_it) => {
+            Heard::Text(text) if !(self.seen.has_met && ended_for_it) => {
                 remark_of(self.alloc, text, ended_for_it)
             }
             _ => Ok(String::new(self.alloc)),
@@ -178,13 +187,13 @@ impl<'a, R: Eprint + Clock, A: Allocator + Copy> SystemObserver<'a, R, A> {
 
     /// Hears bytes of the greeting. If any system may call, a log gets the name of the one that does.
     fn hear(&mut self, piece: &[u8]) {
-        self.hearing.hear(piece);
-        if !self.is_hub || self.hail.is_whole() {
+        self.seen.hearing.hear(piece);
+        if !self.is_hub || self.seen.hail.is_whole() {
             return;
         }
-        let _ = self.hail.push(piece);
-        if self.hail.is_whole() {
-            if let Some(name) = caller_in(self.hail.text()) {
+        let _ = self.seen.hail.push(piece);
+        if self.seen.hail.is_whole() {
+            if let Some(name) = caller_in(self.seen.hail.text()) {
                 self.tellers.note_caller(name);
             }
         }
@@ -204,24 +213,24 @@ impl<'a, R: Eprint + Clock, A: Allocator + Copy> SystemObserver<'a, R, A> {
 
 impl<R: Eprint + Clock, A: Allocator + Copy> SessionObserver for SystemObserver<'_, R, A> {
     fn wrote(&mut self, piece: &[u8]) {
-        self.written = self.written.saturating_add(piece.len() as u64);
+        self.seen.written = self.seen.written.saturating_add(piece.len() as u64);
         self.see(Way::Out, piece);
     }
 
     fn read(&mut self, outcome: ReadOutcome, piece: &[u8]) {
         match outcome {
             ReadOutcome::Bytes(count) => {
-                self.read = self.read.saturating_add(count as u64);
+                self.seen.read = self.seen.read.saturating_add(count as u64);
                 self.tellers.begin();
             }
-            ReadOutcome::TimedOut => self.silences = self.silences.saturating_add(1),
+            ReadOutcome::TimedOut => self.seen.silences = self.seen.silences.saturating_add(1),
             ReadOutcome::Eof => {}
         }
         // Only packets come after the greeting.
-        if matches!(self.phase, None | Some(Phase::Hail)) {
+        if matches!(self.seen.phase, None | Some(Phase::Hail)) {
             self.hear(piece);
         } else {
-            self.passed = passed_then(self.passed, piece);
+            self.seen.passed = passed_then(self.seen.passed, piece);
         }
         self.tail.hear(piece);
         self.see(Way::In, piece);
@@ -229,12 +238,12 @@ impl<R: Eprint + Clock, A: Allocator + Copy> SessionObserver for SystemObserver<
 
     fn note(&mut self, status: SessionStatus) {
         self.tellers.tell_held();
-        if self.phase != Some(status.phase) {
+        if self.seen.phase != Some(status.phase) {
             self.tellers.tell_status(status);
         }
-        self.phase = Some(status.phase);
+        self.seen.phase = Some(status.phase);
         if let Phase::Starting | Phase::Talking | Phase::Closing = status.phase {
-            self.has_met = true;
+            self.seen.has_met = true;
         }
         if status.is_over {
             self.tell_end(status);
