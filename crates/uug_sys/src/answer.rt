@@ -83,9 +83,7 @@ where
     let sessions = sessions_of(&run.station);
     let mut doorkeeper = Doorkeeper::new(observer, listening, sessions);
     let mut remark = String::new(run.alloc);
-    let mut status = 0;
-    let mut failed: Option<SystemFailure> = None;
-    let mut bad_line: Option<usize> = None;
+    let mut tally = Tally::none();
     for _ in 0..sessions {
         tell(run.rt, remark.as_str());
         let (served, keeper) = next_served(run, doorkeeper);
@@ -97,14 +95,10 @@ where
         } = outcome;
         remark = said;
         match give(answer, report, output) {
-            Ok(next) => status = greater(status, next),
+            Ok(next) => tally.status = greater(tally.status, next),
             Err(fault) if is_of_session(&fault) => {
+                tally.add(&fault);
                 report_fault(run, fault);
-                match fault {
-                    RunFault::System(failure) => failed = failed.or(Some(failure)),
-                    RunFault::Tool(ToolFault::Jobs(line)) => bad_line = bad_line.or(Some(line)),
-                    _ => (),
-                }
             }
             Err(fault) => {
                 doorkeeper.close();
@@ -122,8 +116,61 @@ where
     doorkeeper.close();
     drop(doorkeeper);
     Outcome {
-        answer: ended(status, failed, bad_line),
+        answer: tally.answer(),
         remark,
+    }
+}
+
+/// The greatest status of the sessions so far, the first failure on the files of one, if there was one, and the first bad
+/// line of jobs.
+#[derive(Clone, Copy)]
+struct Tally {
+    status: u8,
+    failed: Option<SystemFailure>,
+    bad_line: Option<usize>,
+}
+
+impl Tally {
+    /// Returns that of no session.
+    fn none() -> Self
+        ensures { result.status ≡ 0 }
+    {
+        Tally {
+            status: 0,
+            failed: None,
+            bad_line: None,
+        }
+    }
+
+    /// Adds why a session has ended.
+    fn add(&mut self, fault: &RunFault)
+        ensures { self.new.status ≡ self.old.status }
+    {
+        match fault {
+            RunFault::System(failure) => self.failed = self.failed.or(Some(*failure)),
+            RunFault::Tool(ToolFault::Jobs(line)) => {
+                self.bad_line = self.bad_line.or(Some(*line));
+            }
+            _ => (),
+        }
+    }
+
+    /// Returns the result of all sessions.
+    fn answer(&self) -> Result<u8, RunFault>
+        ensures failed { IfSome self.now.failed (λ failure. result ≡ Err (RunFault.System failure)) }
+        ensures bad { IfNone self.now.failed (IfSome self.now.bad_line (λ line.
+            result ≡ Err (RunFault.Tool (ToolFault.Jobs line)))) }
+        ensures well { IfNone self.now.failed (IfNone self.now.bad_line
+            (result ≡ Ok self.now.status)) }
+        ensures status { IfOk result (λ answer. answer ≡ self.now.status) }
+        ensures no_other { IfErr result IsSessionFault }
+        ensures no_write { result ≢ Err (RunFault.Tool ToolFault.Write) }
+    {
+        match (self.failed, self.bad_line) {
+            (Some(failure), _) => Err(RunFault::System(failure)),
+            (None, Some(line)) => Err(RunFault::Tool(ToolFault::Jobs(line))),
+            (None, None) => Ok(self.status),
+        }
     }
 }
 
@@ -154,24 +201,6 @@ fn is_in_folder(resource: Resource) -> bool
     match resource {
         Resource::Input | Resource::Output | Resource::Line => false,
         _ => true,
-    }
-}
-
-/// Returns the result of an end whose sessions had at most this status. `failed` is the first failure on the files of a
-/// session, if there was one, and `bad_line` the first bad line of jobs.
-fn ended(status: u8, failed: Option<SystemFailure>, bad_line: Option<usize>) -> Result<u8, RunFault>
-    ensures failed { IfSome failed (λ failure. result ≡ Err (RunFault.System failure)) }
-    ensures bad { IfNone failed (IfSome bad_line (λ line.
-        result ≡ Err (RunFault.Tool (ToolFault.Jobs line)))) }
-    ensures well { IfNone failed (IfNone bad_line (result ≡ Ok status)) }
-    ensures status { IfOk result (λ answer. answer ≡ status) }
-    ensures no_other { IfErr result IsSessionFault }
-    ensures no_write { result ≢ Err (RunFault.Tool ToolFault.Write) }
-{
-    match (failed, bad_line) {
-        (Some(failure), _) => Err(RunFault::System(failure)),
-        (None, Some(line)) => Err(RunFault::Tool(ToolFault::Jobs(line))),
-        (None, None) => Ok(status),
     }
 }
 

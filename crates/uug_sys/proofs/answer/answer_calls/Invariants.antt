@@ -4,4 +4,4 @@ use Rattle.uug_sys.proofs.answer.answer_calls.Given as goal
 
 -- no session ended worse than badly
 abbrev pub invariant-loop : goal.invariant-loop
-invariant-loop g l = (l.status ≤ 1) × (g.O.Output.fault_count l.fn.output ≤ g.O.Output.fault_count l.output)
+invariant-loop g l = (l.tally.status ≤ 1) × (g.O.Output.fault_count l.fn.output ≤ g.O.Output.fault_count l.output)
