@@ -439,12 +439,13 @@ unhappy() {
 
 # refusing NAME SAID WORD..: an end that is called for two seconds says this of its caller.
 refusing() {
-    local name=$1 said=$2
+    local name=$1 said=$2 answerer
     (cd "$work" && "${as_user[@]}" timeout 60 "$program" answer unix:line b --me beta --peer alpha --wait 2 \
         >"$work/answered" 2>"$work/heard" </dev/null) &
     answerer=$!
     wait_for_socket "$work/line" || true
     "${@:3}"
+    wait "$answerer" || true
     if [ "$(head -n 1 "$work/heard")" = "uucpair: $said" ]; then
         passed=$((passed + 1))
     else
@@ -551,6 +552,7 @@ END
 narrowed() {
     local far
     folders
+    rm "$work/a/send/x"
     [ -z "$4" ] || echo "$4" >"$work/a/jobs"
     python3 -c 'import sys
 sys.stdout.buffer.write(bytes(range(256)) * 40)' >"$work/b/send/bytes"
@@ -560,7 +562,7 @@ sys.stdout.buffer.write(bytes(range(256)) * 40)' >"$work/b/send/bytes"
     far=$!
     wait_for_socket "$work/far" || true
     narrow "$2"
-    (cd "$work" && "${as_user[@]}" timeout 60 "$program" call unix:line a --timeout 1 "${alpha[@]}") \
+    (cd "$work" && "${as_user[@]}" timeout 60 "$program" call unix:line a --timeout 1 --log Log "${alpha[@]}") \
         >"$work/printed" 2>"$work/said" </dev/null || true
     wait "$answerer" "$far" || true
     if [ "$(sed 's/ [0-9]* bytes/ N bytes/' "$work/said")" = "uucpair: $3" ]; then

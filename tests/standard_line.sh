@@ -171,10 +171,13 @@ unchanged() {
 
 # nobody_there KIND ROLE: the other side closes the line at once.
 nobody_there() {
+    local said="the caller hung up, and said nothing (it may expect another name than that of --me)"
+    [ "$2" = answer ] ||
+        said="the other end hung up, and said nothing (no uucico or uucpair answers there, or it turns this machine away)"
     near_words "$2"
     far=(true)
     join "$1" "near 1 far 0 stray 0 waits" && unchanged &&
-        same "$(word "$2") hungup pending 2 struck 0 failed 0"$'\n' "$scene/near.err"
+        same "uucpair: $said"$'\n'"$(word "$2") hungup pending 2 struck 0 failed 0"$'\n' "$scene/near.err"
 }
 
 # Where the line is the controlling terminal, its end is a signal.

@@ -209,7 +209,10 @@ fn fault_remark<R: Files + AllocGlobal>(
 
 /// Returns whether another run holds the line.
 fn is_held_line(failure: &SystemFailure) -> bool {
-    matches!((failure.resource, failure.cause), (Resource::Line, Cause::InUse))
+    matches!(
+        (failure.resource, failure.cause),
+        (Resource::Line, Cause::InUse)
+    )
 }
 
 /// Returns the observer of one end, with its log open if one is named.

@@ -1,12 +1,14 @@
 -- What to do about a call of the system that a known mistake makes fail (this project's profile).
-use Rattle.std.specs.Prelude.{◌==◌, ◌&&◌, ◌||◌, ℕ, Bool, not, List, [], ◌++◌, codes, eqb, length, nat_eq, nat_le, Some, None, if◌then◌else◌}
+use Rattle.std.specs.Prelude.{◌==◌, ◌&&◌, ◌||◌, ℕ, Bool, not, List, [], ◌++◌, codes, eqb, is_some, length, nat_eq, nat_le, Some, None, if◌then◌else◌}
 use Rattle.std.specs.List.{ends_with, list_any, starts_with}
 use Rattle.std.specs.Str.{bytes_eq}
+use Rattle.std.specs.declared.io.ErrorKind.{ErrorKind}
 use Rattle.std.specs.declared.io.ErrorKind.TheVariants as kinds
 use Rattle.uug_failure.specs.declared.failure.Cause.{Cause}
 use Rattle.uug_failure.specs.declared.failure.Cause.TheVariants.{Refused, NoTerminal}
 use Rattle.uug_failure.specs.declared.failure.Resource.{Resource}
 use Rattle.uug_failure.specs.declared.failure.Resource.TheVariants.{Dir, GotFolder, Line, Send}
+use Rattle.uug_reason.specs.KindWords.{kind_words}
 use Rattle.uug_scan.specs.Detailed.{escaped}
 
 -- A word begins as the name of a line does, unless that is the path of a device elsewhere.
@@ -71,9 +73,9 @@ host_hint line =
     if starts_with nat_eq line (codes "tcp:[") then codes " (an IPv6 address has no brackets: tcp:::1:540)" else
     (if starts_with nat_eq line (codes "tcp://") then codes " (give tcp:HOST:PORT, without slashes)" else [])
 
--- of a path that can't be opened, as that of a socket
-abbrev pub socket_hint : (line : List ℕ) → List ℕ
-socket_hint line = if names_line line then [] else codes " (for a socket give unix:PATH)"
+-- of a path that can't be opened for an error without a name, as that of a socket
+abbrev pub socket_hint : (line : List ℕ) → ErrorKind → List ℕ
+socket_hint line kind = if names_line line || is_some (kind_words kind) then [] else codes " (for a socket give unix:PATH)"
 
 -- of a line that is none
 abbrev pub line_hint : (line : List ℕ) → Cause → List ℕ
@@ -85,7 +87,7 @@ line_hint line (Refused kinds.ConnectionRefused number) = zero_hint line
 line_hint line (Refused kinds.PermissionDenied number) = right_hint line
 line_hint line (Refused kinds.AddrNotAvailable number) = codes " (no address of this machine; 0.0.0.0 is all of them)"
 line_hint line (Refused kind None) = host_hint line
-line_hint line (Refused kind (Some number)) = socket_hint line
+line_hint line (Refused kind (Some number)) = socket_hint line kind
 line_hint line _ = []
 
 abbrev pub hint_words : (line dir : List ℕ) → Resource → Cause → List ℕ

@@ -3,6 +3,7 @@ ghost use Rattle.std.specs.Prelude.{◌≡◌, ◌++◌, OnOk, string_bytes};
 ghost use Rattle.uug_reason.specs.ReasonHints.{absent_hint, are_exchanged, exchanged_hint, got_hint, guess_words, has_byte, hint_words, host_hint, is_bare, line_hint, long_hint, names_line, right_hint, send_hint, socket_hint, zero_hint};
 
 use crate::escape::add_escaped;
+use crate::kind::kind_words;
 use std::alloc::{AllocError, Allocator};
 use std::io::ErrorKind;
 use uug_failure::{Cause, Resource};
@@ -101,7 +102,7 @@ fn add_line_hint<A: Allocator>(
             text.push_str(" (no address of this machine; 0.0.0.0 is all of them)")
         }
         Cause::Refused(_, None) => text.push_str(host_hint(line)),
-        Cause::Refused(_, Some(_)) => text.push_str(socket_hint(line)),
+        Cause::Refused(kind, Some(_)) => text.push_str(socket_hint(line, kind)),
         _ => Ok(()),
     }
 }
@@ -159,11 +160,12 @@ fn right_hint(line: &str) -> &'static str
     }
 }
 
-/// Returns the hint about a path that can't be opened: of a socket, which is called otherwise.
-fn socket_hint(line: &str) -> &'static str
-    ensures { result.now ≡ socket_hint line.now }
+/// Returns the hint about a path that can't be opened for an error without a name: of a socket, which is called
+/// otherwise.
+fn socket_hint(line: &str, kind: ErrorKind) -> &'static str
+    ensures { result.now ≡ socket_hint line.now kind }
 {
-    if names_line(line.as_bytes()) {
+    if names_line(line.as_bytes()) || kind_words(kind).is_some() {
         ""
     } else {
         " (for a socket give unix:PATH)"

@@ -97,7 +97,9 @@ fn stop_of_system(
         return says_reason(locks_line(alloc, call.locks, failure));
     }
     let output = output_named(call, failure.end);
-    stop_of_cause(alloc, output, call.line, call.dir, call.locks, failure, remark)
+    stop_of_cause(
+        alloc, output, call.line, call.dir, call.locks, failure, remark,
+    )
 }
 
 /// Returns whether the system of one end refused to make a lock file.

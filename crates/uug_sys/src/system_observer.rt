@@ -144,13 +144,22 @@ impl<'a, R: Eprint + Clock, A: Allocator + Copy> SystemObserver<'a, R, A> {
     }
 
     /// Returns a line with what came after the greeting of a session that ended badly, if that says why, else an empty
-    /// one. If the other end has hung up, only a line of seven bits does.
+    /// one. If the other end has hung up, it says so only of a line of seven bits, or if packets came damaged.
     fn passed_remark(&self, has_given_up: bool) -> Result<String<A>, AllocError> {
-        let is_narrow = self.seen.passed.count > 0 && !self.seen.passed.has_high;
-        if has_given_up || is_narrow {
-            passed_remark(self.alloc, self.seen.passed)
+        let passed = self.seen.passed;
+        let is_narrow = passed.count > 0 && !passed.has_high;
+        if has_given_up || is_narrow || self.has_damaged() {
+            passed_remark(self.alloc, passed)
         } else {
             Ok(String::new(self.alloc))
+        }
+    }
+
+    /// Returns whether packets came damaged, as far as that is observed.
+    fn has_damaged(&self) -> bool {
+        match &self.observer {
+            Some(observer) => observer.counts(Way::In).damaged > 0,
+            None => false,
         }
     }
 

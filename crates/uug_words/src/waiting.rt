@@ -87,7 +87,10 @@ fn reach_words<A: Allocator>(alloc: A, host: &str, port: u16) -> Result<String<A
     ensures { IfOk result (λ words. string_bytes words ≡ reach_words host.now port) }
 {
     if port == 0 {
-        String::from_str(alloc, " (any free port, which no caller knows: give 1 to 65535)")
+        String::from_str(
+            alloc,
+            " (any free port, which no caller knows: give 1 to 65535)",
+        )
     } else if host.as_bytes() == b"127.0.0.1".as_slice() {
         format!(in alloc; " (this machine only; tcp:0.0.0.0:{port} for all)")
     } else {
