@@ -7,9 +7,9 @@ import time
 from disks import NOBODY
 from lines import Cable
 from resumes import cut, digest, held
-from suite import Ends, files_below, filler, report, said, scene, wait_until, write
+from suite import Ends, files_below, filler, masked, report, said, scene, text_of, wait_until, write
 
-EMPTY = '{"session":null,"pending":[],"held":[],"failed":[]}\n'
+EMPTY = '{"session":null,"log":[],"pending":[],"held":[],"failed":[]}\n'
 
 
 def status(one, *words, folder="alpha", front=()):
@@ -66,7 +66,7 @@ def job(kind, source, target, **more):
 def what_status_shows(one):
     """Each kind of line, in the order of `jobs`, of names, and of `failed`."""
     ends = Ends(one)
-    both(one, "an empty folder", ["0 pending, 0 held, 0 failed"], {"session": None, "pending": [], "held": [], "failed": []})
+    both(one, "an empty folder", ["0 pending, 0 held, 0 failed"], {"session": None, "log": [], "pending": [], "held": [], "failed": []})
     one.row("its JSON", status(one, "--json").out, EMPTY)
     ends.jobs("alpha", "# mine", "send x y me", "", "request q ~/r me", "send none n me", "send  ~/new ~/new me", "send old o me",
             "send again a me", 'send "b\\ c me', "send ../up u me", "send folder f me")
@@ -101,6 +101,7 @@ def what_status_shows(one):
     none = {"bytes": None, "age": None}
     parsed = {
         "session": None,
+        "log": [],
         "pending": [
             job("send", "x", "y", bytes=9000, age=7300), job("request", "q", "~/r", **none), job("send", "none", "n", **none),
             job("send", "~/new", "~/new", bytes=1, age=10), job("send", "old", "o", bytes=0, age=200_000),
@@ -250,7 +251,66 @@ def status_of_what_a_session_left(one):
     called.stop()
     mark = "session not over: its mark is there, AGE"
     one.row("after a kill", without_ages(status(one).out).splitlines()[1], mark)
-    one.row("and in JSON", without_ages(status(one, "--json").out).split(',"pending"')[0], '{"session":{"age":N}')
+    one.row("and in JSON", without_ages(status(one, "--json").out).split(',"log"')[0], '{"session":{"age":N}')
     caller, called = ends.talk(call=["--log", "alpha/log"])
     one.row("it comes", (caller.out, status(one).out, status(one, folder="beta").out),
             (report("caller", struck=1), "0 pending, 0 held, 0 failed\n", "0 pending, 0 held, 0 failed\n"))
+
+
+def shown_of(log, *lines):
+    """Returns what a status shows of these lines of a log, by their numbers, and the entries of its JSON."""
+    entries = []
+    for number in lines:
+        head, _, text = text_of(log).splitlines()[number].partition(") ")
+        _, system, _, date, at, _ = head.split(" ")
+        entries.append({"system": system, "date": date[1:], "time": at, "text": text})
+    return [f"session {e['system']} {e['date']} {e['time']}: {e['text']}" for e in entries], entries
+
+
+def log_rows(one, ends, what, *lines, end="alpha"):
+    """Adds rows for the last session in the log of an end: these lines of it are shown."""
+    log = ends.at(end, "log")
+    shown, entries = shown_of(log, *lines)
+    words = ("--log", f"{end}/log")
+    one.row(what, [line for line in status(one, *words, folder=end).out.splitlines() if line.startswith("session ")], shown)
+    one.row(f"{what}: JSON", json.loads(status(one, *words, "--json", folder=end).out)["log"], entries)
+
+
+@scene()
+def the_last_session_in_a_log(one):
+    """The other system, when the last session began, and how it ended: what the log says, at both ends."""
+    ends = Ends(one)
+    ends.give("alpha", x="x\n")
+    logs = {"call": ["--log", "alpha/log"], "answer": ["--log", "beta/log"]}
+    ends.jobs("alpha", "send x x me", "request none none me")
+    ends.talk(**logs)
+    one.row("a session that is done: the log", [line.split("(TIME) ")[1] for line in masked(ends.at("alpha", "log"))],
+            [f"Calling system beta (port {one.line})", "Sending x (2 bytes)", "ERROR: request none none: refused", "ERROR: 1 job was given up",
+            "Call complete (2 bytes)"])
+    log_rows(one, ends, "a session that is done", 0, 2, 3, 4)
+    log_rows(one, ends, "at the other end", 0, 2, 3, end="beta")
+    one.row("without a log", [line for line in status(one).out.splitlines() if line.startswith("session")], [])
+    called = ends.answer(one.line, *logs["answer"])
+    one.run(["call", one.line, "alpha", "--me", "other", "--peer", "beta", *logs["call"]])
+    called.stop()
+    log_rows(one, ends, "a stranger", 5, 6, 7)
+    write(ends.at("alpha", "log"), b"no line\nuucpair \xff - (d t 1) Calling system \xff \\\nuucpair b - (d t 1) ERROR: \xc3\xa9 \"q\"\n"
+            b"uucpair b - (d t 2) ERROR: another's\nuucpair b - (d t 1) Call complete x")
+    one.row("bytes that are no text", status(one, "--log", "alpha/log").out.splitlines()[1:-1],
+            ["session \\xff d t: Calling system \\xff \\x5c", 'session b d t: ERROR: \\xc3\\xa9 "q"', "session b d t: Call complete x"])
+    for what, text in (("an empty log", ""), ("a log without a start", "uucpair b - (d t 1) Call complete x\n")):
+        write(ends.at("alpha", "log"), text)
+        one.row(what, json.loads(status(one, "--json", "--log", "alpha/log").out)["log"], [])
+    with open(ends.at("alpha", "log"), "w") as file:
+        file.write("uucpair a - (d t 1) Calling system a\n")
+        file.seek(17_000_000)
+        file.write("\nuucpair b - (d t 1) Calling system b\n")
+    one.row("the end of a long log", status(one, "--log", "alpha/log").out.splitlines()[1:-1], ["session b d t: Calling system b"])
+
+
+@scene()
+def mistakes_about_a_log(one):
+    ends = Ends(one)
+    os.mkfifo(one.path("pipe"))
+    for log, why in (("none", "no such file or directory"), ("alpha", "not a regular file"), ("pipe", "not a regular file")):
+        one.row(log, status(one, "--log", log).all(), (3, "", said("device fault", f"can't read {log}", f"{log}: {why}")))

@@ -94,7 +94,7 @@ where
 /// Shows the status of a folder.
 fn do_status<R, O>(rt: &R, status: &StatusTask<'_>, output: &mut O) -> Outcome<u8, Global>
 where
-    R: Files + Clock + AllocGlobal + Clone + Drop,
+    R: Files<File = File> + Clock + AllocGlobal + Clone + Drop,
     O: Output,
     ensures status { IfOk result.answer (λ status. status ≡ 0) }
     ensures writes { OnOk result.answer

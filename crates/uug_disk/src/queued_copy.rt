@@ -41,16 +41,30 @@ pub(crate) fn read_copied<A: Allocator + Copy, R: Files>(
     ensures within { IfOk result (λ bytes. length bytes.items ≤ FILE_LIMIT_MAX) }
     ensures no_other { IfErr result IsCopyFault }
 {
-    let cause = match read_regular(alloc, rt, path) {
-        Ok(Some(bytes)) => return Ok(bytes),
-        Ok(None) => Cause::TooMuch,
-        Err(error) if error.kind() == ErrorKind::OutOfMemory => {
-            return Err(RunFault::Tool(ToolFault::Memory));
-        }
-        Err(error) if is_no_file(&error) => Cause::NotAFile,
-        Err(error) => Cause::of(&error),
-    };
-    Err(RunFault::Unread(SystemFailure::on(Resource::Input, cause)))
+    match read_regular(alloc, rt, path) {
+        Ok(Some(bytes)) => Ok(bytes),
+        Ok(None) => Err(unread_for(Cause::TooMuch)),
+        Err(error) => Err(unread(&error)),
+    }
+}
+
+/// Returns the fault that a file can't be read.
+pub(crate) fn unread(error: &io::Error) -> RunFault
+    ensures { IsCopyFault result }
+{
+    if error.kind() == ErrorKind::OutOfMemory {
+        RunFault::Tool(ToolFault::Memory)
+    } else if is_no_file(error) {
+        unread_for(Cause::NotAFile)
+    } else {
+        unread_for(Cause::of(error))
+    }
+}
+
+fn unread_for(cause: Cause) -> RunFault
+    ensures { IsCopyFault result }
+{
+    RunFault::Unread(SystemFailure::on(Resource::Input, cause))
 }
 
 /// Returns whether an error is not the system's, but says that there is no regular file.

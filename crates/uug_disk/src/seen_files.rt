@@ -1,15 +1,17 @@
 //! The files of an end's folder that somebody looks at while a session may run: nothing is locked or changed for it.
 ghost use Rattle.std.specs.Prelude.{◌≡◌, ◌≤◌, IfErr, IfOk, length};
 ghost use Rattle.uug_disk.specs.Seen.{held_by};
-ghost use Rattle.uug_failure.specs.Faults.{IsFolderFault};
+ghost use Rattle.uug_failure.specs.Faults.{IsCopyFault, IsFolderFault};
 ghost use Rattle.uug_folder.specs.PartialTexts.{partial_in};
 
 use crate::given_files::{source_of, source_path};
 use crate::partial_folder::{entries_in, is_partial};
+use crate::queued_copy::unread;
+use crate::send_folder::TEXT_MAX;
 use std::alloc::{AllocError, Allocator};
 use std::cmp::Ordering;
 use std::fs::{DirEntry, File, Metadata};
-use std::io::{ErrorKind, Read};
+use std::io::{ErrorKind, Read, Seek, SeekFrom};
 use std::rt::Files;
 use std::time::Clock;
 use std::{fs, io};
@@ -77,6 +79,37 @@ fn seen<R: Clock>(rt: &R, metadata: &Metadata) -> SeenFile {
 /// Returns the seconds since a file was written.
 fn age_of<R: Clock>(rt: &R, metadata: &Metadata) -> io::Result<u64> {
     Ok(metadata.modified()?.elapsed(rt)?.as_secs())
+}
+
+/// Returns the last bytes of the file at a path, at most `TEXT_MAX`. It must be a regular one.
+pub fn read_end<A: Allocator + Copy, R: Files<File = File>>(
+    alloc: A,
+    rt: &R,
+    path: &str,
+) -> Result<Vec<u8, A>, RunFault>
+    ensures { IfErr result IsCopyFault }
+{
+    match end_of(alloc, rt, path) {
+        Ok(end) => Ok(end),
+        Err(error) => Err(unread(&error)),
+    }
+}
+
+fn end_of<A: Allocator + Copy, R: Files<File = File>>(
+    alloc: A,
+    rt: &R,
+    path: &str,
+) -> io::Result<Vec<u8, A>> {
+    let found = fs::metadata(rt, path)?;
+    if !found.is_file() {
+        return Err(io::Error::from(ErrorKind::InvalidInput));
+    }
+    let mut file = File::open(rt, path)?;
+    let most = TEXT_MAX as u64;
+    file.seek(SeekFrom::Start(found.len().saturating_sub(most)))?;
+    let mut end = Vec::new(alloc);
+    file.take(most).read_to_end(&mut end)?;
+    Ok(end)
 }
 
 /// Returns the files that an end holds in the folder at `path`, by their names. What can't be read is not held. Without

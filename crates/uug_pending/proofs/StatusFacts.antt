@@ -1,11 +1,12 @@
 -- Statuses whose texts are known, so that a wrong definition does not check.
-use Rattle.std.proofs.Common.{◌≡◌, ◌++◌, [], ◌∷◌, codes, Some, None, refl}
+use Rattle.std.proofs.Common.{◌≡◌, ◌++◌, ℕ, List, [], ◌∷◌, codes, Some, None, refl}
 use Rattle.std.specs.Fmt.{digits}
 use Rattle.uug_conversation.specs.declared.job.Job.{Job}
 use Rattle.uug_conversation.specs.declared.job.Job.TheVariants.{Send, Request}
 use Rattle.uug_disk.specs.declared.seen_files.SeenFile.{SeenFile}
 use Rattle.uug_disk.specs.declared.seen_files.HeldFile.{HeldFile}
 use Rattle.uug_pending.specs.Failed.{failed_in}
+use Rattle.uug_pending.specs.LastSession.{entry_in, last_in, told_in}
 use Rattle.uug_pending.specs.StatusJson.{bytes_words, held_object, pending_items, status_json}
 use Rattle.uug_pending.specs.StatusText.{age_words, file_words, held_line, pending_line, session_words, span_words, status_text, why_words}
 use Rattle.uug_pending.specs.declared.pending_job.PendingJob.{PendingJob}
@@ -45,7 +46,7 @@ record AreLines : Type 0 where
   holds : held_line held ≡ ended (codes "held z: 23000 of 60000 bytes")
   mark : session_words (Some file) ≡ ended (codes "session not over: its mark is there, 2 h old")
   why : why_words (codes "no\\") ≡ codes ": no\\x5c"
-  nothing : status_text None [] [] [] ≡ ended (codes "0 pending, 0 held, 0 failed")
+  nothing : status_text None None [] [] [] ≡ ended (codes "0 pending, 0 held, 0 failed")
 
 lines : AreLines
 unfolding digits
@@ -56,7 +57,7 @@ record AreObjects : Type 0 where
   asks : pending_items (record { job = asked; file = None } ∷ [])
       ≡ codes "{\"kind\":\"request\",\"source\":\"q\",\"target\":\"r\",\"user\":\"u\",\"bytes\":null,\"age\":null}"
   text : bytes_words (codes "\"\\ a") ≡ codes "\\\"\\\\x5c a"
-  nothing : status_json None [] [] [] ≡ ended (codes "{\"session\":null,\"pending\":[],\"held\":[],\"failed\":[]}")
+  nothing : status_json None None [] [] [] ≡ ended (codes "{\"session\":null,\"log\":[],\"pending\":[],\"held\":[],\"failed\":[]}")
 
 objects : AreObjects
 unfolding digits
@@ -66,3 +67,29 @@ objects = record { holds = refl; asks = refl; text = refl; nothing = refl }
 failed : failed_in (ended (codes "send a b u") ++ (ended (codes "# no") ++ ended (codes "request q r u")))
     ≡ record { job = Send (codes "a") (codes "b") (codes "u") None; why = [] } ∷ record { job = asked; why = codes "no" } ∷ []
 failed = refl
+
+-- ---- the last session in a log
+
+abbrev start : List ℕ
+start = codes "uucpair - - (2026-11-30 01:02:03.45 12) Incoming call (login - port l)"
+
+abbrev over : List ℕ
+over = codes "uucpair b - (2026-11-30 01:02:04.00 12) Call complete (1 seconds)"
+
+record AreEntries : Type 0 where
+  begins : entry_in start ≡ Some (record {
+    system = codes "-";
+    date = codes "2026-11-30";
+    time = codes "01:02:03.45";
+    process = codes "12)";
+    text = codes "Incoming call (login - port l)";
+  })
+  short : entry_in (codes "uucpair b - (2026-11-30 01:02:04.00") ≡ None
+  no_date : entry_in (codes "a b c d e f g") ≡ None
+  ends : told_in (codes "12)") over ≡ entry_in over
+  another : told_in (codes "13)") over ≡ None
+  begun : told_in (codes "12)") start ≡ None
+  none : last_in (ended over) ≡ None
+
+entries : AreEntries
+entries = record { begins = refl; short = refl; no_date = refl; ends = refl; another = refl; begun = refl; none = refl }

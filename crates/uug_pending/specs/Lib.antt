@@ -1,5 +1,6 @@
 pub mod Cancelled
 pub mod Failed
+pub mod LastSession
 pub mod Rivals
 pub mod Status
 pub mod StatusJson

@@ -5,6 +5,7 @@ use Rattle.uug_conversation.specs.declared.job.Job.{Job}
 use Rattle.uug_conversation.specs.declared.job.Job.TheVariants.{Send, Request}
 use Rattle.uug_disk.specs.declared.seen_files.HeldFile.{HeldFile}
 use Rattle.uug_disk.specs.declared.seen_files.SeenFile.{SeenFile}
+use Rattle.uug_pending.specs.LastSession.{Entry, Last, told_in}
 use Rattle.uug_pending.specs.declared.failed_job.FailedJob.{FailedJob}
 use Rattle.uug_pending.specs.declared.pending_job.PendingJob.{PendingJob}
 use Rattle.uug_scan.specs.Detailed.{is_plain}
@@ -35,6 +36,25 @@ number_words None = codes "null"
 abbrev pub session_words : Option SeenFile → List ℕ
 session_words None = codes "null"
 session_words (Some mark) = codes "{\"age\":" ++ (number_words mark.age ++ codes "}")
+
+-- ---- the last session in the log
+
+abbrev pub entry_object : Entry → List ℕ
+entry_object e =
+    codes "{\"system\":" ++ (text_words e.system ++ (codes ",\"date\":" ++ (text_words e.date ++ (codes ",\"time\":"
+    ++ (text_words e.time ++ (codes ",\"text\":" ++ (text_words e.text ++ codes "}")))))))
+
+abbrev pub told_item : Option Entry → List ℕ
+told_item None = []
+told_item (Some e) = codes "," ++ entry_object e
+
+abbrev pub told_rest : (process : List ℕ) → List (List ℕ) → List ℕ
+told_rest process [] = []
+told_rest process (line ∷ more) = told_item (told_in process line) ++ told_rest process more
+
+abbrev pub last_items : Option Last → List ℕ
+last_items None = []
+last_items (Some l) = entry_object l.start ++ told_rest l.start.process l.behind
 
 -- ---- jobs
 
@@ -97,7 +117,8 @@ held_items (h ∷ more) = held_object h ++ held_rest more
 
 -- ---- all of it
 
-abbrev pub status_json : (session : Option SeenFile) → List PendingJob → List HeldFile → List FailedJob → List ℕ
-status_json session pending held failed =
-    codes "{\"session\":" ++ (session_words session ++ (codes ",\"pending\":[" ++ (pending_items pending ++ (codes "],\"held\":["
-    ++ (held_items held ++ (codes "],\"failed\":[" ++ (failed_items failed ++ ended (codes "]}"))))))))
+abbrev pub status_json : (session : Option SeenFile) → Option Last → List PendingJob → List HeldFile → List FailedJob → List ℕ
+status_json session last pending held failed =
+    codes "{\"session\":" ++ (session_words session ++ (codes ",\"log\":[" ++ (last_items last ++ (codes "],\"pending\":["
+    ++ (pending_items pending ++ (codes "],\"held\":[" ++ (held_items held ++ (codes "],\"failed\":["
+    ++ (failed_items failed ++ ended (codes "]}"))))))))))

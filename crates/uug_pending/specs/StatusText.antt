@@ -6,6 +6,7 @@ use Rattle.uug_conversation.specs.declared.job.Job.TheVariants.{Send, Request}
 use Rattle.uug_disk.specs.declared.seen_files.HeldFile.{HeldFile}
 use Rattle.uug_disk.specs.declared.seen_files.SeenFile.{SeenFile}
 use Rattle.uug_folder.specs.JobsText.{job_words}
+use Rattle.uug_pending.specs.LastSession.{Entry, Last, told_in}
 use Rattle.uug_pending.specs.declared.failed_job.FailedJob.{FailedJob}
 use Rattle.uug_pending.specs.declared.pending_job.PendingJob.{PendingJob}
 use Rattle.uug_scan.specs.Detailed.{escaped}
@@ -32,6 +33,24 @@ age_words (Some seconds) = codes ", " ++ (span_words seconds ++ codes " old")
 abbrev pub session_words : Option SeenFile → List ℕ
 session_words None = []
 session_words (Some mark) = codes "session not over: its mark is there" ++ ended (age_words mark.age)
+
+-- of the last session in the log: its start, and what the log says of its end
+abbrev pub entry_line : Entry → List ℕ
+entry_line e =
+    codes "session " ++ (escaped e.system ++ (codes " " ++ (escaped e.date ++ (codes " " ++ (escaped e.time ++ (codes ": "
+    ++ ended (escaped e.text)))))))
+
+abbrev pub told_line : Option Entry → List ℕ
+told_line None = []
+told_line (Some e) = entry_line e
+
+abbrev pub told_lines : (process : List ℕ) → List (List ℕ) → List ℕ
+told_lines process [] = []
+told_lines process (line ∷ more) = told_line (told_in process line) ++ told_lines process more
+
+abbrev pub last_lines : Option Last → List ℕ
+last_lines None = []
+last_lines (Some l) = entry_line l.start ++ told_lines l.start.process l.behind
 
 -- of the file that a job sends; one that requests a file has none here
 abbrev pub file_words : Job → Option SeenFile → List ℕ
@@ -66,7 +85,7 @@ abbrev pub failed_lines : List FailedJob → List ℕ
 failed_lines [] = []
 failed_lines (f ∷ more) = failed_line f ++ failed_lines more
 
-abbrev pub status_text : (session : Option SeenFile) → List PendingJob → List HeldFile → List FailedJob → List ℕ
-status_text session pending held failed =
+abbrev pub status_text : (session : Option SeenFile) → Option Last → List PendingJob → List HeldFile → List FailedJob → List ℕ
+status_text session last pending held failed =
     count_words (length pending) (length held) (length failed)
-    ++ (session_words session ++ (pending_lines pending ++ (held_lines held ++ failed_lines failed)))
+    ++ (session_words session ++ (last_lines last ++ (pending_lines pending ++ (held_lines held ++ failed_lines failed))))

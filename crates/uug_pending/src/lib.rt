@@ -5,6 +5,7 @@
 mod answer;
 mod cancel;
 mod failed_job;
+mod last_session;
 mod named_job;
 mod pending_job;
 mod status;
@@ -16,6 +17,7 @@ mod words;
 pub use answer::CancelOutcome;
 pub use cancel::{CancelFault, CancelTask, cancel_run};
 pub use failed_job::FailedJob;
+pub use last_session::{LastSession, LogEntry};
 pub use pending_job::PendingJob;
 pub use status::{StatusTask, status_run};
 pub use status_json::status_json;

@@ -1,17 +1,22 @@
 //! The status of an end's folder, which anybody may look at while a session runs over it.
 ghost use Rattle.std.specs.Prelude.{◌≡◌, IfErr, IfOk, OnOk, map, string_bytes};
-ghost use Rattle.uug_failure.specs.Faults.{IsFolderFault, IsQueueFault, IsReadingFault};
+ghost use Rattle.uug_failure.specs.Faults.{IsCopyFault, IsFolderFault, IsQueueFault, IsReadingFault};
+ghost use Rattle.std.specs.Option.{option_map};
+ghost use Rattle.uug_pending.specs.LastSession.{shown_last};
 ghost use Rattle.uug_pending.specs.Status.{IsStatus, WritesStatus, job_of, status_as};
 
 use crate::failed_job::{FailedJob, failed_jobs};
+use crate::last_session::{LastSession, last_session};
 use crate::pending_job::PendingJob;
 use crate::status_json::status_json;
 use crate::status_text::status_text;
 use std::alloc::{AllocError, Allocator};
+use std::fs::File;
 use std::rt::Files;
 use std::time::Clock;
 use uug_disk::{
-    HeldFile, SeenFile, jobs_at, jobs_in, read_text, see_dir, see_file, see_held, see_sent,
+    HeldFile, SeenFile, jobs_at, jobs_in, read_end, read_text, see_dir, see_file, see_held,
+    see_sent,
 };
 use uug_failure::{EndDir, EndText, RunFault};
 use uug_session::Job;
@@ -22,6 +27,8 @@ use uug_stream::{Output, write_all};
 pub struct StatusTask<'a> {
     /// The folder of the end.
     pub dir: &'a str,
+    /// The log of the end, if it is read.
+    pub log: Option<&'a str>,
     /// Set if it is printed as JSON.
     pub is_json: bool,
 }
@@ -37,7 +44,7 @@ impl<'a> StatusTask<'a> {
 }
 
 /// Prints the status of an end's folder: which jobs wait, what is held of files that were cut off, which jobs have failed
-/// and why, and whether a session is marked that is not over. Nothing is locked or changed.
+/// and why, whether a session is marked that is not over, and with a log the last one. Nothing is locked or changed.
 pub fn status_run<A, R, O>(
     alloc: A,
     rt: &R,
@@ -46,20 +53,42 @@ pub fn status_run<A, R, O>(
 ) -> Result<(), RunFault>
 where
     A: Allocator + Copy,
-    R: Files + Clock + Alloc + Clone + Drop,
+    R: Files<File = File> + Clock + Alloc + Clone + Drop,
     O: Output,
     ensures prints { OnOk result
         (WritesStatus task.now.is_json (O.written output.old) (O.written output.new)) }
     // A device fault always says which call it was.
     ensures no_other { IfErr result IsQueueFault }
 {
-    let text = status_at(alloc, rt, task.end_dir(), task.is_json)?;
+    let log = log_at(alloc, rt, task.log)?;
+    let last = last_session(log.as_slice());
+    let text = status_at(alloc, rt, task.end_dir(), task.is_json, &last)?;
     write_all(output, text.as_bytes())?;
     Ok(())
 }
 
+/// Returns the last bytes of the log at a path, or none if no log is read.
+fn log_at<A: Allocator + Copy, R: Files<File = File>>(
+    alloc: A,
+    rt: &R,
+    path: Option<&str>,
+) -> Result<Vec<u8, A>, RunFault>
+    ensures { IfErr result IsCopyFault }
+{
+    match path {
+        Some(path) => read_end(alloc, rt, path),
+        None => Ok(Vec::new(alloc)),
+    }
+}
+
 /// Returns the status of an end's folder, as JSON or in lines.
-fn status_at<A, R>(alloc: A, rt: &R, dir: EndDir<'_>, is_json: bool) -> Result<String<A>, RunFault>
+fn status_at<A, R>(
+    alloc: A,
+    rt: &R,
+    dir: EndDir<'_>,
+    is_json: bool,
+    last: &Option<LastSession<'_>>,
+) -> Result<String<A>, RunFault>
 where
     A: Allocator + Copy,
     R: Files + Clock + Alloc + Clone + Drop,
@@ -77,6 +106,7 @@ where
         alloc,
         is_json,
         &session,
+        last,
         pending.as_slice(),
         held.as_slice(),
         failed.as_slice(),
@@ -89,17 +119,18 @@ fn status_as<A: Allocator>(
     alloc: A,
     is_json: bool,
     session: &Option<SeenFile>,
+    last: &Option<LastSession<'_>>,
     pending: &[PendingJob],
     held: &[HeldFile],
     failed: &[FailedJob<'_>],
 ) -> Result<String<A>, AllocError>
     ensures { IfOk result (λ text. string_bytes text
-        ≡ status_as is_json session.now pending.now held.now failed.now) }
+        ≡ status_as is_json session.now (option_map shown_last last.now) pending.now held.now failed.now) }
 {
     if is_json {
-        status_json(alloc, session, pending, held, failed)
+        status_json(alloc, session, last, pending, held, failed)
     } else {
-        status_text(alloc, session, pending, held, failed)
+        status_text(alloc, session, last, pending, held, failed)
     }
 }
 

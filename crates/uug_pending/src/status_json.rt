@@ -1,31 +1,38 @@
 //! The status of an end's folder, as JSON.
 ghost use Rattle.std.specs.Prelude.{◌≡◌, ◌++◌, IfOk, OnOk, string_bytes};
-ghost use Rattle.uug_pending.specs.StatusJson.{age_of, byte_words, bytes_words, failed_items, failed_object, failed_rest, held_items, held_object, held_rest, job_members, members, number_words, pending_items, pending_object, pending_rest, session_words, size_of, status_json, text_words};
+ghost use Rattle.std.specs.Option.{option_map};
+ghost use Rattle.uug_pending.specs.LastSession.{shown_entry, shown_last, told_in};
+ghost use Rattle.uug_pending.specs.StatusJson.{age_of, byte_words, bytes_words, entry_object, failed_items, failed_object, failed_rest, held_items, held_object, held_rest, job_members, last_items, members, number_words, pending_items, pending_object, pending_rest, session_words, size_of, status_json, text_words, told_item, told_rest};
 ghost use Rattle.uug_scan.specs.Detailed.{is_plain};
+ghost use Rattle.uug_talk.specs.Lines.{lines};
 
 use crate::failed_job::FailedJob;
+use crate::last_session::{LastSession, LogEntry, told_in};
 use crate::pending_job::PendingJob;
 use std::alloc::{AllocError, Allocator};
 use uug_disk::{HeldFile, SeenFile};
 use uug_scan::add_byte;
 use uug_session::Job;
-use uug_talk::Name;
+use uug_talk::{Name, split_line};
 
 /// Returns the status of a folder as one object of JSON, in a line: what `status_text` says. A byte that is no printing
 /// character is `\xNN` in a string, as there.
 pub fn status_json<A: Allocator>(
     alloc: A,
     session: &Option<SeenFile>,
+    last: &Option<LastSession<'_>>,
     pending: &[PendingJob],
     held: &[HeldFile],
     failed: &[FailedJob<'_>],
 ) -> Result<String<A>, AllocError>
     ensures { IfOk result (λ text. string_bytes text
-        ≡ status_json session.now pending.now held.now failed.now) }
+        ≡ status_json session.now (option_map shown_last last.now) pending.now held.now failed.now) }
 {
     let mut text = String::from_str(alloc, "{\"session\":")?;
     add_session(&mut text, session)?;
-    text.push_str(",\"pending\":[")?;
+    text.push_str(",\"log\":[")?;
+    add_last(&mut text, last)?;
+    text.push_str("],\"pending\":[")?;
     add_pending(&mut text, pending)?;
     text.push_str("],\"held\":[")?;
     add_held(&mut text, held)?;
@@ -48,6 +55,72 @@ fn add_session<A: Allocator>(
     };
     text.push_str("{\"age\":")?;
     add_number(text, mark.age)?;
+    text.push_str("}")
+}
+
+/// Appends the entries of the last session in the log, if there is one.
+fn add_last<A: Allocator>(
+    text: &mut String<A>,
+    last: &Option<LastSession<'_>>,
+) -> Result<(), AllocError>
+    ensures { OnOk result (string_bytes text.new
+        ≡ string_bytes text.old ++ last_items (option_map shown_last last.now)) }
+{
+    let Some(last) = last else {
+        return Ok(());
+    };
+    add_entry(text, &last.start)?;
+    add_behind(text, last.start.process, last.behind)
+}
+
+/// Appends what these lines of a log say of the end of a session of this process.
+fn add_behind<A: Allocator>(
+    text: &mut String<A>,
+    process: &[u8],
+    log: &[u8],
+) -> Result<(), AllocError>
+    ensures { OnOk result (string_bytes text.new
+        ≡ string_bytes text.old ++ told_rest process.now (lines log.now)) }
+{
+    let mut rest = log;
+    while let Some((line, behind)) = split_line(rest) {
+        add_told(text, process, line)?;
+        rest = behind;
+    }
+    Ok(())
+}
+
+/// Appends what a line of a log says of the end of a session of this process.
+fn add_told<A: Allocator>(
+    text: &mut String<A>,
+    process: &[u8],
+    line: &[u8],
+) -> Result<(), AllocError>
+    ensures { OnOk result (string_bytes text.new
+        ≡ string_bytes text.old ++ told_item (told_in process.now line.now)) }
+{
+    match told_in(process, line) {
+        Some(entry) => {
+            text.push_str(",")?;
+            add_entry(text, &entry)
+        }
+        None => Ok(()),
+    }
+}
+
+/// Appends an entry of a log.
+fn add_entry<A: Allocator>(text: &mut String<A>, entry: &LogEntry<'_>) -> Result<(), AllocError>
+    ensures { OnOk result
+        (string_bytes text.new ≡ string_bytes text.old ++ entry_object (shown_entry entry.now)) }
+{
+    text.push_str("{\"system\":")?;
+    add_text(text, entry.system)?;
+    text.push_str(",\"date\":")?;
+    add_text(text, entry.date)?;
+    text.push_str(",\"time\":")?;
+    add_text(text, entry.time)?;
+    text.push_str(",\"text\":")?;
+    add_text(text, entry.text)?;
     text.push_str("}")
 }
 

@@ -1,16 +1,20 @@
 //! The status of an end's folder, in lines for a person.
 ghost use Rattle.std.specs.Prelude.{◌≡◌, ◌∷◌, [], ◌++◌, IfOk, OnOk, string_bytes};
+ghost use Rattle.std.specs.Option.{option_map};
 ghost use Rattle.uug_folder.specs.JobsText.{job_words};
-ghost use Rattle.uug_pending.specs.StatusText.{age_words, count_words, failed_line, failed_lines, file_words, held_line, held_lines, pending_line, pending_lines, session_words, span_words, status_text, why_words};
+ghost use Rattle.uug_pending.specs.LastSession.{shown_entry, shown_last, told_in};
+ghost use Rattle.uug_pending.specs.StatusText.{age_words, count_words, entry_line, failed_line, failed_lines, file_words, held_line, held_lines, last_lines, pending_line, pending_lines, session_words, span_words, status_text, told_line, told_lines, why_words};
+ghost use Rattle.uug_talk.specs.Lines.{lines};
 ghost use Rattle.uug_talk.specs.Words.{joined};
 
 use crate::failed_job::FailedJob;
+use crate::last_session::{LastSession, LogEntry, told_in};
 use crate::pending_job::PendingJob;
 use std::alloc::{AllocError, Allocator};
 use uug_disk::{HeldFile, SeenFile};
 use uug_reason::add_escaped;
 use uug_session::Job;
-use uug_talk::Name;
+use uug_talk::{Name, split_line};
 
 const MINUTE: u64 = 60;
 
@@ -19,20 +23,22 @@ const HOUR: u64 = 3_600;
 const DAY: u64 = 86_400;
 
 /// Returns the status of a folder, a line for each fact: how many jobs wait, files are held and jobs have failed; the age
-/// of the mark of a session that is not over; and each of them.
+/// of the mark of a session that is not over; the last session in the log; and each of them.
 pub fn status_text<A: Allocator>(
     alloc: A,
     session: &Option<SeenFile>,
+    last: &Option<LastSession<'_>>,
     pending: &[PendingJob],
     held: &[HeldFile],
     failed: &[FailedJob<'_>],
 ) -> Result<String<A>, AllocError>
     ensures { IfOk result (λ text. string_bytes text
-        ≡ status_text session.now pending.now held.now failed.now) }
+        ≡ status_text session.now (option_map shown_last last.now) pending.now held.now failed.now) }
 {
     let mut text = String::new(alloc);
     add_counts(&mut text, pending.len(), held.len(), failed.len())?;
     add_session(&mut text, session)?;
+    add_last(&mut text, last)?;
     add_pending_lines(&mut text, pending)?;
     add_held_lines(&mut text, held)?;
     add_failed_lines(&mut text, failed)?;
@@ -65,6 +71,69 @@ fn add_session<A: Allocator>(
     };
     text.push_str("session not over: its mark is there")?;
     add_age(text, mark.age)?;
+    text.push_str("\n")
+}
+
+/// Appends the lines of the last session in the log, if there is one: its start, and what is said of its end.
+fn add_last<A: Allocator>(
+    text: &mut String<A>,
+    last: &Option<LastSession<'_>>,
+) -> Result<(), AllocError>
+    ensures { OnOk result (string_bytes text.new
+        ≡ string_bytes text.old ++ last_lines (option_map shown_last last.now)) }
+{
+    let Some(last) = last else {
+        return Ok(());
+    };
+    add_entry(text, &last.start)?;
+    add_behind(text, last.start.process, last.behind)
+}
+
+/// Appends what these lines of a log say of the end of a session of this process.
+fn add_behind<A: Allocator>(
+    text: &mut String<A>,
+    process: &[u8],
+    log: &[u8],
+) -> Result<(), AllocError>
+    ensures { OnOk result (string_bytes text.new
+        ≡ string_bytes text.old ++ told_lines process.now (lines log.now)) }
+{
+    let mut rest = log;
+    while let Some((line, behind)) = split_line(rest) {
+        add_told(text, process, line)?;
+        rest = behind;
+    }
+    Ok(())
+}
+
+/// Appends what a line of a log says of the end of a session of this process.
+fn add_told<A: Allocator>(
+    text: &mut String<A>,
+    process: &[u8],
+    line: &[u8],
+) -> Result<(), AllocError>
+    ensures { OnOk result (string_bytes text.new
+        ≡ string_bytes text.old ++ told_line (told_in process.now line.now)) }
+{
+    match told_in(process, line) {
+        Some(entry) => add_entry(text, &entry),
+        None => Ok(()),
+    }
+}
+
+/// Appends the line of an entry of a log.
+fn add_entry<A: Allocator>(text: &mut String<A>, entry: &LogEntry<'_>) -> Result<(), AllocError>
+    ensures { OnOk result
+        (string_bytes text.new ≡ string_bytes text.old ++ entry_line (shown_entry entry.now)) }
+{
+    text.push_str("session ")?;
+    add_escaped(text, entry.system)?;
+    text.push_str(" ")?;
+    add_escaped(text, entry.date)?;
+    text.push_str(" ")?;
+    add_escaped(text, entry.time)?;
+    text.push_str(": ")?;
+    add_escaped(text, entry.text)?;
     text.push_str("\n")
 }
 

@@ -242,7 +242,7 @@ StopsAs (Pair pair) fault remark stop = StopsOnPair pair fault remark stop
 StopsAs (Call call) fault remark stop = StopsOnEnd call fault remark stop
 StopsAs (Queue queue) fault remark stop = StopsOnQueue queue.dir.now (word_or_empty queue.file) fault remark stop
 StopsAs (Cancel cancel) fault remark stop = StopsOnCancel cancel.dir.now fault remark stop
-StopsAs (Status status) fault remark stop = StopsOnQueue status.dir.now [] fault remark stop
+StopsAs (Status status) fault remark stop = StopsOnQueue status.dir.now (word_or_empty status.log) fault remark stop
 StopsAs task fault remark stop = stop ≡ Fault (fault_of_run fault)
 
 -- how the program ends after a task that answered this, with this remark

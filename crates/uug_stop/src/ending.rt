@@ -28,7 +28,7 @@ fn stop_of(alloc: Global, task: Task<'_>, fault: RunFault, remark: String) -> St
         Task::Call(call) => stop_of_end(alloc, &call, fault, remark),
         Task::Queue(queue) => stop_of_queue(alloc, queue.dir, queue.file, fault, remark),
         Task::Cancel(cancel) => stop_of_cancel(alloc, cancel.dir, fault, remark),
-        Task::Status(status) => stop_of_queue(alloc, status.dir, None, fault, remark),
+        Task::Status(status) => stop_of_queue(alloc, status.dir, status.log, fault, remark),
         _ => Stop::Fault(fault.answer()),
     }
 }

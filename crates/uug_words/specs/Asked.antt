@@ -197,6 +197,7 @@ pub record AsksToCancel (tool : Text) (entries : Entries) (task : CancelTask) : 
 -- whose status is shown, and how
 pub record IsStatusIn (entries : Entries) (task : StatusTask) : Type 0 where
   pub dir : task.dir.now ≡ text_in entries (codes "DIR")
+  pub log : IsWordIn entries (codes "log") task.log
   pub is_json : task.is_json ≡ is_given entries (codes "json")
 
 pub record AsksForStatus (tool : Text) (entries : Entries) (task : StatusTask) : Type 0 where

@@ -226,6 +226,7 @@ fn status_task<'a>(matches: &ArgMatches<'a>) -> StatusTask<'a>
 {
     StatusTask {
         dir: text(matches, "DIR"),
+        log: word(matches, "log"),
         is_json: is_given(matches, "json"),
     }
 }

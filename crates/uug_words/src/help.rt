@@ -150,6 +150,9 @@ pub const STATUS: &str =
                     how many there are of each
   session not over: its mark is there, AGE old
                     a session with a log runs, or was broken off
+  session SYSTEM DATE TIME: TEXT
+                    with --log: the start of the last session there, with its line, and
+                    what is said of its end
   pending JOB: N bytes, AGE old
                     a job that waits, with its file; or its file is missing
   held NAME: N of M bytes, AGE old
@@ -166,6 +169,8 @@ Example:
 prints
   1 pending, 0 held, 0 failed
   pending send x y me: 6 bytes, 0 s old";
+
+pub const LOG_OF: &str = "The log of the end, of which the last session is shown";
 
 pub const WHY: &str = "Says why it gave up, where it did";
 

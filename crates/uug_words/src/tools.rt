@@ -297,6 +297,7 @@ fn status_command<'a>(alloc: Global) -> Result<Command<'a>, AllocError>
         help::STATUS,
     )
     .arg(path(alloc, "DIR", "The folder of the end"))?
+    .arg(named(alloc, "log", "FILE", help::LOG_OF))?
     .arg(flag(alloc, "json", "Prints one object of JSON"))
 }
 

@@ -5,13 +5,16 @@ use crate::pairs::assertions::{assert_same, assert_same_at};
 use std::alloc::{AllocError, Allocator, Global};
 use std::process::Abort;
 use uug_disk::{HeldFile, SeenFile};
-use uug_pending::{FailedJob, PendingJob, status_json, status_text};
+use uug_pending::{FailedJob, LastSession, LogEntry, PendingJob, status_json, status_text};
 use uug_refusal::Refusing;
 use uug_session::Job;
 use uug_talk::Name;
 
 const LINES: &str = "3 pending, 1 held, 2 failed
 session not over: its mark is there, 2 h old
+session - 2026-11-30 01:02:03.45: Incoming call (login - port l)
+session b 2026-11-30 01:02:04.00: ERROR: hungup
+session b 2026-11-30 01:02:04.00: Call complete (1 seconds)
 pending send a\" a\" a\": 9000 bytes, 2 h old
 pending send a\" a\" a\": no file
 pending request a\" a\" a\"
@@ -20,7 +23,10 @@ failed request a\" a\" a\": \\xff \"
 failed send a\" a\" a\"
 ";
 
-const OBJECT: &str = "{\"session\":{\"age\":7300},\"pending\":[\
+const OBJECT: &str = "{\"session\":{\"age\":7300},\"log\":[\
+{\"system\":\"-\",\"date\":\"2026-11-30\",\"time\":\"01:02:03.45\",\"text\":\"Incoming call (login - port l)\"},\
+{\"system\":\"b\",\"date\":\"2026-11-30\",\"time\":\"01:02:04.00\",\"text\":\"ERROR: hungup\"},\
+{\"system\":\"b\",\"date\":\"2026-11-30\",\"time\":\"01:02:04.00\",\"text\":\"Call complete (1 seconds)\"}],\"pending\":[\
 {\"kind\":\"send\",\"source\":\"a\\\"\",\"target\":\"a\\\"\",\"user\":\"a\\\"\",\"bytes\":9000,\"age\":7300},\
 {\"kind\":\"send\",\"source\":\"a\\\"\",\"target\":\"a\\\"\",\"user\":\"a\\\"\",\"bytes\":null,\"age\":null},\
 {\"kind\":\"request\",\"source\":\"a\\\"\",\"target\":\"a\\\"\",\"user\":\"a\\\"\",\"bytes\":null,\"age\":null}],\
@@ -28,6 +34,25 @@ const OBJECT: &str = "{\"session\":{\"age\":7300},\"pending\":[\
 {\"kind\":\"request\",\"source\":\"a\\\"\",\"target\":\"a\\\"\",\"user\":\"a\\\"\",\"why\":\"\\\\xff \\\"\"},\
 {\"kind\":\"send\",\"source\":\"a\\\"\",\"target\":\"a\\\"\",\"user\":\"a\\\"\",\"why\":\"\"}]}
 ";
+
+/// The lines of a log behind the start of a session of the process 12: those of another one, and others, are skipped.
+const LOG: &[u8] = b"uucpair b - (2026-11-30 01:02:03.50 12) Receiving x (5 bytes)
+uucpair c - (2026-11-30 01:02:03.50 13) ERROR: gaveup
+no line of a log
+uucpair b - (2026-11-30 01:02:04.00 12) ERROR: hungup
+uucpair b - (2026-11-30 01:02:04.00 12) Call complete (1 seconds)
+";
+
+const LAST: LastSession<'static> = LastSession {
+    start: LogEntry {
+        system: b"-",
+        date: b"2026-11-30",
+        time: b"01:02:03.45",
+        process: b"12)",
+        text: b"Incoming call (login - port l)",
+    },
+    behind: LOG,
+};
 
 /// Returns the status of a folder with jobs of each kind, whose names are this one.
 fn shown<A: Allocator>(alloc: A, name: Name, is_json: bool) -> Result<String<A>, AllocError> {
@@ -60,9 +85,9 @@ fn shown<A: Allocator>(alloc: A, name: Name, is_json: bool) -> Result<String<A>,
         why,
     });
     if is_json {
-        status_json(alloc, &Some(file), &pending, &held, &failed)
+        status_json(alloc, &Some(file), &Some(LAST), &pending, &held, &failed)
     } else {
-        status_text(alloc, &Some(file), &pending, &held, &failed)
+        status_text(alloc, &Some(file), &Some(LAST), &pending, &held, &failed)
     }
 }
 
