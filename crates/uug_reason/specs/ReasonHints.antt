@@ -41,11 +41,13 @@ has_byte word byte = list_any (λ b. eqb b byte) word
 abbrev pub is_bare : (word : List ℕ) → Bool
 is_bare word = not (names_line word) && not (has_byte word 47)
 
--- the line that is probably meant by a bare word: a device, or a host and its port, between which a colon (58) stands
+-- the port of a host, between which a colon (58) stands
+abbrev pub port_guess : (line : List ℕ) → List ℕ
+port_guess line = if has_byte line 58 then codes ": give tcp:" ++ escaped line else []
+
+-- the line that is probably meant by a bare word: a device, or a port of a host
 abbrev pub guess_words : (line : List ℕ) → List ℕ
-guess_words line =
-    if starts_with nat_eq line (codes "tty") then codes ": give /dev/" ++ escaped line else
-    (if has_byte line 58 then codes ": give tcp:" ++ escaped line else [])
+guess_words line = if starts_with nat_eq line (codes "tty") then codes ": give /dev/" ++ escaped line else port_guess line
 
 -- of a line that is not there
 abbrev pub absent_hint : (line : List ℕ) → List ℕ

@@ -1,6 +1,7 @@
 //! Hints about what to do after a call of the system that a known mistake makes fail.
 ghost use Rattle.std.specs.Prelude.{◌≡◌, ◌++◌, OnOk, string_bytes};
-ghost use Rattle.uug_reason.specs.ReasonHints.{absent_hint, are_exchanged, exchanged_hint, got_hint, guess_words, has_byte, hint_words, host_hint, is_bare, line_hint, long_hint, names_line, right_hint, send_hint, socket_hint, zero_hint};
+ghost use Rattle.uug_reason.specs.ReasonHints.{absent_hint, are_exchanged, exchanged_hint, got_hint, guess_words, has_byte, hint_words};
+ghost use Rattle.uug_reason.specs.ReasonHints.{host_hint, is_bare, line_hint, long_hint, names_line, port_guess, right_hint, send_hint, socket_hint, zero_hint};
 
 use crate::escape::add_escaped;
 use crate::kind::kind_words;
@@ -128,7 +129,17 @@ fn add_guess<A: Allocator>(text: &mut String<A>, line: &str) -> Result<(), Alloc
     if line.as_bytes().starts_with(b"tty") {
         text.push_str(": give /dev/")?;
         add_escaped(text, line.as_bytes())
-    } else if has_byte(line.as_bytes(), b':') {
+    } else {
+        add_port_guess(text, line)
+    }
+}
+
+/// Appends the port of a host that is probably meant by a bare word, if there is a colon in it.
+fn add_port_guess<A: Allocator>(text: &mut String<A>, line: &str) -> Result<(), AllocError>
+    ensures { OnOk result
+        (string_bytes text.new ≡ string_bytes text.old ++ port_guess line.now) }
+{
+    if has_byte(line.as_bytes(), b':') {
         text.push_str(": give tcp:")?;
         add_escaped(text, line.as_bytes())
     } else {

@@ -1,6 +1,6 @@
 //! The words for the bytes that came after the greeting of a session that ended badly.
 ghost use Rattle.std.specs.Prelude.{◌≡◌, IfOk, string_bytes};
-ghost use Rattle.uug_reason.specs.PassedWords.{passed_remark};
+ghost use Rattle.uug_reason.specs.PassedWords.{bits_remark, bytes_line, flow_remark, lacks_flow, passed_remark};
 
 use std::alloc::{AllocError, Allocator};
 
@@ -23,21 +23,56 @@ pub struct Passed {
 pub fn passed_remark<A: Allocator>(alloc: A, passed: Passed) -> Result<String<A>, AllocError>
     ensures { IfOk result (λ remark. string_bytes remark ≡ passed_remark passed) }
 {
-    let count = passed.count;
-    if count == 0 {
+    if passed.count == 0 {
         String::from_str(
             alloc,
             "uucpair: nothing came after the greeting (the other end is gone, or the line drops bytes: stty raw pass8, at both ends)\n",
         )
-    } else if !passed.has_high {
-        format!(in alloc;
-            "uucpair: {count} bytes came after the greeting, all of seven bits (the line has to pass eight: stty raw pass8, at both ends)\n"
+    } else {
+        bits_remark(alloc, passed)
+    }
+}
+
+/// Returns that all bytes have seven bits, if they have.
+fn bits_remark<A: Allocator>(alloc: A, passed: Passed) -> Result<String<A>, AllocError>
+    ensures { IfOk result (λ remark. string_bytes remark ≡ bits_remark passed) }
+{
+    if passed.has_high {
+        flow_remark(alloc, passed)
+    } else {
+        bytes_line(
+            alloc,
+            passed.count,
+            "all of seven bits (the line has to pass eight: stty raw pass8, at both ends)",
         )
-    } else if !passed.has_flow && count >= FLOW_MIN {
-        format!(in alloc;
-            "uucpair: {count} bytes came after the greeting, none of them XON or XOFF (flow control may drop these: stty raw -ixon -ixoff, at both ends)\n"
+    }
+}
+
+/// Returns that no byte is XON or XOFF, if none is among so many that one probably is.
+fn flow_remark<A: Allocator>(alloc: A, passed: Passed) -> Result<String<A>, AllocError>
+    ensures { IfOk result (λ remark. string_bytes remark ≡ flow_remark passed) }
+{
+    if lacks_flow(passed) {
+        bytes_line(
+            alloc,
+            passed.count,
+            "none of them XON or XOFF (flow control may drop these: stty raw -ixon -ixoff, at both ends)",
         )
     } else {
         Ok(String::new(alloc))
     }
+}
+
+/// Returns whether no byte is XON or XOFF, among so many that one probably is.
+fn lacks_flow(passed: Passed) -> bool
+    ensures { result ≡ lacks_flow passed }
+{
+    !passed.has_flow && FLOW_MIN <= passed.count
+}
+
+/// Returns the line that so many bytes came, and this of them.
+fn bytes_line<A: Allocator>(alloc: A, count: u64, words: &str) -> Result<String<A>, AllocError>
+    ensures { IfOk result (λ line. string_bytes line ≡ bytes_line count words.now) }
+{
+    format!(in alloc; "uucpair: {count} bytes came after the greeting, {words}\n")
 }
