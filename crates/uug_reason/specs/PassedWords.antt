@@ -6,7 +6,7 @@ use Rattle.uug_reason.specs.declared.passed.Passed.{Passed}
 
 -- so many bytes, and this of them, as a line
 abbrev pub bytes_line : (count : ℕ) → (words : List ℕ) → List ℕ
-bytes_line count words = codes "uucpair: " ++ decimal count ++ codes " bytes came after the greeting, " ++ words ++ codes "\n"
+bytes_line count words = codes "uucpair: " ++ (decimal count ++ (codes " bytes came after the greeting, " ++ ended words))
 
 -- Among so many bytes one is probably XON or XOFF.
 abbrev pub lacks_flow : Passed → Bool

@@ -49,11 +49,14 @@ port_guess line = if has_byte line 58 then codes ": give tcp:" ++ escaped line e
 abbrev pub guess_words : (line : List ℕ) → List ℕ
 guess_words line = if starts_with nat_eq line (codes "tty") then codes ": give /dev/" ++ escaped line else port_guess line
 
+-- what a line may be, and what is probably meant by a bare word
+abbrev pub forms_words : (forms line : List ℕ) → List ℕ
+forms_words forms line = forms ++ (guess_words line ++ codes ")")
+
 -- of a line that is not there
 abbrev pub absent_hint : (line : List ℕ) → List ℕ
 absent_hint line =
-    if is_bare line
-    then codes " (LINE is a terminal device, tcp:HOST:PORT, unix:PATH or -" ++ (guess_words line ++ codes ")") else []
+    if is_bare line then forms_words (codes " (LINE is a terminal device, tcp:HOST:PORT, unix:PATH or -") line else []
 
 -- of a socket whose path is too long
 abbrev pub long_hint : (line : List ℕ) → List ℕ

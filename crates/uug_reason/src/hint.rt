@@ -1,6 +1,6 @@
 //! Hints about what to do after a call of the system that a known mistake makes fail.
 ghost use Rattle.std.specs.Prelude.{◌≡◌, ◌++◌, OnOk, string_bytes};
-ghost use Rattle.uug_reason.specs.ReasonHints.{absent_hint, are_exchanged, exchanged_hint, got_hint, guess_words, has_byte, hint_words};
+ghost use Rattle.uug_reason.specs.ReasonHints.{absent_hint, are_exchanged, exchanged_hint, forms_words, got_hint, guess_words, has_byte, hint_words};
 ghost use Rattle.uug_reason.specs.ReasonHints.{host_hint, is_bare, line_hint, long_hint, names_line, port_guess, right_hint, send_hint, socket_hint, zero_hint};
 
 use crate::escape::add_escaped;
@@ -113,10 +113,23 @@ fn add_absent_hint<A: Allocator>(text: &mut String<A>, line: &str) -> Result<(),
     ensures { OnOk result
         (string_bytes text.new ≡ string_bytes text.old ++ absent_hint line.now) }
 {
-    if !is_bare(line.as_bytes()) {
-        return Ok(());
+    if is_bare(line.as_bytes()) {
+        add_forms(
+            text,
+            " (LINE is a terminal device, tcp:HOST:PORT, unix:PATH or -",
+            line,
+        )
+    } else {
+        Ok(())
     }
-    text.push_str(" (LINE is a terminal device, tcp:HOST:PORT, unix:PATH or -")?;
+}
+
+/// Appends these words, which say what a line may be, and behind them what is probably meant by a bare word.
+fn add_forms<A: Allocator>(text: &mut String<A>, forms: &str, line: &str) -> Result<(), AllocError>
+    ensures { OnOk result
+        (string_bytes text.new ≡ string_bytes text.old ++ forms_words forms.now line.now) }
+{
+    text.push_str(forms)?;
     add_guess(text, line)?;
     text.push_str(")")
 }
