@@ -294,6 +294,9 @@ def scene_tcp_login(scene: Scene, caller: str, called: str) -> None:
     lets_in(scene.beta)
     with_login(scene, scene.serve(scene.beta, called, "-l", "-q"))
     scene.both_ways(f"tcp, {caller} calls {called}", caller)
+    named = scene.alpha.log().count("Calling system beta (port TCP)") == 1
+    scene.row(f"tcp, {caller} calls {called}: its log names the port", named)
+    scene.row(f"tcp, {caller} calls {called}: so do its statistics", "on port TCP" in text_of(scene.alpha.folder / "log/Stats"))
 
 
 def scene_terminal_login(scene: Scene, caller: str, called: str) -> None:
@@ -477,21 +480,20 @@ def scene_try_next(scene: Scene) -> None:
     )
 
 
-DAYS = ("Su", "Mo", "Tu", "We", "Th", "Fr", "Sa")
+TODAY = (time.localtime().tm_wday + 1) % 7
+# All days but yesterday, today and tomorrow, as midnight may come.
+DAYS_AWAY = ",".join(("Su", "Mo", "Tu", "We", "Th", "Fr", "Sa")[(TODAY + later) % 7] for later in (2, 3, 4, 5))
 
 
 def scene_times(scene: Scene) -> None:
     """`time` says when; -S does not change that, as at Taylor UUCP. Debian's uucico does the same in each row."""
     scene.beta.knows("alpha")
     command = " ".join(scene.beta.words("taylor", "-q"))
-    today = (time.localtime().tm_wday + 1) % 7
-    # all days but yesterday, today and tomorrow, as midnight may come
-    away = ",".join(DAYS[day] for day in range(7) if (day - today) % 7 in (2, 3, 4, 5))
     for line, calls in (
         ("time Never", False),
-        (f"time {away}", False),
+        (f"time {DAYS_AWAY}", False),
         ("time Any", True),
-        (f"time {away}\ntime Any", True),
+        (f"time {DAYS_AWAY}\ntime Any", True),
         ("timegrade C Any", True),
     ):
         scene.alpha.put("log/Log", "")
@@ -506,17 +508,137 @@ def scene_times(scene: Scene) -> None:
 
 
 def scene_grades(scene: Scene) -> None:
-    """Without a name a system is called only for a job of a grade that the time allows."""
+    """Without a name, or with -C, a system is called only for a job of a grade that the time allows. Debian's uucico does the same."""
     scene.beta.knows("alpha")
     scene.alpha.knows(
         "beta", "timegrade C Any", 'chat ""', "port type pipe", f"port command {' '.join(scene.beta.words('taylor', '-q'))}"
     )
     scene.alpha.mail("beta", "low", "-gN")
-    scene.row(
-        "a job of a low grade is no reason to call", scene.alpha.run("ours", "-q", "-r1") == 1 and scene.alpha.queued("beta") == 1
-    )
+    for who in ("taylor", "ours"):
+        scene.alpha.put("log/Log", "")
+        for words in (["-r1"], ["-C", "-s", "beta"]):
+            scene.row(f"a job of a low grade is no reason to call, {who}, {words}", scene.alpha.run(who, "-q", *words) == 0)
+        scene.row(f"there is no work, {who}", scene.alpha.log().count("No work") == 2 and scene.alpha.queued("beta") == 1)
     scene.alpha.mail("beta", "high", "-gA")
-    scene.row("one of a high grade is", scene.alpha.run("ours", "-q", "-r1", "-f") == 0 and scene.beta.mails() == ["high", "low"])
+    scene.row("one of a high grade is", scene.alpha.run("ours", "-q", "-r1", "-f") == 0 and scene.beta.mails() == ["high"])
+
+
+def scene_work_of_grades(scene: Scene, caller: str, called: str) -> None:
+    """Which jobs go in a call: those of the grades that the one end has at this time, or that the other asks for."""
+    command = " ".join(scene.beta.words(called, "-q"))
+    for at_alpha, at_beta, left in (
+        ("timegrade C Any", "", ("low", "")),
+        ("call-timegrade C Any", "", ("", "low")),
+        ("", "called-timegrade C Any", ("", "low")),
+        ("call-timegrade C Any", "called-timegrade N Any", ("", "")),
+        ("call-transfer false", "", ("high low", "")),
+        ("", "called-transfer false", ("", "high low")),
+        ("", "call-transfer false", ("", "")),
+    ):
+        for node in (scene.alpha, scene.beta):
+            shutil.rmtree(node.folder / "spool", ignore_errors=True)
+            (node.folder / "spool").mkdir()
+            shutil.chown(node.folder / "spool", "uucp", "uucp")
+            node.put("mails", "")
+            node.put("sys", "")
+        when = [] if at_alpha.startswith("timegrade") else ["time any"]
+        scene.alpha.knows("beta", *when, 'chat ""', "port type pipe", f"port command {command}", *([at_alpha] if at_alpha else []))
+        scene.beta.knows("alpha", *([at_beta] if at_beta else []))
+        for node, other in ((scene.alpha, "beta"), (scene.beta, "alpha")):
+            node.mail(other, "low", "-gN")
+            node.mail(other, "high", "-gA")
+        status = scene.alpha.run(caller, "-q", "-s", "beta")
+        wait_until(lambda: not scene.beta.locks(), 5)
+        came = tuple(" ".join(node.mails()) for node in (scene.beta, scene.alpha))
+        wanted = tuple({"": "high low", "low": "high", "high low": ""}[one] for one in left)
+        queued = (scene.alpha.queued("beta"), scene.beta.queued("alpha"))
+        name = f"{at_alpha!r}, {at_beta!r}, {caller} calls {called}"
+        scene.row(f"{name}: what came: {came}", status == 0 and came == wanted)
+        scene.row(f"{name}: the rest waits: {queued}", queued == tuple(len(one.split()) for one in left))
+
+
+def scene_requests(scene: Scene, who: str, role: str) -> None:
+    """`send-request`, `receive-request`: what the other system may ask for, and send; what is asked for here comes always."""
+    ours, other = (scene.alpha, scene.beta) if role == "calls" else (scene.beta, scene.alpha)
+    command = " ".join(scene.beta.words(who if role == "answers" else "taylor", "-q"))
+    for rule, gives, takes in (
+        ("", True, True),
+        ("send-request false", False, True),
+        ("receive-request false", True, False),
+        ("request false", False, False),
+    ):
+        rules = {ours.name: [rule] if rule else [], other.name: []}
+        scene.alpha.put("sys", "")
+        scene.beta.put("sys", "")
+        scene.alpha.knows("beta", "time any", 'chat ""', "port type pipe", f"port command {command}", *rules["alpha"])
+        scene.beta.knows("alpha", *rules["beta"])
+        for node in (ours, other):
+            shutil.rmtree(node.folder / "pub", ignore_errors=True)
+            (node.folder / "pub").mkdir()
+            (node.folder / "pub").chmod(0o777)
+            shutil.chown(node.folder / "pub", "uucp", "uucp")
+            for name in ("asked", "sent"):
+                (node.folder / "pub" / f"{name}-{node.name}").write_text("text\n")
+            there = scene.beta if node is scene.alpha else scene.alpha
+            asks, sends = (f"{there.name}!~/asked-{there.name}", "~/"), (f"{node.folder}/pub/sent-{node.name}", f"{there.name}!~/")
+            for words in (asks, sends):
+                as_uucp(["uucp", "-I", str(node.config), "-r", *words]).wait()
+        scene.alpha.run(who if role == "calls" else "taylor", "-q", "-S", "beta")
+        wait_until(lambda: not scene.beta.locks(), 5)
+        here, there = (sorted(path.name for path in (node.folder / "pub").iterdir()) for node in (ours, other))
+        name = f"{rule!r}, {who} {role}"
+        scene.row(f"{name}: given: {there}", (f"asked-{ours.name}" in there) is gives)
+        scene.row(f"{name}: taken: {here}", (f"sent-{other.name}" in here) is takes)
+        scene.row(f"{name}: what is asked for and sent here", f"asked-{other.name}" in here and f"sent-{ours.name}" in there)
+
+
+def scene_statuses(scene: Scene) -> None:
+    """After each call that fails, and after each that is not made, the status is that which Debian's uucico writes."""
+    greets = scene.folder / "greets"
+    greets.write_text("#!/bin/sh\nprintf '\\020Shere=beta\\0'; head -c 8 >/dev/null\n")
+    greets.chmod(0o755)
+    device = scene.modem("BUSY")
+    scene.alpha.put("dial", DIALER)
+    scene.alpha.put(
+        "port",
+        f"port held\ntype direct\ndevice {device}\nlockname LCK..held\nport modem\ntype modem\ndevice {device}\nspeed 9600\n"
+        "carrier false\nhardflow false\ndialer hayes\n",
+    )
+    scene.alpha.put("lock/LCK..held", f"{os.getpid():10d}\n")
+    refused = ("port type tcp", f"port service {free_port()}", "address 127.0.0.1")
+    far = int(time.time()) + 10**6
+    for what, lines, before, options in (
+        ("nobody listens", refused, "", ()),
+        ("the third time", refused, "2 2 1000 0", ()),
+        ("and a retry time", ("time any 45", *refused), "2 2 1000 0", ()),
+        ("a port in use", ("port held",), "", ()),
+        ("the third time, a port in use", ("port held",), "2 2 1000 0", ()),
+        ("a port in use, and a retry time", ("time any 45", "port held"), "2 2 1000 0", ()),
+        ("a port in use that -p names", ("port held",), "2 2 1000 0", ("-p", "held")),
+        ("a modem that says BUSY", ("port modem", "phone 5"), "3 1 1000 0", ()),
+        ("a chat that fails", ("port type pipe", "port command /bin/cat", "chat never", "chat-timeout 1"), "2 1 1000 0", ()),
+        ("the line ends in the greeting", ("port type pipe", f"port command {greets}"), "2 5 1000 0", ()),
+        ("a wrong time", (f"time {DAYS_AWAY}", *refused), "2 5 1000 600", ()),
+        ("too many retries", ("max-retries 3", *refused), f"2 3 {int(time.time()) - 60} 0", ()),
+        ("a day later", ("max-retries 3", *refused), "2 3 1000 0", ()),
+        ("its retry time", refused, f"2 1 {int(time.time()) - 60} 600", ()),
+        ("a time in the future", refused, f"2 1 {far} 600", ()),
+        ("success-wait", ("success-wait 600", *refused), f"0 0 {int(time.time()) - 60} 0", ()),
+    ):
+        statuses = {}
+        for who in ("taylor", "ours"):
+            scene.alpha.put("sys", "")
+            scene.alpha.knows("beta", *(["time any"] if not lines[0].startswith("time ") else []), 'chat ""', *lines)
+            (scene.alpha.folder / "spool/.Status").mkdir(exist_ok=True)
+            shutil.chown(scene.alpha.folder / "spool/.Status", "uucp", "uucp")
+            scene.alpha.put("spool/.Status/beta", f"{before} x beta\n" if before else "0 0 1000 0 x beta\n")
+            status = scene.alpha.run(who, "-q", *options, "-s", "beta")
+            fields = scene.alpha.status("beta")
+            # who called has the time of the call
+            statuses[who] = (status, *fields[:2], fields[3], fields[2] if int(fields[2]) != far and int(fields[2]) < 2000 else "")
+        # one that ends in its greeting is a call that failed here, there a handshake
+        first = 2 if "greeting" in what else 0
+        scene.row(f"{what}: {statuses}", statuses["ours"][first:] == statuses["taylor"][first:])
 
 
 def scene_retries(scene: Scene) -> None:
@@ -659,7 +781,7 @@ def scene_names(scene: Scene) -> None:
 
 
 def scene_only_one(scene: Scene) -> None:
-    """A login that only one system may use: another name is refused by the session itself."""
+    """A login that only one system may use: another name is refused."""
     lets_in(scene.beta)
     scene.beta.knows("gamma", "called-login Ugamma")
     port = scene.serve(scene.beta, "ours", "-l", "-q")
@@ -685,7 +807,7 @@ def scene_several(scene: Scene, caller: str) -> None:
 
 
 def scene_callback(scene: Scene) -> None:
-    """`callback true`: the caller hears RCB, and is called."""
+    """`callback true`: the caller hears RCB, and is called; until that is done an empty job waits."""
     scene.alpha.knows("beta", "time any", 'chat ""', "port type pipe", f"port command {' '.join(scene.beta.words('ours', '-q'))}")
     scene.beta.knows(
         "alpha",
@@ -699,6 +821,105 @@ def scene_callback(scene: Scene) -> None:
     scene.alpha.run("taylor", "-q", "-s", "beta")
     scene.row("callback: the call comes back", wait_until(lambda: "by-their-call" in scene.beta.mails(), 15))
     scene.row("callback: the log has it", "Will call back" in scene.beta.log() and "Incoming call" in scene.beta.log())
+    scene.row("callback: nothing waits for it", wait_until(lambda: scene.beta.queued("alpha") == 0, 5))
+    scene.beta.put("sys", text_of(scene.beta.folder / "sys").replace("port command", "port command /bin/false"))
+    scene.alpha.run("taylor", "-q", "-S", "beta")
+    scene.row(
+        "callback: where that fails it waits",
+        wait_until(lambda: scene.beta.status("alpha")[:1] not in ([], ["0"]), 15) and scene.beta.queued("alpha") == 1,
+    )
+
+
+def scene_called_back(scene: Scene, caller: str) -> None:
+    """Who hears RCB has called well, and waits for the call."""
+    scene.beta.knows("alpha", "callback true")
+    command = " ".join(scene.beta.words("taylor", "-q"))
+    scene.alpha.knows("beta", "time any", 'chat ""', "port type pipe", f"port command {command}")
+    scene.alpha.mail("beta", "waits")
+    status = scene.alpha.run(caller, "-q", "-s", "beta")
+    scene.row(f"RCB, {caller} calls: the call is done", status == 0 and scene.alpha.status("beta")[:2] == ["0", "0"])
+    scene.row(f"RCB, {caller} calls: the log has it", scene.alpha.log().count("Remote system will call back") == 1)
+    scene.row(f"RCB, {caller} calls: the job waits", scene.alpha.queued("beta") == 1)
+
+
+def scene_sequence(scene: Scene, caller: str, called: str) -> None:
+    """`sequence true` at both ends: each call has the next number, and one that has another is refused."""
+    scene.beta.knows("alpha", "sequence true")
+    command = " ".join(scene.beta.words(called, "-q"))
+    scene.alpha.knows("beta", "time any", 'chat ""', "port type pipe", f"port command {command}", "sequence true")
+    name = f"sequence, {caller} calls {called}"
+    for number in (1, 2):
+        scene.alpha.put("mails", "")
+        scene.beta.put("mails", "")
+        scene.both_ways(f"{name}, call {number}", caller)
+    files = [scene.alpha.folder / "spool/.Sequence/beta", scene.beta.folder / "spool/.Sequence/alpha"]
+    scene.row(f"{name}: both have the number", [text_of(one).strip() for one in files] == ["2", "2"])
+    files[1].write_text("7")
+    scene.alpha.mail("beta", "waits")
+    status = scene.alpha.run(caller, "-q", "-s", "beta")
+    scene.row(f"{name}: another number is refused", status == 1 and scene.alpha.queued("beta") == 1)
+    scene.row(f"{name}: the log has it", "Out of sequence call rejected" in scene.beta.log())
+    scene.row(f"{name}: each has the next", [text_of(one).strip() for one in files] == ["3", "8"])
+    scene.row(f"{name}: the called end has a call that failed", scene.beta.status("alpha")[:1] == ["5"])
+    scene.alpha.put("sys", text_of(scene.alpha.folder / "sys").replace("sequence true", ""))
+    scene.alpha.run(caller, "-q", "-S", "beta")
+    scene.row(f"{name}: none is refused, too", "No sequence number (call rejected)" in scene.beta.log())
+    files[0].write_text("8\n")
+    scene.alpha.put("sys", text_of(scene.alpha.folder / "sys") + "sequence true\n")
+    status = scene.alpha.run(caller, "-q", "-S", "beta")
+    scene.row(f"{name}: with the same number it goes on", status == 0 and "waits" in scene.beta.mails())
+
+
+def scene_called_chat(scene: Scene, caller: str, called: str) -> None:
+    """`called-chat` runs when the protocol is agreed on; where it fails the call does."""
+    told, program = scene.folder / "told", scene.folder / "program"
+    told.write_text("")
+    told.chmod(0o666)
+    program.write_text(f'#!/bin/sh\necho "$@" >>{told}\n')
+    program.chmod(0o755)
+    chat = ('called-chat "" ATS0=1\\r\\c', f"called-chat-program {program} \\Z")
+    scene.beta.knows("alpha", *chat)
+    command = " ".join(scene.beta.words(called, "-q"))
+    scene.alpha.knows("beta", "time any", 'chat ""', "port type pipe", f"port command {command}")
+    scene.both_ways(f"a called chat, {caller} calls {called}", caller)
+    scene.row(f"a called chat, {caller} calls {called}: its program ran", text_of(told).split() == ["alpha"])
+    scene.beta.put("sys", "")
+    scene.beta.knows("alpha", "called-chat never", "called-chat-timeout 1")
+    scene.alpha.mail("beta", "waits")
+    status = scene.alpha.run(caller, "-q", "-s", "beta")
+    scene.row(f"a called chat that fails, {caller} calls {called}", status == 1 and scene.alpha.queued("beta") == 1)
+    scene.row(f"its status, {caller} calls {called}", wait_until(lambda: scene.beta.status("alpha")[:1] == ["5"], 5))
+    scene.row(f"no lock is left, {caller} calls {called}", wait_until(lambda: not scene.beta.locks(), 5))
+
+
+def scene_alias(scene: Scene) -> None:
+    """A system that greets by an alias is the system; by another name it is not."""
+    scene.beta.knows("alpha")
+    command = " ".join(scene.beta.words("taylor", "-q"))
+    for who in ("taylor", "ours"):
+        for name, is_done in (("beta", True), ("other", False)):
+            scene.alpha.put("sys", "")
+            scene.alpha.knows("remote", f"alias {name}", "time any", 'chat ""', "port type pipe", f"port command {command}")
+            scene.alpha.mail("remote", f"{who}-{name}")
+            status = scene.alpha.run(who, "-q", "-S", "remote")
+            found = (status == 0, scene.alpha.queued("remote") == 0)
+            scene.row(f"beta, with the alias {name}, {who}", found == (is_done, is_done))
+    scene.row("what was sent came once", scene.beta.mails() == ["ours-beta", "taylor-beta", "taylor-other"])
+
+
+def scene_unknown(scene: Scene, called: str) -> None:
+    """`unknown` in the main file: a system that no other file has is let in by its login, and may do what stands there."""
+    rules = ("called-login Uanon", "commands rmail", f"command-path {scene.beta.folder}/bin")
+    scene.beta.put("config", text_of(scene.beta.config) + "".join(f"unknown {one}\n" for one in rules))
+    scene.beta.knows("gamma", "called-login Ugamma")
+    scene.beta.put("passwd", f"Uanon {SECRET}\nUgamma {SECRET}\n")
+    port = scene.serve(scene.beta, called, "-l", "-q")
+    scene.alpha.knows("beta", "time any", "port type tcp", f"port service {port}", "address 127.0.0.1", *CHATS)
+    scene.alpha.put("call", f"beta Uanon {SECRET}\n")
+    scene.both_ways(f"an unknown caller, {called} is called", "taylor")
+    for login, name, said in (("Ugamma", "zeta", "R"), ("Uanon", "gamma", "RLOGIN"), ("Ugamma", "gamma", "ROK")):
+        scene.row(f"{login} says {name}, {called}: {said}", f"\x10{said}".encode() in greet(port, name, login))
+        wait_until(lambda: not scene.beta.locks(), 5)
 
 
 def scene_secrets(scene: Scene) -> None:
@@ -808,9 +1029,6 @@ def scene_stops(scene: Scene) -> None:
     command = f"port command {' '.join(scene.beta.words('taylor', '-q'))}"
     for line, said in (
         ("protocol t", "the other end must offer g"),
-        ("sequence true", "sequence false"),
-        ("call-transfer no", "call-transfer true"),
-        ("send-request no", "remote-send"),
         ("remote-receive ~ !~/private", "remote-receive"),
         ("port seven-bit true", "eight"),
     ):
@@ -975,7 +1193,7 @@ def scene_hdb(scene: Scene, caller: str) -> None:
     node.put("Devices", f"TCP {port} - -\n")
     node.put(
         "Permissions",
-        f"MACHINE=beta REQUEST=yes COMMANDS={node.folder}/bin/rmail READ={node.folder}/pub WRITE={node.folder}/pub\n",
+        f"MACHINE=beta COMMANDS={node.folder}/bin/rmail READ={node.folder}/pub WRITE={node.folder}/pub\n",
     )
     call = [
         "unshare",
@@ -1270,6 +1488,12 @@ PARTS = {
     "waits_at_port": (("tcp",), ("direct",)),
     "hdb": (("ours",), ("taylor",)),
     "login_shell": (("pty",), ("socket",)),
+    "called_back": (("ours",), ("taylor",)),
+    "sequence": PEERS,
+    "called_chat": PEERS,
+    "work_of_grades": PEERS,
+    "requests": (("ours", "calls"), ("ours", "answers"), ("taylor", "calls"), ("taylor", "answers")),
+    "unknown": (("ours",), ("taylor",)),
 }
 
 

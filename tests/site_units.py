@@ -37,6 +37,8 @@ from uucp_site import (  # noqa: E402
     obstacles,
     options,
     program,
+    relay,
+    sequence,
     sessions,
     times,
 )
@@ -61,7 +63,7 @@ def fault_of(function: Callable[[], object]) -> str:
     """Returns what a function says that fails, or nothing."""
     try:
         function()
-    except (SiteError, chat.ChatFailed, logins.NoLogin, answers.NoGreeting) as fault:
+    except (SiteError, chat.ChatFailed, logins.NoLogin, relay.NoText) as fault:
         return str(fault)
     return ""
 
@@ -73,6 +75,10 @@ SYS = (
     ("time Never", lambda one: (one.spans, one.may_call), ([], False)),
     ("timegrade C any", lambda one: one.spans[0].grade, "C"),
     ("max-retries 3", lambda one: one.retries_max, 3),
+    ("max-retries 0", lambda one: one.retries_max, 0),
+    ("time Any", lambda one: one.retries_max, 26),
+    ("call-timegrade B Any", lambda one: [span.grade for span in one.accepts], ["B"]),
+    ("called-timegrade C Any", lambda one: [span.grade for span in one.sends], ["C"]),
     ("success-wait 9", lambda one: one.success_wait, 9),
     ("speed 300", lambda one: one.speed, 300),
     ("baud 1200", lambda one: one.speed, 1200),
@@ -236,9 +242,12 @@ def at(text: str) -> float:
 
 def rows_of_times(folder: Path) -> Iterator[Row]:
     for text, span in (
-        (" At any time may call if any work", times.Span(0, 10080)),
-        ("Sun from 00:00 to 16:55 may call if any work (retry 30)", times.Span(0, 1015, "z", 30)),
-        ("From Sat 10:00 to Sun 00:00 may call if work grade M or higher", times.Span(9240, 10080, "M")),
+        (" At any time may call if any work", ("may call if", times.Span(0, 10080))),
+        ("Sun from 00:00 to 16:55 may call if any work (retry 30)", ("may call if", times.Span(0, 1015, "z", 30))),
+        ("From Sat 10:00 to Sun 00:00 may call if work grade M or higher", ("may call if", times.Span(9240, 10080, "M"))),
+        ("At any time may accept work grade B or higher", ("may accept", times.Span(0, 10080, "B"))),
+        ("Mon from 00:00 to 01:00 will send work grade 0 or higher", ("will send", times.Span(1440, 1500, "0"))),
+        ("(At other times will send any work)", None),
         ("May retry the call up to 3 times", None),
     ):
         yield f"span of {text}", times.span_of(text.strip()), span
@@ -255,17 +264,20 @@ def rows_of_times(folder: Path) -> Iterator[Row]:
         ("Sun 23:30", True),
         ("Sun 00:00", True),
     ):
-        yield f"night rates at {text}", times.span_at(spans, at(text), "0") is not None, has
-    graded = [times.Span(0, 100, "C"), times.Span(0, 10080, "B", 4)]
-    for grade, expected in (("0", graded[0]), ("C", graded[0]), ("D", None), ("N", None), ("B", graded[0])):
-        yield f"grade {grade}", times.span_at(graded, at("Sun 00:10"), grade), expected
-    yield "grade C later", times.span_at(graded, at("Sun 03:10"), "C"), None
+        yield f"night rates at {text}", times.span_at(spans, at(text)) is not None, has
+    graded = site_of(folder, sys="system far\nport type stdin\ntimegrade C Su0000-0140\ntimegrade z Mo\n")
+    for text, grade in (("Sun 00:10", "C"), ("Sun 03:10", None), ("Mon 03:10", "z")):
+        span = times.span_at(graded.systems["far"].alternates[0].spans, at(text))
+        yield f"the grade at {text}", span.grade if span else None, grade
     for status, wait, why in (
         (times.Status(0, 0, 1000, 0), 0, None),
         (times.Status(0, 0, 1000, 0), 600, "Retry time not reached"),
         (times.Status(2, 1, 1000, 600), 0, "Retry time not reached"),
         (times.Status(2, 1, 300, 600), 0, None),
-        (times.Status(2, 26, 1000, 0), 0, "Too many retries"),
+        (times.Status(2, 26, 1000, 0), 0, "ERROR: Too many retries"),
+        # a clock that was wrong
+        (times.Status(2, 26, 5000, 600), 0, None),
+        (times.Status(0, 0, 5000, 0), 600, None),
         (times.Status(2, 26, 1000 - 86500, 0), 0, None),
     ):
         yield f"due after {status}, {wait}", times.why_not_due(status, 1000.0 + 5, 26, wait), why
@@ -275,6 +287,9 @@ def rows_of_times(folder: Path) -> Iterator[Row]:
     yield "with a retry time", times.after_failure(times.Status(2, 2, 1, 1), 2, 50, times.Span(0, 1, "z", 7)), times.Status(
         2, 3, 50, 420
     )
+    for tries, span, wait in ((2, times.Span(0, 1), 1200), (0, times.Span(0, 1), 0), (2, times.Span(0, 1, "z", 7), 420)):
+        busy = times.after_failure(times.Status(3, tries, 1, 1), 1, 50, span, counts=False)
+        yield f"a port in use after {tries}, {span.retry}", busy, times.Status(1, tries, 50, wait)
     times.write_status(folder, "far", times.Status(2, 3, 50, 420))
     yield "a status on the disk", (folder / ".Status/far").read_text(), "2 3 50 420 Dial failed far\n"
     yield "and read", times.read_status(folder, "far"), times.Status(2, 3, 50, 420)
@@ -515,6 +530,22 @@ def rows_of_logins(folder: Path) -> Iterator[Row]:
     site.systems["hdb"] = System("hdb", [], [Alternate(), Alternate(called_login="Uhdb")])
     for login in ("Uhdb", "Uother"):
         yield f"an alternate without a login, and {login}", "hdb" in logins.admitted(site, login), login == "Uhdb"
+    del site.systems["hdb"]
+    site.unknown = ["called-login Uanon", "pubdir /anonymous"]
+    for name, login, public in (
+        ("zeta", "Uanon", "/anonymous"),
+        ("zeta", "Ufar", None),
+        ("far", "Uanon", None),
+        ("distant", "Uanon", None),
+        ("../x", "Uanon", None),
+        (".x", "Uanon", None),
+        ("a#b", "Uanon", None),
+        ("a" * 65, "Uanon", None),
+    ):
+        found = logins.unknown_one(site, name, login)
+        yield f"an unknown {name[:9]} by {login}", found and (found.system, found.alternate.public), public and (name, public)
+    site.unknown = []
+    yield "none is let in", logins.unknown_one(site, "zeta", "Uanon"), None
     yield "an alias is the system", logins.admitted(site, "Ufar")["distant"].system, "far"
     yield "the local name", (logins.local_name(site, "Utwo"), logins.local_name(site, "Umany")), ("second", "here")
     for said, login, right in (
@@ -553,17 +584,17 @@ def rows_of_obstacles(folder: Path) -> Iterator[Row]:
         (["~", "!~/x"], True),
         (["/srv/pub/"], True),
     ):
-        yield f"public by {words}", obstacles.is_public(words, "/srv/pub"), allowed
+        yield f"public by {words}", sessions.is_public(words, "/srv/pub"), allowed
     good = dict(gives=["~"], takes=["~"], public="/srv/pub")
     for change, keywords in (
         ({}, []),
         ({"protocols": "t"}, ["protocol"]),
         ({"protocols": "tg"}, []),
-        ({"counts": True}, ["sequence"]),
-        ({"gives": []}, ["remote-send"]),
-        ({"takes": ["/x"]}, ["remote-receive"]),
+        ({"counts": True}, []),
+        ({"gives": []}, []),
+        ({"takes": ["/x"]}, []),
         ({"takes": ["~", "!~/x"]}, ["remote-receive"]),
-        ({"calls_send": False}, ["call-transfer"]),
+        ({"calls_send": False}, []),
         ({"chat": Chat([], "/x \\P")}, ["chat-program"]),
     ):
         yield f"a call with {change}", [
@@ -580,9 +611,9 @@ def rows_of_obstacles(folder: Path) -> Iterator[Row]:
         yield f"a call at {port.kind}", [one.keyword for one in obstacles.of_call(Alternate(**good), port)], keywords
     for change, keywords in (
         ({}, []),
-        ({"called_send": False}, ["called-transfer"]),
-        ({"calls_send": False}, []),
-        ({"called_chat": Chat(["x"])}, ["called-chat"]),
+        ({"called_send": False}, []),
+        ({"called_chat": Chat(["x"])}, []),
+        ({"called_chat": Chat([], "/x \\P")}, ["called-chat-program"]),
     ):
         yield f"an answer with {change}", [one.keyword for one in obstacles.of_answer(Alternate(**{**good, **change}))], keywords
 
@@ -602,7 +633,20 @@ def rows_of_sessions(folder: Path) -> Iterator[Row]:
     alternate = Alternate(parameters={"g": {"window": "1", "timeout": "1", "errors": "1"}})
     port = Port("p", parameters={"g": {"window": "2", "timeout": "2"}}, dialers=[Dialer("d", parameters={"g": {"window": "3"}})])
     yield "those of a dialer come first", sessions.parameters_of(alternate, port), {"window": "3", "timeout": "2", "errors": "1"}
-    words = sessions.words_of_session(Site(None, "me"), "call", "me", "far", "/p")
+    none = ["--grade=-"]
+    for grade, sends, words in (("z", True, []), ("C", True, ["--grade", "C"]), ("C", False, none), ("z", False, none)):
+        yield f"work of {grade}, {sends}", sessions.grade_words(grade, sends), words
+    for gives, takes, words in (
+        (["~"], ["/"], []),
+        ([], ["~"], ["--no-give"]),
+        (["/p"], ["/x"], ["--no-take"]),
+        (["/", "!~"], [], ["--no-give", "--no-take"]),
+    ):
+        one = Alternate(public="/p/", gives=gives, takes=takes)
+        yield f"folders {gives}, {takes}", sessions.folder_words(one, one.public), words
+    one = Alternate(public="/p", gives=["~"], takes=["~"])
+    words = sessions.words_of_session(Site(None, "me"), "call", "me", "far", one, lines.Line("port p", 0, 1, logged="ttyS0"))
+    yield "the name of the line", words[-2:], ["--port", "ttyS0"]
     yield "words of a session", words[1:9] + words[9:11], [
         "call",
         "-",
@@ -676,7 +720,7 @@ def rows_of_calls(folder: Path) -> Iterator[Row]:
         (folder / "far/C." / name).write_text("")
     jobs = calls.jobs_of(folder, "far")
     yield "jobs", sorted(path.name for path in jobs), ["C.", "C.ACBAQ", "C.NCBAQ"]
-    found = calls.secrets_of(Chat(["ogin:", "\\dUser\\c", "word:", "se\\scret", ">", "\\P", "x", "ok"]), {"P": b"p"})
+    found = chat.secrets_of(Chat(["ogin:", "\\dUser\\c", "word:", "se\\scret", ">", "\\P", "x", "ok"]), {"P": b"p"})
     yield "secrets of a chat", found, [b"p", b"User", b"se cret"]
     yield "the best grade", (calls.best_grade(jobs), calls.best_grade([])), ("A", None)
     yield "queued since", (calls.queued_since(jobs, time.time() + 60), calls.queued_since(jobs, time.time() - 60)), (False, True)
@@ -689,15 +733,71 @@ def rows_of_repeats(folder: Path) -> Iterator[Row]:
     (folder / "soon/C.").mkdir(parents=True)
     (folder / "soon/C./C.Nx").write_text("")
     os.utime(folder / "soon/C./C.Nx", (time.time() + 600,) * 2)
-    for wait, count in ((0, 5), (60, 1)):
+    for wait, grade, count in ((0, "z", 5), (60, "z", 1), (0, "N", 5), (0, "C", 1), (0, "", 1)):
         made = []
         caller = calls.Caller(
             Site(None, "me", spool=folder, runs_uuxqt=False),
             System("soon", [], [Alternate(success_wait=wait)]),
             options.Options(),
         )
-        caller.call_once = lambda grade, made=made: not made.append(grade)
-        yield f"calls with success-wait {wait}", (caller.call(), made), (True, ["N"] * count)
+        caller.grade, caller.call_once = grade, lambda made=made: not made.append(grade)
+        yield f"calls with success-wait {wait}, of grade {grade!r}", (caller.call(), len(made)), (True, count)
+
+
+def rows_of_sequence(folder: Path) -> Iterator[Row]:
+    path = folder / ".Sequence/far"
+    yield "numbers", [sequence.next_number(folder, "far") for _ in range(3)], [1, 2, 3]
+    yield "a number on the disk", (path.read_text(), path.stat().st_mode & 0o777), ("3\n", 0o600)
+    # as Taylor UUCP writes it
+    path.write_text("41")
+    yield "one of Taylor UUCP's", sequence.next_number(folder, "far"), 42
+    yield "no other file stays", [one.name for one in path.parent.iterdir()], ["far"]
+    path.write_text("x\n")
+    yield "one that can't be read", fault_of(
+        lambda: sequence.next_number(folder, "far")
+    ), f"{path}: is no number: write the same number to the files of both ends"
+    path.chmod(0o644)
+    yield "one that others may read", "others may read" in fault_of(lambda: sequence.next_number(folder, "far")), True
+
+
+def rows_of_relay(folder: Path) -> Iterator[Row]:
+    for said, texts in (
+        (b"\x10Sfar\0", [b"Sfar"]),
+        (b"noise\x10Sfar -R\n\x10Ug\0", [b"Sfar -R", b"Ug"]),
+        (bytes([0x10, *(one | 0x80 for one in b"Sfar"), 0]), [b"Sfar"]),
+        (b"\x10\0", [b""]),
+        (b"Sfar\0", []),
+    ):
+        reader = relay.Texts()
+        found = [reader.take(bytes([byte])) for byte in said]
+        yield f"texts in {said!r}", [text for text in found if text is not None], texts
+    for from_line, texts, passed, said in (
+        (True, (b"\r\n\x10Ug\0rest", b"\x10ROK\0"), True, (b"\x10ROK\0", b"\x10UG\0")),
+        (False, (b"\x10ROK\0", b"\x10Sme\0rest"), True, (b"\x10SME\0", b"\x10ROK\0")),
+        (True, (b"\x10U", b""), False, (b"", b"")),
+    ):
+        yield f"a text from the line {from_line}: {texts}", passed_text(from_line, *texts), (passed, *said)
+
+
+def passed_text(from_line: bool, at_line: bytes, at_session: bytes) -> tuple[bool, bytes, bytes]:
+    """Returns whether a text was passed of what both ends say, and what each end hears; the text is in capitals then."""
+    line_end, far = socket.socketpair()
+    ours, near = socket.socketpair()
+    with line_end, far, ours, near:
+        speaks, text = (far, at_line) if from_line else (near, at_session)
+        (near if from_line else far).sendall(at_session if from_line else at_line)
+        threading.Timer(0.05, lambda: (speaks.sendall(text), speaks.shutdown(socket.SHUT_WR))).start()
+        line = lines.Line("x", line_end.fileno(), line_end.fileno())
+        passed = relay.pass_text(line, ours, from_line, bytes.upper)
+        for one in (far, near):
+            one.settimeout(0.1)
+        heard = []
+        for one in (far, near):
+            try:
+                heard.append(one.recv(100))
+            except TimeoutError:
+                heard.append(b"")
+    return passed, heard[0], heard[1]
 
 
 def rows_of_windows(folder: Path) -> Iterator[Row]:
@@ -724,6 +824,53 @@ def rows_of_windows(folder: Path) -> Iterator[Row]:
         yield f"called at {text}", (status.code, said in (folder / "log").read_text()), (code, True)
         if text == "Sun 00:36":
             yield "tries, and the wait of `time`", (status.tries, status.wait, status.time), (2, 300, int(at(text)))
+    yield from rows_of_work(folder, site, alternate)
+
+
+def rows_of_work(folder: Path, site: Site, alternate: Alternate) -> Iterator[Row]:
+    """When a call is made for work alone, and what is written of one that is not made."""
+    (folder / "far/C.").mkdir(parents=True, exist_ok=True)
+    for path in (folder / "far/C.").iterdir():
+        path.unlink()
+    (folder / "far/C./C.NCBAQ").write_text("")
+    high = Alternate(**{**vars(alternate), "spans": [times.Span(0, 60, "C")]})
+    mute = Alternate(**{**vars(alternate), "calls_send": False})
+    none = Alternate(**{**vars(alternate), "spans": []})
+    for what, one, change, when, expected in (
+        ("-C with work", alternate, {"only_work": True}, "Sun 00:30", (False, times.NO_PORT, "No such file")),
+        ("-C with work of a low grade", high, {"only_work": True}, "Sun 00:30", (True, times.COMPLETE, "No work")),
+        ("-C where it may not send", mute, {"only_work": True}, "Sun 00:30", (True, times.COMPLETE, "No work")),
+        ("all, with work of a low grade", high, {"system": None}, "Sun 00:30", (True, times.COMPLETE, "No work")),
+        ("that is quiet", high, {"system": None, "is_quiet": True}, "Sun 00:30", (True, times.COMPLETE, "")),
+        ("one by its name", high, {}, "Sun 00:30", (False, times.NO_PORT, "No such file")),
+        ("a wrong time", high, {}, "Sun 02:30", (False, times.WRONG_TIME, "Wrong time to call")),
+        ("one that is quiet", high, {"is_quiet": True}, "Sun 02:30", (False, times.WRONG_TIME, "")),
+        ("never", none, {}, "Sun 00:30", (False, times.COMPLETE, "Wrong time to call")),
+    ):
+        (folder / "log").write_text("")
+        times.write_status(folder, "far", times.Status())
+        asked = options.Options(**{"system": "far", "is_master": True, **change})
+        done = calls.Caller(site, System("far", [], [one]), asked, lambda when=when: at(when), lambda _: None).call()
+        said = (folder / "log").read_text()
+        is_said = expected[2] in said if expected[2] else not said
+        yield f"{what} at {when}", (done, times.read_status(folder, "far").code, is_said or said), (*expected[:2], True)
+    named = [Alternate(port_name="one", may_call=True), Alternate(port_name="two", may_call=True), Alternate(may_call=True)]
+    for port, found in ((None, named), ("two", named[1:2]), ("three", named)):
+        caller = calls.Caller(site, System("far", [], named), options.Options(port=port))
+        yield f"the alternates for -p {port}", caller.usable() == found, True
+    yield from rows_of_locks(folder, site, alternate)
+
+
+def rows_of_locks(folder: Path, site: Site, alternate: Alternate) -> Iterator[Row]:
+    """A port that is in use is no failure of the other end."""
+    (folder / "LCK..held").write_text("         1\n")
+    busy = Alternate(**{**vars(alternate), "ports": [Port("held", "direct", "/none", lock="LCK..held")]})
+    for tries, wait in ((0, 300), (3, 300)):
+        times.write_status(folder, "far", times.Status(times.DIAL, tries, 1, 0))
+        asked = options.Options(system="far", is_master=True)
+        calls.Caller(site, System("far", [], [busy]), asked, lambda: at("Sun 00:30"), lambda _: None).call()
+        status = times.read_status(folder, "far")
+        yield f"a port in use after {tries} tries", (status.code, status.tries, status.wait), (times.NO_PORT, tries, wait)
 
 
 def rows_of_answers(folder: Path) -> Iterator[Row]:
@@ -750,25 +897,79 @@ def rows_of_answers(folder: Path) -> Iterator[Row]:
         )
     for said, why in (
         (b"", "the line ended in the greeting"),
-        (b"\x10" + b"x" * 300, "the caller's greeting is too long"),
+        (b"\x10" + b"x" * 300, "the greeting is too long"),
         (b"\x10X\0", "the caller's greeting can't be read"),
     ):
         peer = Peer((b"\0", said))
         peer.thread.join(0.01)
         threading.Timer(0.1, peer.theirs.shutdown, [socket.SHUT_WR]).start()
         yield f"a caller says {said[:4]!r}..", fault_of(
-            lambda: answers.Answer(site, peer.line, "Uother", options.Options()).hear()
+            lambda: answers.Answer(site, peer.line, "Uother", options.Options()).run()
         ), why
     yield "a program that there is not", fault_of(
         lambda: sessions.start_session(["/none"], 0, 1)
     ), "/none: No such file or directory: install uucpair"
     sessions.paths.UUCPAIR, kept = "/none", sessions.paths.UUCPAIR
-    peer = Peer()
+    peer = Peer((b"\0", b"\x10Sfar\0"))
     alone = site_of(folder, sys="system far\ncalled-login Ufar\n", config=f"logfile {folder}/log\nspool {folder}")
     said = answers.answer(alone, peer.line, options.Options(login="Ufar", no_uuxqt=True))
     sessions.paths.UUCPAIR = kept
-    yield "an answer without it", (said, "ERROR: /none: " in (folder / "log").read_text(), peer.end()), (False, True, b"")
+    log = (folder / "log").read_text()
+    yield "an answer without it", (said, "ERROR: /none: " in log, peer.end()), (False, True, b"\x10Shere=here\0")
+    yield from rows_of_numbers(folder)
     yield from rows_of_carry()
+
+
+def rows_of_numbers(folder: Path) -> Iterator[Row]:
+    """A caller of a system with `sequence` says the next number; one that calls back leaves a reason to."""
+    site = site_of(folder, sys="system far\nsequence true\nsystem near\n", config=f"logfile {folder}/log\nspool {folder}")
+    (folder / ".Sequence").mkdir()
+    for options_of_call, said, why, number in (
+        (b" -R -N07", "BADSEQ", "No sequence number (call rejected)", "4"),
+        (b" -Q4 -R", "BADSEQ", "Out of sequence call rejected", "5\n"),
+        (b" -Q5", "", "", "5\n"),
+        (b" -N07 -Q 05 -R", "", "", "5\n"),
+    ):
+        (folder / "log").write_text("")
+        (folder / ".Sequence/far").write_text("4")
+        (folder / ".Sequence/far").chmod(0o600)
+        called = answers.Answer(site, Peer().line, "Uany", options.Options())
+        refusal = called.refusal("far", called.admitted["far"], options_of_call)
+        log = (folder / "log").read_text()
+        yield f"a caller says {options_of_call!r}", (refusal, why in log and bool(log) is bool(why)), (said, True)
+        yield f"the number after {options_of_call!r}", (folder / ".Sequence/far").read_text(), number
+    yield "the status of one that is out of sequence", times.read_status(folder, "far").code, times.FAILED
+    for _ in range(2):
+        answers.leave_poll(folder, "far")
+    site.systems["near"].alternates[0].sends = []
+    for said, spans, sends, words in (
+        (b" -R -N07", [], True, []),
+        (b" -pC -vgrade=C -R", [], True, ["--grade", "C"]),
+        (b" -R -v grade=B", [], True, ["--grade", "B"]),
+        (b" -pC", [times.Span(0, times.WEEK, "A")], True, ["--grade", "A"]),
+        (b" -pC", [], False, ["--grade=-"]),
+    ):
+        one = Alternate(sends=spans, called_send=sends, public="/p", gives=["~"], takes=["~"])
+        found = answers.Answer(site, Peer().line, "Uany", options.Options()).words(logins.Admission("near", one), said)
+        yield f"the grade for who says {said!r}, {sends}", [word for word in found[found.index("--port") + 2 :]], words
+    for what, one, texts in (
+        ("a number", Alternate(counts=True), b"\x10Sme -Q1 -R\0"),
+        ("a grade", Alternate(accepts=[times.Span(0, times.WEEK, "C")]), b"\x10Sme -pC -vgrade=C -R\0"),
+    ):
+        yield f"who calls says {what}", greeting_of(site, one), texts
+    yield "a reason to call back", [path.name for path in calls.jobs_of(folder, "far")], ["C.0poll"]
+
+
+def greeting_of(site: Site, alternate: Alternate) -> bytes:
+    """Returns what a called system hears of a session that greets, and ends."""
+    program = Path(site.config).parent / "greets"
+    program.write_text("#!/bin/sh\nhead -c 12 >/dev/null\nprintf '\\020Sme -R\\0'\n")
+    program.chmod(0o755)
+    peer = Peer((b"\0", b""))
+    peer.theirs.sendall(b"\x10Shere=near\0")
+    caller = calls.Caller(site, System("near", [], [alternate]), options.Options())
+    caller.relay([str(program)], peer.line, alternate, caller.asked(alternate))
+    return peer.end()
 
 
 def rows_of_carry() -> Iterator[Row]:
@@ -799,7 +1000,7 @@ def rows_of_carry() -> Iterator[Row]:
     threads = [threading.Thread(target=caller), threading.Thread(target=called)]
     for thread in threads:
         thread.start()
-    answers.carry(lines.Line("x", line_end.fileno(), line_end.fileno()), session)
+    relay.carry(lines.Line("x", line_end.fileno(), line_end.fileno()), session)
     line_end.close()
     for thread in threads:
         thread.join(20)
@@ -809,7 +1010,7 @@ def rows_of_carry() -> Iterator[Row]:
     far.close()
     closer = threading.Thread(target=lambda: (near.recv(10), near.close()))
     closer.start()
-    answers.carry(lines.Line("x", line_end.fileno(), line_end.fileno()), session)
+    relay.carry(lines.Line("x", line_end.fileno(), line_end.fileno()), session)
     closer.join(10)
     yield "a caller that is gone ends the session", closer.is_alive(), False
 
@@ -826,7 +1027,8 @@ def rows_of_check(folder: Path) -> Iterator[Row]:
         ("port", "dial-device x", "honoured"),
         ("port", "push x", "stops the call"),
         ("dial", "carrier false", "honoured"),
-        ("config", "unknown time any", "ignored"),
+        ("config", "unknown called-login Uanon", "honoured"),
+        ("config", "unknown nonsense", "stops the call"),
         ("config", "spool /x", "honoured"),
         ("sys", "protocol-parameter g window 3", "honoured"),
         ("sys", "protocol-parameter g errors 3", "ignored"),
@@ -836,24 +1038,24 @@ def rows_of_check(folder: Path) -> Iterator[Row]:
         yield f"verdict of {kind} {text}", check.verdict_of(kind, text.split())[0], verdict
     site = site_of(
         folder,
-        sys="protocol t\nsystem far\ntime any\nport line\nsystem near\nport line\ntime any\nprotocol g\nrequest false\ncall-password secret\n",
+        sys="protocol t\nsystem far\ntime any\nport line\nsystem near\nport line\ntime any\nprotocol g\nremote-receive ~ !~/x\n"
+        "call-password secret\n",
         port="port line\ntype direct\nseven-bit true\n",
     )
     rows = [row for row in check.rows_of(site) if row.verdict == "stops the call"]
     (folder / "often").mkdir()
     often = site_of(
         folder / "often",
-        sys="sequence true\nsystem near\ntime any\nsystem far\nsequence false\nsequence true\nsystem last\nsequence true\n",
+        sys="protocol t\nsystem near\ntime any\nsystem far\nprotocol g\nprotocol t\nsystem last\nprotocol t\n",
     )
     yield "what stops calls, and where", [(row.where.rpartition("/")[2], row.text, row.note.split(":")[0]) for row in rows], [
         ("sys:1", "system far", "protocol"),
-        ("sys:9", "system near", "remote-send"),
         ("sys:9", "system near", "remote-receive"),
         ("port:3", "system far", "seven-bit"),
         ("port:3", "system near", "seven-bit"),
     ]
     yield "a keyword that is there often", [
-        check.place_of(often, name, obstacles.Obstacle("sequence", "", "")).rpartition("/")[2] for name in ("far", "near")
+        check.place_of(often, name, obstacles.Obstacle("protocol", "", "")).rpartition("/")[2] for name in ("far", "near")
     ], ["sys:6", "sys:1"]
     yield "no password in a table", [row.text for row in check.rows_of(site) if "password" in row.text], ["call-password ..."]
     yield "each keyword of `uuchk` has a verdict", sorted(
@@ -880,6 +1082,12 @@ def rows_of_journal(folder: Path) -> Iterator[Row]:
     journal.Journal(folder / "log").say("one")
     journal.Journal(folder / "log").say("two")
     yield "lines are appended", [line.split()[-1] for line in (folder / "log").read_text().splitlines()], ["one", "two"]
+    size = journal.Journal(folder / "log").size()
+    for system in ("far", "near"):
+        journal.Journal(folder / "log", system).say(f"of {system}")
+    said = journal.Journal(folder / "log", "near").since(size)
+    yield "what came since, of one system", ("of near" in said, "of far" in said, "two" in said), (True, False, False)
+    yield "of no log", (journal.Journal(folder / "none").size(), journal.Journal(folder / "none").since(0)), (0, "")
     (folder / "log").unlink()
     journal.Journal(folder / "log", "far").fail(SiteError("port x", "is gone", "look"))
     text = (folder / "log").read_text()
@@ -900,6 +1108,9 @@ def main() -> int:
             "rows_of_windows",
             "rows_of_repeats",
             "rows_of_carry",
+            "rows_of_numbers",
+            "rows_of_work",
+            "rows_of_locks",
         ):
             continue
         if sys.argv[1:] and name.removeprefix("rows_of_") not in sys.argv[1:]:

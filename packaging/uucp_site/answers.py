@@ -4,35 +4,31 @@ from __future__ import annotations
 import contextlib
 import os
 import re
-import select
 import socket
 import subprocess
 import sys
 import time
+from pathlib import Path
 
-from . import obstacles
+from . import obstacles, sequence, times
+from .chat import ChatFailed, Talk, secrets_of, values_of
 from .configuration import Port, Site, port_named
 from .faults import SiteError
 from .journal import Journal
 from .lines import Line, open_line, service_of, standard_line
-from .logins import Admission, NoLogin, admitted, local_name, log_in, own_login
+from .logins import Admission, NoLogin, admitted, local_name, log_in, own_login, unknown_one
 from .options import Options
-from .sessions import options_of, run_session, run_uuxqt, start_session, words_of_session
+from .relay import TEXT_MAX, NoText, carry, pass_text, read_text, relayed, spelled, to_session
+from .sessions import grade_words, options_of, run_uuxqt, words_of_session
 
-GREETING_MAX, GREETING_SECONDS = 256, 60
 GREETING = re.compile(rb"S([!-~]+)(| [ -~]*)")
-# Who has ended gets so long to have what it wrote read.
-END_SECONDS = 10
-PIECE = 8192
+NUMBER = re.compile(rb" -Q *(\d+)")
+GRADE = re.compile(rb" -(?:p *|v *grade=)([0-9A-Za-z])")
 # A line that ends at once is opened again after so long.
 REOPEN_SECONDS = 2
 # Who is to be called back has so long to let go of its lock, by which it would refuse the call.
 CALL_BACK_SECONDS = 2
 FOREVER = 365 * 24 * 60 * 60
-
-
-class NoGreeting(Exception):
-    """The caller said nothing that can be understood."""
 
 
 def answer_at(site: Site, options: Options) -> bool:
@@ -67,9 +63,9 @@ def answer_tcp(site: Site, port: Port, options: Options) -> bool:
             reap()
             with connection:
                 if not options.loops:
-                    return answer(site, Line("port TCP", connection.fileno(), connection.fileno()), options)
+                    return answer(site, Line("port TCP", connection.fileno(), connection.fileno(), logged="TCP"), options)
                 if os.fork() == 0:
-                    done = answer(site, Line("port TCP", connection.fileno(), connection.fileno()), options)
+                    done = answer(site, Line("port TCP", connection.fileno(), connection.fileno(), logged="TCP"), options)
                     os._exit(0 if done else 1)
 
 
@@ -85,10 +81,10 @@ def answer(site: Site, line: Line, options: Options) -> bool:
     journal = Journal(site.log)
     try:
         login = log_in(line, site, options.login) if options.asks else options.login or own_login()
-        journal.say(f"Incoming call (login {login} {line.name})")
+        journal.say(f"Incoming call (login {login} port {line.logged})")
         called = Answer(site, line, login, options)
         status = called.run()
-    except (NoLogin, NoGreeting, SiteError) as fault:
+    except (NoLogin, NoText, SiteError) as fault:
         journal.fail(fault)
         return False
     except OSError as fault:
@@ -97,19 +93,36 @@ def answer(site: Site, line: Line, options: Options) -> bool:
     if site.runs_uuxqt and not options.no_uuxqt:
         run_uuxqt(site, None)
     if called.calls_back:
-        line.hang_up()
-        time.sleep(CALL_BACK_SECONDS)
-        subprocess.Popen(
-            [sys.argv[0], *site.config_words(), "-r1", "-s", called.calls_back],
-            stdin=subprocess.DEVNULL,
-            stdout=subprocess.DEVNULL,
-            start_new_session=True,
-        )
+        call_back(site, line, called.calls_back)
     return status == 0
 
 
+def call_back(site: Site, line: Line, system: str) -> None:
+    """Has a system be called, at once, and as long as that fails by who calls where work waits: an empty job waits for it."""
+    times.write_status(site.spool, system, times.Status(times.COMPLETE, 0, int(time.time()), 0))
+    leave_poll(site.spool, system)
+    line.hang_up()
+    time.sleep(CALL_BACK_SECONDS)
+    subprocess.Popen(
+        [sys.argv[0], *site.config_words(), "-r1", "-S", system],
+        stdin=subprocess.DEVNULL,
+        stdout=subprocess.DEVNULL,
+        start_new_session=True,
+    )
+
+
+def leave_poll(spool: Path, system: str) -> None:
+    """Leaves a command file without a line, as Taylor UUCP does. A session removes it."""
+    path = spool / system / "C." / "C.0poll"
+    try:
+        path.parent.mkdir(mode=0o755, parents=True, exist_ok=True)
+        path.touch(mode=0o600)
+    except OSError as fault:
+        raise SiteError(str(path), fault.strerror or "can't be made", "let the user uucp write there") from fault
+
+
 class Answer:
-    """A call by a login. Where it is bound to one system the session has the line; else the caller's name is heard before."""
+    """A call by a login, whose caller says its name before the session begins."""
 
     def __init__(self, site: Site, line: Line, login: str, options: Options) -> None:
         self.site, self.line, self.login, self.options = site, line, login, options
@@ -117,33 +130,30 @@ class Answer:
         self.me = local_name(site, login)
         self.calls_back: str | None = None
 
+    def words(self, admission: Admission, options: bytes) -> list[str]:
+        """Returns the words of the session with a caller who says these options, by which it may ask for work of a grade."""
+        grade = (GRADE.findall(options) or [b"z"])[-1].decode()
+        one = admission.alternate
+        words = words_of_session(self.site, "answer", self.me, admission.system, one, self.line)
+        span = times.span_at(one.sends, time.time())
+        words += options_of(one, None, 0) + grade_words(span.grade if span else grade, one.called_send)
+        return [*words, *(["-v"] if self.options.debug else [])]
+
     def run(self) -> int:
-        systems = {one.system: one for one in self.admitted.values()}
-        if len(systems) == 1 and len(self.admitted) == 1:
-            only = next(iter(systems.values()))
-            if not only.alternate.callback and not list(obstacles.of_answer(only.alternate)):
-                return run_session(self.words(only), self.line.reads, self.line.writes)
-        return self.hear()
-
-    def words(self, admission: Admission) -> list[str]:
-        words = words_of_session(self.site, "answer", self.me, admission.system, admission.alternate.public)
-        return [*words, *options_of(admission.alternate, None, 0), *(["-v"] if self.options.debug else [])]
-
-    def hear(self) -> int:
         """Greets the caller, hears its name, and refuses it or begins the session."""
-        self.line.write(b"\x10Shere=%s\0" % self.me.encode())
-        greeting = GREETING.fullmatch(self.read_greeting())
+        self.line.write(spelled(b"Shere=%s" % self.me.encode()))
+        greeting = GREETING.fullmatch(read_text(self.line))
         if not greeting:
-            raise NoGreeting("the caller's greeting can't be read")
+            raise NoText("the caller's greeting can't be read")
         name = greeting[1].decode()
-        admission = self.admitted.get(name)
-        refusal = self.refusal(name, admission)
+        admission = self.admitted.get(name) or unknown_one(self.site, name, self.login)
+        refusal = self.refusal(name, admission, greeting[2])
         if refusal or admission is None:
-            self.line.write(b"\x10R%s\0" % refusal.encode())
+            self.line.write(spelled(b"R%s" % refusal.encode()))
             return 1
-        return self.relay(admission, b"\x10S%s%s\0" % (admission.system.encode(), greeting[2]))
+        return self.relay(admission, greeting[2])
 
-    def refusal(self, name: str, admission: Admission | None) -> str:
+    def refusal(self, name: str, admission: Admission | None, options: bytes) -> str:
         """Returns the text by which a caller is refused, and logs why; an empty one where it is not."""
         known = {one for system in self.site.systems.values() for one in (system.name, *system.aliases)}
         if admission is None:
@@ -160,88 +170,52 @@ class Answer:
         for obstacle in obstacles.of_answer(admission.alternate):
             journal.fail(obstacle)
             return "LOGIN"
+        if admission.alternate.counts and not self.is_in_sequence(admission.system, options, journal):
+            self.note_failure(admission.system)
+            return "BADSEQ"
         return ""
 
-    def read_greeting(self) -> bytes:
-        """Returns the caller's first text. What comes before its first byte, 020, is passed over."""
-        until, text = time.monotonic() + GREETING_SECONDS, b""
-        while len(text) <= GREETING_MAX:
-            left = until - time.monotonic()
-            if left <= 0 or not select.select([self.line.reads], [], [], left)[0]:
-                raise NoGreeting("the caller says nothing")
-            byte = os.read(self.line.reads, 1)
-            if not byte:
-                raise NoGreeting("the line ended in the greeting")
-            if text and byte in b"\0\n":
-                return bytes(one & 0x7F for one in text[1:])
-            if text or byte == b"\x10":
-                text += byte
-        raise NoGreeting("the caller's greeting is too long")
+    def is_in_sequence(self, system: str, options: bytes, journal: Journal) -> bool:
+        """Returns whether a caller says the number of this conversation, and logs it where it does not."""
+        said = NUMBER.search(options)
+        if said and int(said[1]) == sequence.next_number(self.site.spool, system):
+            return True
+        journal.fail("Out of sequence call rejected" if said else "No sequence number (call rejected)")
+        return False
 
-    def relay(self, admission: Admission, greeting: bytes) -> int:
-        """Runs a session that hears the greeting again, and carries its bytes and those of the line."""
-        ours, theirs = socket.socketpair()
-        with ours, start_session(self.words(admission), theirs.fileno(), theirs.fileno()) as session:
-            theirs.close()
-            try:
-                if skip_greeting(ours):
-                    ours.sendall(greeting)
-                    carry(self.line, ours)
-                ours.close()
-                return session.wait()
-            except BaseException:
-                session.terminate()
-                raise
+    def relay(self, admission: Admission, options: bytes) -> int:
+        """Runs a session that hears the greeting again."""
+        status: list[int] = []
+        try:
+            with relayed(self.words(admission, options), status) as session:
+                if skip_greeting(session):
+                    to_session(session, spelled(b"S%s%s" % (admission.system.encode(), options)))
+                    self.carry(admission, session)
+        except ChatFailed as fault:
+            self.note_failure(admission.system)
+            raise SiteError(self.line.name, f"called chat script failed: {fault}") from fault
+        return status[0]
+
+    def carry(self, admission: Admission, session: socket.socket) -> None:
+        """Carries the bytes of a session and of the line. The chat for who is called runs when the protocol is agreed on."""
+        chat = admission.alternate.called_chat
+        values = {"Z": admission.system.encode(), **values_of(admission.alternate)}
+
+        def talk(text: bytes) -> bytes:
+            Talk(self.line, values, secrets_of(chat, values)).run(chat)
+            return text
+
+        if not chat or pass_text(self.line, session, True, talk):
+            carry(self.line, session)
+
+    def note_failure(self, system: str) -> None:
+        times.write_status(self.site.spool, system, times.Status(times.FAILED, 0, int(time.time()), 0))
 
 
 def skip_greeting(session: socket.socket) -> bool:
     """Takes the session's own greeting, which the caller has heard. Returns whether it came."""
-    for _ in range(GREETING_MAX):
+    for _ in range(TEXT_MAX):
         byte = session.recv(1)
         if byte in (b"\0", b""):
             return byte == b"\0"
     return False
-
-
-def carry(line: Line, session: socket.socket) -> None:
-    """Carries bytes both ways until the session has ended, and all of its bytes are written."""
-    to_line, to_session = b"", b""
-    hears, session_lives, is_shut, ended = True, True, False, 0.0
-    session.setblocking(False)
-    while session_lives or to_line:
-        if not session_lives and time.monotonic() > ended:
-            return
-        reads = [line.reads] * (hears and session_lives and len(to_session) < PIECE) + [session] * (
-            session_lives and len(to_line) < PIECE
-        )
-        writes = [line.writes] * bool(to_line) + [session] * bool(to_session and session_lives)
-        ready, free, _ = select.select(reads, writes, [], END_SECONDS)
-        if line.reads in ready:
-            piece = read_piece(line.reads)
-            to_session += piece
-            hears = bool(piece)
-        if session in ready:
-            piece = read_piece(session.fileno())
-            to_line += piece
-            session_lives = bool(piece)
-            ended = time.monotonic() + END_SECONDS
-        if line.writes in free:
-            try:
-                # one that takes few bytes at a time holds nobody
-                to_line = to_line[os.write(line.writes, to_line[:512]) :]
-            except OSError:
-                return
-        if session in free and to_session:
-            with contextlib.suppress(OSError):
-                to_session = to_session[session.send(to_session) :]
-        if not hears and not to_session and not is_shut:
-            is_shut = True
-            with contextlib.suppress(OSError):
-                session.shutdown(socket.SHUT_WR)
-
-
-def read_piece(file: int) -> bytes:
-    try:
-        return os.read(file, PIECE)
-    except OSError:
-        return b""

@@ -11,7 +11,7 @@ from collections.abc import Callable, Iterator
 import pexpect
 from pexpect import fdpexpect
 
-from .configuration import Chat
+from .configuration import Alternate, Chat
 from .faults import SiteError
 from .lines import Line
 
@@ -91,6 +91,18 @@ def actions(text: str, values: dict[str, bytes]) -> Iterator[Action]:
             yield "write", part
     if returns:
         yield "write", b"\r"
+
+
+def values_of(alternate: Alternate) -> dict[str, bytes]:
+    """Returns the escapes of a login: its name and its password, where the configuration has them."""
+    found = {"L": alternate.login, "P": alternate.password}
+    return {letter: unescaped(text) for letter, text in found.items() if text is not None}
+
+
+def secrets_of(chat: Chat, values: dict[str, bytes]) -> list[bytes]:
+    """Returns what no log may have of a login chat: the password, and what is sent, as a password may be written there."""
+    sent = [re.sub(r"\\[cdpeEMmKLPZ]", "", text) for text in chat.script[1::2]]
+    return [values.get("P", b""), *(unescaped(text) for text in sent if len(text) > 2 and text != '""')]
 
 
 class Talk:

@@ -15,7 +15,8 @@ UUXQT = "uuxqt does it"
 KEYWORDS = {
     "sys": {
         **dict.fromkeys(
-            "system alternate default-alternates alias myname time max-retries success-wait speed baud port phone address "
+            "system alternate default-alternates alias myname time timegrade call-timegrade called-timegrade max-retries "
+            "success-wait speed baud port phone address "
             "chat chat-timeout chat-fail chat-seven-bit chat-program call-login call-password called-login callback "
             "protocol pubdir sequence called-chat called-chat-timeout called-chat-fail called-chat-seven-bit "
             "called-chat-program".split(),
@@ -24,18 +25,16 @@ KEYWORDS = {
         **dict.fromkeys("commands command-path forward forward-to forward-from".split(), (HONOURED, UUXQT)),
         **dict.fromkeys("request send-request receive-request transfer call-transfer called-transfer".split(), (HONOURED, "")),
         **dict.fromkeys("debug max-remote-debug".split(), (IGNORED, "-x has uucpair say more")),
-        **dict.fromkeys("call-timegrade called-timegrade".split(), (IGNORED, "a call moves the jobs of all grades")),
         **dict.fromkeys(
             "call-local-size call-remote-size called-local-size called-remote-size".split(),
-            (IGNORED, "files of up to 1 MiB go at any time"),
+            (IGNORED, "files of all sizes go at any time"),
         ),
-        "timegrade": (HONOURED, "it says when to call; the call then moves the jobs of all grades"),
         "free-space": (IGNORED, "a full disk ends the session, and no job is lost"),
         "max-file-time": (IGNORED, "g sends one file at a time"),
         "local-send": (HONOURED, "uucp does it"),
         "local-receive": (IGNORED, "what is asked for goes to the public folder"),
-        "remote-send": (HONOURED, "of these the public folder; what is elsewhere is refused"),
-        "remote-receive": (HONOURED, "of these the public folder; what is for elsewhere is refused"),
+        "remote-send": (HONOURED, "of these the public folder; what is elsewhere is refused: `pubdir` names another"),
+        "remote-receive": (HONOURED, "of these the public folder; what is for elsewhere is refused: `pubdir` names another"),
     },
     "port": {
         **dict.fromkeys(
@@ -63,19 +62,12 @@ KEYWORDS = {
         ),
         "max-uuxqts": (HONOURED, UUXQT),
         "run-uuxqt": (HONOURED, "uuxqt runs after each call, unless this is `never`"),
-        "unknown": (IGNORED, "a system that is not in the sys file is refused"),
+        "unknown": (HONOURED, ""),
         "strip-proto": (IGNORED, "greetings are stripped"),
         "debug": (IGNORED, "-x has uucpair say more"),
     },
 }
 OPENERS = {"sys": "system", "port": "port"}
-# Other keywords that set the same.
-SHORTER = {
-    "remote-send": ("send-request", "request"),
-    "remote-receive": ("receive-request", "request"),
-    "call-transfer": ("transfer",),
-    "called-transfer": ("transfer",),
-}
 PARAMETERS = {"window": HONOURED, "packet-size": HONOURED, "timeout": HONOURED}
 
 
@@ -100,8 +92,8 @@ def verdict_of(kind: str, words: list[str]) -> tuple[str, str]:
         return verdict_of("port", words[1:])
     if kind == "port" and keyword == "dialer" and len(words) > 2:
         return verdict_of("dial", words[1:])
-    if kind == "config" and keyword == "unknown" and len(words) > 2:
-        return KEYWORDS[kind][keyword]
+    if kind == "config" and keyword == "unknown" and len(words) > 1:
+        return verdict_of("sys", words[1:])
     return KEYWORDS[kind].get(keyword, (STOPS, "this keyword is not known: correct it"))
 
 
@@ -124,7 +116,7 @@ def places(site: Site, kind: str, keywords: tuple[str, ...]) -> Iterator[tuple[s
 
 def place_of(site: Site, system: str, obstacle: obstacles.Obstacle) -> str:
     """Returns the file and line that have an obstacle: of the system itself, of what holds for all, or of its port."""
-    keywords = (obstacle.keyword, *SHORTER.get(obstacle.keyword, ()))
+    keywords = (obstacle.keyword,)
     found = list(places(site, "sys", keywords))
     for owner in (system, None):
         for there, place in reversed(found):

@@ -23,6 +23,9 @@ class Chat:
     fail: list[str] = field(default_factory=list)
     strips: bool = False
 
+    def __bool__(self) -> bool:
+        return bool(self.script or self.program)
+
 
 @dataclass
 class Dialer:
@@ -77,8 +80,11 @@ class Alternate:
     called_chat: Chat = field(default_factory=Chat)
     login: str | None = field(default=None, repr=False)
     password: str | None = field(default=None, repr=False)
+    # When it may be called, of which grades work is taken from it then, and given to it where it calls.
     spans: list[Span] = field(default_factory=list)
-    retries_max: int = 26
+    accepts: list[Span] = field(default_factory=list)
+    sends: list[Span] = field(default_factory=list)
+    retries_max: int = 0
     success_wait: int = 0
     counts: bool = False
     may_call: bool = False
@@ -115,6 +121,8 @@ class Site:
     runs_uuxqt: bool = True
     files: dict[str, list[str]] = field(default_factory=dict)
     systems: dict[str, System] = field(default_factory=dict)
+    # What the main file has behind `unknown`.
+    unknown: list[str] = field(default_factory=list)
 
     def config_words(self) -> list[str]:
         return ["-I", self.config] if self.config else []
@@ -279,9 +287,10 @@ class Reader:
 
     def read_alternate(self, line: str) -> None:
         alternate: Alternate = self.things[0]
-        span = span_of(line)
-        if span:
-            alternate.spans.append(span)
+        found = span_of(line)
+        if found:
+            spans = {"may call if": alternate.spans, "may accept": alternate.accepts, "will send": alternate.sends}
+            spans[found[0]].append(found[1])
         elif not set_chat(alternate, line):
             set_by_rules(alternate, line)
         alternate.may_call |= bool(re.match("Call out|This alternate applies when calling", line))
@@ -331,6 +340,7 @@ def read_site(config: str | None, name: str | None = None) -> Site:
     words = site.config_words()
     text, complaint = run_uuchk(words)
     Reader(site).read(text.splitlines())
+    site.unknown = [" ".join(words[1:]) for _, words in words_of(config or paths.CONFIG) if words[0] == "unknown"]
     if not site.files:
         raise SiteError(config or paths.CONFIG, complaint or "can't be read", "correct it; uuchk says the same")
     if name is not None:

@@ -16,6 +16,10 @@ class Unavailable(SiteError):
     """The port is locked, missing, or can't be opened."""
 
 
+class Busy(Unavailable):
+    """Another process has the lock of the port, or of the system."""
+
+
 class DialFailed(SiteError):
     """Nobody answers at the other end of the line."""
 

@@ -29,5 +29,18 @@ class Journal:
         finally:
             os.close(file)
 
+    def size(self) -> int:
+        with contextlib.suppress(OSError):
+            return self.log.stat().st_size
+        return 0
+
+    def since(self, size: int) -> str:
+        """Returns the lines of the system that came after so many bytes."""
+        with contextlib.suppress(OSError), self.log.open("rb") as file:
+            file.seek(size)
+            lines = file.read().decode(errors="replace").splitlines()
+            return "\n".join(line for line in lines if line.split(" ")[1:2] == [self.system])
+        return ""
+
     def fail(self, text: object) -> None:
         self.say(f"ERROR: {text}")

@@ -18,7 +18,7 @@ from pathlib import Path
 import serial
 
 from .configuration import Port
-from .faults import DialFailed, SiteError, Unavailable
+from .faults import Busy, DialFailed, SiteError, Unavailable
 
 CONNECT_SECONDS = 60
 # A command that is a line gets so long to end once its line is closed.
@@ -37,7 +37,7 @@ def faults_of_terminal() -> Iterator[None]:
 
 @dataclass
 class Line:
-    """A line that is open: what it reads, what it writes, and what is told of it in a log."""
+    """A line that is open: what it reads, what it writes, and its names: in what is said of it, and behind `port` in a log."""
 
     name: str
     reads: int
@@ -45,6 +45,7 @@ class Line:
     device: Device | None = None
     speed: int = 0
     has_carrier: bool = False
+    logged: str = "unknown"
 
     def write(self, text: bytes) -> None:
         while text:
@@ -152,7 +153,7 @@ def drop_lock(path: Path) -> None:
 def locked(path: Path, what: str) -> Iterator[None]:
     """Holds the lock file of `what`; it is a fault where another process does."""
     if not take_lock(path):
-        raise Unavailable(what, f"is locked by {path} of process {holder_of(path)}")
+        raise Busy(what, f"is locked by {path} of process {holder_of(path)}")
     try:
         yield
     finally:
@@ -218,7 +219,8 @@ def device_line(port: Port, speed: int, locks: Path) -> Iterator[Line]:
     with locked(lock, f"port {port.name}"):
         device = open_device(path, port, speed)
         try:
-            yield Line(f"port {port.name}", device.fileno(), device.fileno(), device, device.baudrate, port.carrier)
+            name, file = path.removeprefix("/dev/"), device.fileno()
+            yield Line(f"port {port.name}", file, file, device, device.baudrate, port.carrier, name)
         finally:
             device.close()
 
@@ -248,7 +250,7 @@ def tcp_line(port: Port, host: str) -> Iterator[Line]:
     with connection:
         connection.settimeout(None)
         connection.setsockopt(socket.IPPROTO_TCP, socket.TCP_NODELAY, 1)
-        yield Line(f"port {port.name}", connection.fileno(), connection.fileno())
+        yield Line(f"port {port.name}", connection.fileno(), connection.fileno(), logged="TCP")
 
 
 def service_of(name: str) -> int:
@@ -276,7 +278,7 @@ def pipe_line(port: Port, escapes: dict[str, str]) -> Iterator[Line]:
             ) from fault
         theirs.close()
         try:
-            yield Line(f"port {port.name}", ours.fileno(), ours.fileno())
+            yield Line(f"port {port.name}", ours.fileno(), ours.fileno(), logged=port.name)
         finally:
             ours.close()
             end(command)
@@ -291,6 +293,13 @@ def end(command: subprocess.Popen[bytes]) -> None:
             return
 
 
+def name_of_standard() -> str:
+    """Returns what Taylor UUCP's log calls standard input: its terminal, where it is one."""
+    with contextlib.suppress(OSError):
+        return os.ttyname(0).removeprefix("/dev/")
+    return "stdin"
+
+
 @contextlib.contextmanager
 def standard_line() -> Iterator[Line]:
     """Standard input and output. A terminal is raw while it is used."""
@@ -299,7 +308,7 @@ def standard_line() -> Iterator[Line]:
         if state:
             tty.setraw(0)
     try:
-        yield Line("port stdin", 0, 1)
+        yield Line("port stdin", 0, 1, logged=name_of_standard())
     finally:
         if state:
             with contextlib.suppress(termios.error):

@@ -4,17 +4,20 @@ from __future__ import annotations
 import hmac
 import os
 import pwd
+import re
 import select
 import time
 from dataclasses import dataclass
 
 from .chat import unescaped
-from .configuration import Alternate, Site, words_of
+from .configuration import Alternate, Site, System, with_lines, words_of
 from .lines import Line
 
 TRIES_MAX = 3
 PROMPT_SECONDS = 60
 WORD_MAX = 128
+# The names that a system may have of which no file knows: those of folders, and of words in a file.
+UNKNOWN = r"[A-Za-z0-9][A-Za-z0-9_.-]{0,63}"
 
 
 class NoLogin(Exception):
@@ -110,20 +113,32 @@ def lists_of(site: Site) -> dict[str, set[str]]:
     return found
 
 
+def admission_of(system: System, login: str, listed: set[str] | None) -> Admission | None:
+    """Returns what holds for a system that calls by a login, which may be free only for some; none where it may not."""
+    is_free = listed is None or system.name in listed
+    # an alternate without a login is for calls alone
+    named = (one for one in system.alternates if one.called_login == login or is_free and one.called_login == "ANY")
+    return next((Admission(system.name, one) for one in named), None)
+
+
 def admitted(site: Site, login: str) -> dict[str, Admission]:
     """Returns the systems that may call by a login, by their names and aliases."""
     listed = lists_of(site).get(login)
     found = {}
     for system in site.systems.values():
-        is_free = listed is None or system.name in listed
-        # an alternate without a login is for calls alone
-        named = next(
-            (one for one in system.alternates if one.called_login == login or is_free and one.called_login == "ANY"), None
-        )
-        if named is not None:
-            for name in (system.name, *system.aliases):
-                found[name] = Admission(system.name, named)
+        admission = admission_of(system, login, listed)
+        for name in (system.name, *system.aliases) if admission else ():
+            found[name] = admission
     return found
+
+
+def unknown_one(site: Site, name: str, login: str) -> Admission | None:
+    """Returns what `unknown` of the main file says of a system that no other file has, and that calls by a login."""
+    known = {one for system in site.systems.values() for one in (system.name, *system.aliases)}
+    if not site.unknown or name in known or not re.fullmatch(UNKNOWN, name):
+        return None
+    system = with_lines(site, [f"system {name}", *site.unknown]).systems[name]
+    return admission_of(system, login, lists_of(site).get(login))
 
 
 def local_name(site: Site, login: str) -> str:

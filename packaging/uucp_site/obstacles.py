@@ -21,16 +21,6 @@ class Obstacle:
         return f"{self.keyword}: {self.why}: {self.remedy}"
 
 
-def is_public(folders: list[str], public: str) -> bool:
-    """Returns whether the last of these folders that has the public one allows it."""
-    allowed = False
-    for word in folders:
-        folder = os.path.normpath(word.lstrip("!").replace("~", public, 1))
-        if f"{public}/".startswith(folder if folder == "/" else f"{folder}/"):
-            allowed = not word.startswith("!")
-    return allowed
-
-
 def of_chat(keyword: str, chat: Chat) -> Iterator[Obstacle]:
     if chat.program and "\\P" in chat.program:
         yield Obstacle(f"{keyword}-program", "\\P would show the password to each user", "use a chat script")
@@ -41,16 +31,6 @@ def of_system(alternate: Alternate, protocols: str | None) -> Iterator[Obstacle]
     public = os.path.normpath(alternate.public)
     if protocols and "g" not in protocols:
         yield Obstacle("protocol", f"{protocols} has no g", "the other end must offer g, and this line name it")
-    if alternate.counts:
-        yield Obstacle("sequence", "conversations are not counted", "write `sequence false` at both ends")
-    if not is_public(alternate.gives, public):
-        yield Obstacle(
-            "remote-send",
-            "files of the public folder are given to who asks",
-            "let it have ~, and no `send-request false` (HDB: REQUEST=yes)",
-        )
-    if not is_public(alternate.takes, public):
-        yield Obstacle("remote-receive", "files are put into the public folder", "let it have ~, and no `receive-request false`")
     for word in alternate.takes:
         folder = os.path.normpath(word[1:].replace("~", public, 1))
         if word.startswith("!") and folder.startswith(f"{public}/"):
@@ -61,8 +41,6 @@ def of_call(alternate: Alternate, port: Port) -> Iterator[Obstacle]:
     """Yields what stops a call to a system at this port."""
     yield from of_system(alternate, alternate.protocols or port.protocols)
     yield from of_chat("chat", alternate.chat)
-    if not alternate.calls_send:
-        yield Obstacle("call-transfer", "a call moves the jobs of both ends", "write `call-transfer true`")
     for keyword, why, remedy in of_port(port):
         yield Obstacle(keyword, why, remedy, port.name)
 
@@ -81,9 +59,4 @@ def of_port(port: Port) -> Iterator[tuple[str, str, str]]:
 def of_answer(alternate: Alternate) -> Iterator[Obstacle]:
     """Yields what stops a call from a system."""
     yield from of_system(alternate, alternate.protocols)
-    if not alternate.called_send:
-        yield Obstacle(
-            "called-transfer", "a call moves the jobs of both ends", "write `called-transfer true` (HDB: SENDFILES=yes)"
-        )
-    if alternate.called_chat.script or alternate.called_chat.program:
-        yield Obstacle("called-chat", "nothing is said between greeting and protocol", "remove it")
+    yield from of_chat("called-chat", alternate.called_chat)

@@ -49,7 +49,7 @@ TOOLS = ("-v", "--help", "--check")
 REFUSED = {
     "-t": "-l asks for a login",
     "-i": "only TLI needs it, which Linux has not",
-    "-g": "a call moves the jobs of all grades",
+    "-g": "timegrade in the sys file says which jobs go",
 }
 
 

@@ -8,6 +8,7 @@ import subprocess
 from . import paths
 from .configuration import Alternate, Port, Site
 from .faults import SiteError
+from .lines import Line
 
 SIZES = {str(2**power) for power in range(5, 13)}
 # Below this speed the timer has to leave time for what is on the way.
@@ -41,7 +42,29 @@ def options_of(alternate: Alternate, port: Port | None, speed: int) -> list[str]
     return words
 
 
-def words_of_session(site: Site, tool: str, me: str, system: str, public: str) -> list[str]:
+def grade_words(grade: str, sends: bool) -> list[str]:
+    """Returns the option for jobs of a grade and higher ones, or for none."""
+    return ["--grade", grade] if sends and grade != "z" else [] if sends else ["--grade=-"]
+
+
+def is_public(folders: list[str], public: str) -> bool:
+    """Returns whether the last of these folders that has the public one allows it."""
+    allowed, public = False, os.path.normpath(public)
+    for word in folders:
+        folder = os.path.normpath(word.lstrip("!").replace("~", public, 1))
+        if f"{public}/".startswith(folder if folder == "/" else f"{folder}/"):
+            allowed = not word.startswith("!")
+    return allowed
+
+
+def folder_words(alternate: Alternate, public: str) -> list[str]:
+    """Returns the options for an end that gives nothing of the public folder, or takes nothing into it."""
+    gives = [] if is_public(alternate.gives, public) else ["--no-give"]
+    return gives + ([] if is_public(alternate.takes, public) else ["--no-take"])
+
+
+def words_of_session(site: Site, tool: str, me: str, system: str, alternate: Alternate, line: Line) -> list[str]:
+    public = alternate.public or str(site.public)
     return [
         paths.UUCPAIR,
         tool,
@@ -53,13 +76,16 @@ def words_of_session(site: Site, tool: str, me: str, system: str, public: str) -
         "--peer",
         system,
         "--public",
-        public or str(site.public),
+        public,
         "--locks",
         str(site.locks),
         "--log",
         str(site.log),
         "--stats",
         str(site.stats),
+        "--port",
+        line.logged,
+        *folder_words(alternate, public),
     ]
 
 

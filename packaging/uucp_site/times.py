@@ -13,8 +13,9 @@ DAYS = ("Sun", "Mon", "Tue", "Wed", "Thu", "Fri", "Sat")
 DAY, WEEK = 24 * 60, 7 * 24 * 60
 SPAN = re.compile(
     r"(?:At any time|From (\w{3}) (\d\d):(\d\d) to (\w{3}) (\d\d):(\d\d)|(\w{3}) from (\d\d):(\d\d) to (\d\d):(\d\d))"
-    r" may call if (?:any work|work grade (.) or higher)(?: \(retry (\d+)\))?"
+    r" (may call if|may accept|will send) (?:any work|work grade (.) or higher)(?: \(retry (\d+)\))?"
 )
+# From the highest to the lowest, as their codes are ordered.
 GRADES = "0123456789ABCDEFGHIJKLMNOPQRSTUVWXYZabcdefghijklmnopqrstuvwxyz"
 DAY_SECONDS = 24 * 60 * 60
 RETRY_SECONDS = 600
@@ -33,7 +34,7 @@ TEXTS = (
 
 @dataclass(frozen=True)
 class Span:
-    """Minutes of a week, from Sunday, in which jobs of a grade or a higher one are a reason to call."""
+    """Minutes of a week, from Sunday, in which jobs of a grade or a higher one are a reason to call, or go."""
 
     begin: int
     end: int
@@ -44,8 +45,8 @@ class Span:
         return self.begin <= minute < self.end
 
 
-def span_of(line: str) -> Span | None:
-    """Returns the span of a line that `uuchk` prints, or none where it is of something else."""
+def span_of(line: str) -> tuple[str, Span] | None:
+    """Returns the span of a line that `uuchk` prints, behind what it is of, or none where it is no span."""
     found = SPAN.fullmatch(line)
     if not found:
         return None
@@ -61,6 +62,7 @@ def span_of(line: str) -> Span | None:
         minute,
         end_hour,
         end_minute,
+        what,
         grade,
         retry,
     ) = found.groups()
@@ -70,18 +72,18 @@ def span_of(line: str) -> Span | None:
     elif from_day:
         begin, end = minute_of(from_day, from_hour, from_minute), minute_of(to_day, to_hour, to_minute)
     # the end of a week is the beginning of the next
-    return Span(begin, end or WEEK, grade or "z", int(retry or 0))
+    return what, Span(begin, end or WEEK, grade or "z", int(retry or 0))
 
 
 def minute_of(day: str, hour: str, minute: str) -> int:
     return DAYS.index(day) * DAY + int(hour) * 60 + int(minute)
 
 
-def span_at(spans: list[Span], now: float, grade: str) -> Span | None:
-    """Returns the span in which a job of this grade is a reason to call at this time."""
+def span_at(spans: list[Span], now: float) -> Span | None:
+    """Returns the span in which this time is. `uuchk` prints spans of which only one has a minute."""
     at = time.localtime(now)
     minute = (at.tm_wday + 1) % 7 * DAY + at.tm_hour * 60 + at.tm_min
-    return next((span for span in spans if span.has(minute) and GRADES.index(grade) <= GRADES.index(span.grade)), None)
+    return next((span for span in spans if span.has(minute)), None)
 
 
 @dataclass(frozen=True)
@@ -117,14 +119,21 @@ def write_status(spool: Path, system: str, status: Status) -> None:
 
 
 def why_not_due(status: Status, now: float, retries_max: int, success_wait: int) -> str | None:
-    """Returns why the system may not be called again yet, in Taylor UUCP's words, or none."""
+    """Returns why the system may not be called again yet, in Taylor UUCP's words, or none. A time in the future is an error's."""
+    if status.time > now:
+        return None
     if 0 < retries_max <= status.tries and status.time + DAY_SECONDS > now:
-        return "Too many retries"
+        return "ERROR: Too many retries"
     wait = success_wait if status.code == COMPLETE else status.wait
     return "Retry time not reached" if status.time + wait > now else None
 
 
-def after_failure(status: Status, code: int, now: float, span: Span) -> Status:
-    """Returns the status after another failed call. Taylor UUCP waits ten minutes more after each."""
-    tries = status.tries + 1
-    return Status(code, tries, int(now), span.retry * 60 or RETRY_SECONDS * tries)
+def after_failure(status: Status, code: int, now: float, span: Span, counts: bool = True) -> Status:
+    """Returns the status after another failed call. Taylor UUCP waits ten minutes more after each; that a port is in use does not
+    count as one."""
+    tries = status.tries + counts
+    return Status(code, tries, int(now), wait_after(tries, span))
+
+
+def wait_after(tries: int, span: Span) -> int:
+    return span.retry * 60 or RETRY_SECONDS * tries

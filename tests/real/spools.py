@@ -516,6 +516,45 @@ def a_public_file_that_cant_be_opened_for_a_moment(one):
 
 
 @scene()
+def what_an_end_offers_gives_and_takes(one):
+    """--grade offers jobs of a grade and higher ones, or none; --no-give and --no-take shut the public folder, but not for the end's own
+    requests; --port names the line."""
+    for number, (options, sent, given, taken) in enumerate(((["--grade", "A"], "A", True, True), (["--grade", "0"], "", True, True),
+            (["--grade=-"], "", True, True), (["--grade", "z"], "ABNz", True, True), (["--no-give"], "ABNz", False, True),
+            (["--no-take"], "ABNz", True, False), (["--no-give", "--no-take", "--grade", "B"], "AB", False, False))):
+        for who in ("alpha", "beta"):
+            nodes = Nodes(one, (f"alpha{number}{who}", f"beta{number}{who}"))
+            ours = nodes.names[who == "beta"]
+            other = nodes.other(ours)
+            for grade in "zNBA":
+                nodes.queue(ours, f"C.{grade}9", f"S D.{ord(grade):04} ~/{grade} u -C D.{ord(grade):04} 0644 ", **{f"_{ord(grade):04}": grade})
+            nodes.queue(other, "C.A1", f"R ~/open {nodes.at(other, 'pub')}/asked w -d")
+            nodes.queue(other, "C.A2", "S D.0002 ~/sent u -C D.0002 0644 ", _0002="sent\n")
+            write(f"{nodes.at(ours, 'pub')}/open", "open\n")
+            os.chmod(f"{nodes.at(ours, 'pub')}/open", 0o644)
+            nodes.talk(**{"call" if who == "alpha" else "answer": [*options, "--port", "ttyS5"]})
+            name = f"{' '.join(options)} at {who}"
+            there = nodes.pub(other)
+            one.row(f"{name}: what went", "".join(sorted(set(there) - {"asked", "open"})), "".join(sorted(sent)))
+            one.row(f"{name}: the others wait", sorted(names_in(nodes.at(ours, f"spool/{other}/C."))),
+                    [f"C.{grade}9" for grade in "ABNz" if grade not in sent])
+            one.row(f"{name}: what was given and taken", ("asked" in there, "sent" in nodes.pub(ours)), (given, taken))
+            one.row(f"{name}: the name of the line", ("(port ttyS5)" if who == "alpha" else " port ttyS5)") in nodes.log(ours)[0], True)
+
+
+@scene()
+def what_is_asked_for_without_taking(one):
+    """An end that takes no files into its public folder has there what it asks for itself."""
+    nodes = Nodes(one)
+    nodes.known("beta", "alpha")
+    nodes.queue("alpha", "C.A1", f"R ~/open {nodes.at('alpha', 'pub')}/asked w -d")
+    write(f"{nodes.at('beta', 'pub')}/open", "open\n")
+    os.chmod(f"{nodes.at('beta', 'pub')}/open", 0o644)
+    nodes.talk(call=["--no-take", "--no-give"])
+    one.row("what came", nodes.pub("alpha"), {"asked": "open\n"})
+
+
+@scene()
 def a_caller_without_a_folder(one):
     """A system that the spool does not know gets no file of the public folder, though it is the one that is expected."""
     nodes = Nodes(one)

@@ -154,7 +154,7 @@ names_nothing = refl
 -- ---- places
 
 abbrev public : Public
-public = record { folders = codes "in" ∷ []; barred = codes "theirs" ∷ codes "in/theirs" ∷ []; is_closed = false; delayed = codes "late" ∷ []; is_unknown = false }
+public = record { folders = codes "in" ∷ []; barred = codes "theirs" ∷ codes "in/theirs" ∷ []; is_closed = false; delayed = codes "late" ∷ []; is_unknown = false; is_taking = true }
 
 record AreLanded : Type 0 where
   home : landing public (codes "/srv/f") (codes "~/") ≡ codes "~/f"

@@ -5,7 +5,7 @@ use Rattle.uug_conversation.specs.MemoryHoldings.{first_named, has_name}
 use Rattle.uug_conversation.specs.Partial.{Partial}
 use Rattle.uug_conversation.specs.declared.verdict.Verdict.TheVariants.{Never, Yes}
 use Rattle.uug_folder.specs.LocalNames.{local_source}
-use Rattle.uug_mailbox.specs.Places.{Public, landing, place_in}
+use Rattle.uug_mailbox.specs.Places.{Public, landing, place_in, takes}
 
 abbrev pub file_at : List Kept → Option (List ℕ) → Option File
 file_at files None = None
@@ -24,7 +24,7 @@ abbrev pub delayed_in : Public → Option (List ℕ) → Bool
 delayed_in public None = false
 delayed_in public (Some name) = if public.is_unknown then true else has_name public.delayed name
 
--- a file is taken that has a place
+-- a file can be put where it has a place
 abbrev pub is_refused : Public → (name : List ℕ) → Bool
 is_refused public name = is_none (place_in public name)
 
@@ -32,7 +32,7 @@ abbrev pub mail_holdings : (lenient digests : Bool) → (limit : ℕ) → Public
 mail_holdings lenient digests limit public partials files = record {
   file = given files;
   delayed = λ name. delayed_in public (local_source name);
-  verdict = λ name. if is_refused public name then Never else Yes;
+  verdict = λ name. if takes public name then Yes else Never;
   immovable = is_refused public;
   landing = landing public;
   partials = partials;

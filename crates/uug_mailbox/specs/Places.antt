@@ -25,9 +25,11 @@ pub record Public : Type 0 where
   pub delayed : List (List ℕ)
   -- its files could not be listed: each may be given later
   pub is_unknown : Bool
+  -- the other system may send files there
+  pub is_taking : Bool
 
 abbrev pub shown_public : {A : Type 0} → PublicFolder A → Public
-shown_public p = record { folders = p.folders.items; barred = p.barred.items; is_closed = p.is_closed; delayed = p.delayed.items; is_unknown = p.is_unknown }
+shown_public p = record { folders = p.folders.items; barred = p.barred.items; is_closed = p.is_closed; delayed = p.delayed.items; is_unknown = p.is_unknown; is_taking = p.is_taking }
 
 -- ---- names
 
@@ -80,6 +82,14 @@ placed public name (Err why) = deep_place public (name_of (local_name name))
 -- the place of a file that comes under this name, if it has one
 abbrev pub place_in : Public → (name : List ℕ) → Option Spot
 place_in public name = placed public name (spot_of name)
+
+abbrev pub takes_at : Public → (place : Option Spot) → Bool
+takes_at public None = false
+takes_at public (Some target) = if is_public target.room then public.is_taking else true
+
+-- whether a file is taken that the other system sends under this name: one that has a place, unless nothing is taken there
+abbrev pub takes : Public → (name : List ℕ) → Bool
+takes public name = takes_at public (place_in public name)
 
 -- the name that a file of this place has while it comes
 abbrev pub temp_name : Spot → List ℕ

@@ -103,10 +103,10 @@ impl<D: Disk, N: Notebook, A: Allocator + Copy> Spool for MailSpool<D, N, A> {
     ghost faults = { λ s. s.faults };
 
     fn may_keep(&self, name: &Name) -> Verdict {
-        if self.public.place_in(name).is_none() {
-            Verdict::Never
-        } else {
+        if self.public.takes(name) {
             Verdict::Yes
+        } else {
+            Verdict::Never
         }
     }
 

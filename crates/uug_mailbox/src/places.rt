@@ -1,7 +1,7 @@
 //! The place of a file that another system sends, by what is in the public folder when the session begins.
 ghost use Rattle.std.specs.Path.{rsplit_once, slash};
 ghost use Rattle.std.specs.Prelude.{◌≡◌, ◌++◌, MatchOption, None, Some, codes};
-ghost use Rattle.uug_mailbox.specs.Places.{deep_by, deep_place, front_of, is_public_last, is_public_name, is_spooled, is_taken, landing, last_part, place_in, placed, shown_public, temp_name, top_place, without_slash};
+ghost use Rattle.uug_mailbox.specs.Places.{deep_by, deep_place, front_of, is_public_last, is_public_name, is_spooled, is_taken, landing, last_part, place_in, placed, shown_public, takes, temp_name, top_place, without_slash};
 ghost use Rattle.uug_spool.specs.SpoolNames.{local_name, spot_of};
 ghost use Rattle.uug_talk.specs.Name.{name_of};
 
@@ -27,6 +27,8 @@ pub struct PublicFolder<A: Allocator> {
     pub delayed: Vec<Name, A>,
     /// True if its files could not be listed: each may be given later.
     pub is_unknown: bool,
+    /// True if the other system may send files there.
+    pub is_taking: bool,
 }
 
 /// Splits a path at its last slash, if it has one.
@@ -67,6 +69,23 @@ impl<A: Allocator> PublicFolder<A> {
         ensures { result ≡ place_in (shown_public self.now) name.now }
     {
         self.placed(name, spot_of(name))
+    }
+
+    /// Returns whether a file is taken that the other system sends under this name: one that has a place, unless that is in the public
+    /// folder and nothing is taken there.
+    pub fn takes(&self, name: &Name) -> bool
+        ensures { result ≡ takes (shown_public self.now) name.now }
+    {
+        match self.place_in(name) {
+            Some(target) => {
+                if target.room == Room::Public {
+                    self.is_taking
+                } else {
+                    true
+                }
+            }
+            None => false,
+        }
     }
 
     fn placed(&self, name: &Name, target: Result<Spot, Barred>) -> Option<Spot>

@@ -3,3 +3,4 @@ pub mod PublicFileLemmas
 pub mod ReportedLemmas
 pub mod WhyLemmas
 mod PublicNameFacts
+mod GradeFacts

@@ -187,13 +187,14 @@ where
         is_closed,
         delayed: Vec::new(alloc),
         is_unknown,
+        is_taking: call.is_taking,
     };
     let Arrivals { came, aside } = finish_arrivals(alloc, rt, paths, &mut public)?;
-    let mut work = read_work(alloc, rt, paths, &place.me, call.allowance)?;
+    let mut work = read_work(alloc, rt, paths, &place.me, call.allowance, call.grade)?;
     work.came = came;
     work.aside = aside;
     // A caller that the spool does not know is given nothing.
-    if call.side == Side::Caller || is_known(alloc, rt, paths)? {
+    if call.is_giving && (call.side == Side::Caller || is_known(alloc, rt, paths)?) {
         let (names, most) = (files.as_slice(), call.allowance.bytes);
         add_public(&mut work.files, &mut ungiven, alloc, rt, paths, names, most)?;
     }

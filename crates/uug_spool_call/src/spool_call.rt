@@ -24,8 +24,14 @@ pub struct SpoolCall<'a> {
     pub log: Option<&'a str>,
     /// The statistics, where they are named.
     pub stats: Option<&'a str>,
-    /// The name of its line in these.
+    /// The lowest grade of the jobs that it offers, where one is named.
+    pub grade: Option<&'a str>,
+    /// The name of its line in the log and the statistics.
     pub port: &'a str,
+    /// True if it gives files of the public folder.
+    pub is_giving: bool,
+    /// True if it takes files into the public folder that it does not ask for.
+    pub is_taking: bool,
     /// True if it refuses what it can't read, and goes on.
     pub is_lenient: bool,
     /// True if it announces digests of its files, and compares those that it reads.

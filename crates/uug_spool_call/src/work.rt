@@ -4,7 +4,7 @@ ghost use Rattle.uug_failure.specs.Faults.{IsFolderFault};
 ghost use Rattle.uug_mailbox.specs.HeldLines.{held_lines};
 ghost use Rattle.uug_mailbox.specs.OpenLines.{file_lines};
 ghost use Rattle.uug_spool_call.specs.PublicNames.{behind_public, named_job, named_line, named_lines, public_name};
-ghost use Rattle.uug_spool_call.specs.Budgets.{budget_after, budget_fits};
+ghost use Rattle.uug_spool_call.specs.Budgets.{budget_after, budget_fits, is_offered};
 ghost use Rattle.uug_spool_call.specs.GivenData.{AddsNamed, data_name};
 ghost use Rattle.uug_spool_call.specs.Works.{IsAppended};
 ghost use Rattle.uug_talk.specs.Lines.{lines as lines_of_text};
@@ -150,14 +150,15 @@ struct WorkReader<'a, A: Allocator, R> {
 }
 
 /// Reads what waits for a system, C. file after C. file and line after line, as long as the files that are offered have so many
-/// bytes together at most; the first file always. What this node is called stands in the texts of commands. Lines that a session
-/// could not take off the disk are a fault.
+/// bytes together at most; the first file always. Where a grade is named, C. files of lower ones wait. What this node is called
+/// stands in the texts of commands. Lines that a session could not take off the disk are a fault.
 pub(crate) fn read_work<A: Allocator + Copy, R: Files<File = File> + Alloc + Clone + Drop>(
     alloc: A,
     rt: &R,
     paths: &SpoolPaths<A>,
     me: &Name,
     allowance: Allowance,
+    grade: Option<&str>,
 ) -> Result<Work<A>, RunFault>
     ensures { IfErr result IsFolderFault }
 {
@@ -173,13 +174,31 @@ pub(crate) fn read_work<A: Allocator + Copy, R: Files<File = File> + Alloc + Clo
     let mut work = Work::none(alloc);
     let mut budget = Budget::of(allowance);
     for name in names.as_slice() {
-        if budget.is_full {
+        // those behind are of lower grades
+        if budget.is_full || !is_offered(name, grade) {
             break;
         }
         add_commands(&mut work, &reader, name, &mut budget)?;
     }
     see_lines(alloc, rt, paths, work.lines.as_slice())?;
     Ok(work)
+}
+
+/// Returns whether a C. file of this name is offered: its grade is the lowest that is named, or a higher one. All are where none is
+/// named.
+fn is_offered(name: &Name, lowest: Option<&str>) -> bool
+    ensures { result ≡ is_offered lowest.entry name.now }
+{
+    let Some(lowest) = lowest else {
+        return true;
+    };
+    match grade_of(name.as_bytes()) {
+        Some(grade) => match lowest.as_bytes() {
+            [lowest, ..] => grade <= *lowest,
+            [] => false,
+        },
+        None => false,
+    }
 }
 
 /// The names of the C. files, in the order in which they are taken.

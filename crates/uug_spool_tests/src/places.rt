@@ -32,6 +32,7 @@ fn public(rt: &impl Abort, alloc: Global) -> PublicFolder<Global> {
         is_closed: false,
         delayed: Vec::new(alloc),
         is_unknown: false,
+        is_taking: true,
     }
 }
 

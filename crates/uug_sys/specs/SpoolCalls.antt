@@ -1,5 +1,6 @@
 -- A call over a spool: what it is told, and what comes of one that has no line (this project's profile).
-use Rattle.std.specs.Prelude.{◌≡◌, ℕ, Bool, Option, Some, None, Result, Err}
+use Rattle.std.specs.Borrow.{Bor}
+use Rattle.std.specs.Prelude.{◌≡◌, ℕ, Bool, List, Option, Some, None, Result, Err}
 use Rattle.uug_failure.specs.declared.failure.Cause.{Cause}
 use Rattle.uug_failure.specs.declared.failure.Resource.{Resource}
 use Rattle.uug_failure.specs.declared.failure.Resource.TheVariants.{Line}
@@ -10,6 +11,11 @@ use Rattle.uug_sys.specs.SpoolLocks.{is_in_use}
 use Rattle.uug_task.specs.Tasks.{IsTask, thinning_with}
 use Rattle.uug_task.specs.declared.task.CallTask.{CallTask}
 
+-- what a log calls a line: the name that is given, else that of the line
+abbrev pub port_of : (port : Option (Bor (List ℕ))) (line : Bor (List ℕ)) → Bor (List ℕ)
+port_of None line = line
+port_of (Some port) line = port
+
 -- a call is told what its task says
 pub record IsCallOf (task : CallTask) (call : SpoolCall) : Type 0 where
   pub side : call.side ≡ task.side
@@ -17,7 +23,10 @@ pub record IsCallOf (task : CallTask) (call : SpoolCall) : Type 0 where
   pub public : call.public ≡ task.public
   pub log : call.log ≡ task.log
   pub stats : call.stats ≡ task.stats
-  pub port : call.port ≡ task.line
+  pub grade : call.grade ≡ task.grade
+  pub port : call.port ≡ port_of task.port task.line
+  pub is_giving : call.is_giving ≡ task.is_giving
+  pub is_taking : call.is_taking ≡ task.is_taking
   pub is_lenient : call.is_lenient ≡ task.is_lenient
   pub tells_digests : call.tells_digests ≡ task.tells_digests
   pub is_resuming : call.is_resuming ≡ task.is_resuming

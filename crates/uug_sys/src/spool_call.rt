@@ -535,6 +535,16 @@ fn has_folder<A: Allocator, R: Files>(
     }
 }
 
+/// Returns the name of a line in the log: the one that is named, else that of the line.
+fn port_of<'a>(port: Option<&'a str>, line: &'a str) -> &'a str
+    ensures { result ≡ port_of port.entry line.entry }
+{
+    match port {
+        Some(port) => port,
+        None => line,
+    }
+}
+
 /// Returns what a task says of a call over a spool.
 fn said_of<'a>(task: &CallTask<'a>) -> SpoolCall<'a>
     ensures { IsCallOf task.now result }
@@ -545,7 +555,10 @@ fn said_of<'a>(task: &CallTask<'a>) -> SpoolCall<'a>
         public: task.public,
         log: task.log,
         stats: task.stats,
-        port: task.line,
+        grade: task.grade,
+        port: port_of(task.port, task.line),
+        is_giving: task.is_giving,
+        is_taking: task.is_taking,
         is_lenient: task.is_lenient,
         tells_digests: task.tells_digests,
         is_resuming: task.is_resuming,

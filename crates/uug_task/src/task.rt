@@ -91,6 +91,14 @@ pub struct CallTask<'a> {
     pub public: Option<&'a str>,
     /// The statistics of a spool, if they are named.
     pub stats: Option<&'a str>,
+    /// The lowest grade of the jobs of a spool that it offers, if one is named.
+    pub grade: Option<&'a str>,
+    /// The name of its line in the log of a spool, if one is named.
+    pub port: Option<&'a str>,
+    /// Set if it gives files of the public folder of a spool that the other end asks for.
+    pub is_giving: bool,
+    /// Set if it takes files into the public folder of a spool that the other end sends.
+    pub is_taking: bool,
     /// Set if a session in which jobs were given up counts as one that is not done.
     pub is_fail_status: bool,
 }

@@ -114,7 +114,8 @@ file_rules =
     ∷ number_rule (codes "file-limit") (codes "67108864")
     ∷ number_rule (codes "keep-partials") (codes "30")
     ∷ flag_rule (codes "spool") ∷ word_rule (codes "public")
-    ∷ word_rule (codes "stats")
+    ∷ word_rule (codes "stats") ∷ word_rule (codes "grade") ∷ word_rule (codes "port")
+    ∷ flag_rule (codes "no-give") ∷ flag_rule (codes "no-take")
     ∷ verbose_rule ∷ []
 
 -- one end at a line: where it is, what it and the other one are called, and the options

@@ -221,6 +221,16 @@ pub const SPOOL: &str = "DIR is a spool of Taylor UUCP, and this end is there in
 
 pub const PUBLIC: &str = "With --spool: the public folder; without it uucppublic beside DIR";
 
+pub const GRADE: &str =
+    "With --spool: offers only jobs of this grade, 0 to 9, A to Z or a to z, and higher ones; with - none";
+
+pub const PORT: &str = "With --spool: the name of the line in the log; without it LINE";
+
+pub const NO_GIVE: &str = "With --spool: gives no file of the public folder that is asked for";
+
+pub const NO_TAKE: &str =
+    "With --spool: takes no file into the public folder but those it asks for";
+
 pub const FAIL_STATUS: &str = "Ends with status 1 if a job was given up in the session";
 
 pub const STATS: &str = "With --spool: the file to which a line is appended for each file sent";

@@ -14,4 +14,8 @@ returns c before is =
     let spool = adds_behind days c.in_ok-arg-8.ensures c.flag-2.ensures in
     let public = adds_behind spool c.in_ok-arg-9.ensures c.named-3.ensures in
     let stats = adds_behind public c.in_ok-arg-10.ensures c.named-4.ensures in
-    IfOk-weaker c.arg-11.result _ _ (λ made step. (adds_behind stats step c.verbose.ensures).is) c.arg-11.ensures
+    let grade = adds_behind stats c.in_ok-arg-11.ensures c.named-5.ensures in
+    let port = adds_behind grade c.in_ok-arg-12.ensures c.named-6.ensures in
+    let giving = adds_behind port c.in_ok-arg-13.ensures c.flag-3.ensures in
+    let taking = adds_behind giving c.in_ok-arg-14.ensures c.flag-4.ensures in
+    IfOk-weaker c.arg-15.result _ _ (λ made step. (adds_behind taking step c.verbose.ensures).is) c.arg-15.ensures
