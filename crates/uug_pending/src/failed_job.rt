@@ -32,7 +32,8 @@ pub(crate) fn failed_jobs<A: Allocator + Copy>(
         if let Some(comment) = comment_in(line) {
             why = comment;
         } else if let Some(job) = said_job(alloc, line)? {
-            failed.push(FailedJob { job, why })?;
+            failed.reserve(1)?;
+            failed.push_reserved(FailedJob { job, why });
         }
         rest = behind;
     }

@@ -5,21 +5,21 @@
 mod answer;
 mod cancel;
 mod failed_job;
+mod json;
 mod last_session;
+mod lines;
 mod named_job;
 mod pending_job;
 mod status;
-mod status_json;
-mod status_text;
 mod taken_job;
 mod words;
 
 pub use answer::CancelOutcome;
 pub use cancel::{CancelFault, CancelTask, cancel_run};
 pub use failed_job::FailedJob;
+pub use json::status_json;
 pub use last_session::{LastSession, LogEntry};
+pub use lines::status_text;
 pub use pending_job::PendingJob;
 pub use status::{StatusTask, status_run};
-pub use status_json::status_json;
-pub use status_text::status_text;
 pub use words::rival_remark;

@@ -6,10 +6,10 @@ ghost use Rattle.uug_pending.specs.LastSession.{shown_last};
 ghost use Rattle.uug_pending.specs.Status.{IsStatus, WritesStatus, job_of, status_as};
 
 use crate::failed_job::{FailedJob, failed_jobs};
+use crate::json::status_json;
 use crate::last_session::{LastSession, last_session};
+use crate::lines::status_text;
 use crate::pending_job::PendingJob;
-use crate::status_json::status_json;
-use crate::status_text::status_text;
 use std::alloc::{AllocError, Allocator};
 use std::fs::File;
 use std::rt::Files;
