@@ -39,10 +39,12 @@ session_words (Some mark) = codes "{\"age\":" ++ (number_words mark.age ++ codes
 
 -- ---- the last session in the log
 
+abbrev pub moment_members : Entry → List ℕ
+moment_members e = codes ",\"date\":" ++ (text_words e.date ++ (codes ",\"time\":" ++ text_words e.time))
+
 abbrev pub entry_object : Entry → List ℕ
 entry_object e =
-    codes "{\"system\":" ++ (text_words e.system ++ (codes ",\"date\":" ++ (text_words e.date ++ (codes ",\"time\":"
-    ++ (text_words e.time ++ (codes ",\"text\":" ++ (text_words e.text ++ codes "}")))))))
+    codes "{\"system\":" ++ (text_words e.system ++ (moment_members e ++ (codes ",\"text\":" ++ (text_words e.text ++ codes "}"))))
 
 abbrev pub told_item : Option Entry → List ℕ
 told_item None = []
@@ -75,10 +77,11 @@ abbrev pub age_of : Option SeenFile → Option ℕ
 age_of None = None
 age_of (Some file) = file.age
 
+abbrev pub file_members : Option SeenFile → List ℕ
+file_members file = codes ",\"bytes\":" ++ (number_words (size_of file) ++ (codes ",\"age\":" ++ number_words (age_of file)))
+
 abbrev pub pending_object : PendingJob → List ℕ
-pending_object p =
-    codes "{" ++ (job_members p.job ++ (codes ",\"bytes\":" ++ (number_words (size_of p.file) ++ (codes ",\"age\":"
-    ++ (number_words (age_of p.file) ++ codes "}")))))
+pending_object p = codes "{" ++ (job_members p.job ++ (file_members p.file ++ codes "}"))
 
 -- those behind the first one
 abbrev pub pending_rest : List PendingJob → List ℕ

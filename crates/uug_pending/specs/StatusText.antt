@@ -30,15 +30,19 @@ age_words None = []
 age_words (Some seconds) = codes ", " ++ (span_words seconds ++ codes " old")
 
 -- the mark of a session is there while it runs, and after one that was broken off
+abbrev pub mark_line : (words : List ℕ) → (age : Option ℕ) → List ℕ
+mark_line words age = words ++ ended (age_words age)
+
 abbrev pub session_words : Option SeenFile → List ℕ
 session_words None = []
-session_words (Some mark) = codes "session not over: its mark is there" ++ ended (age_words mark.age)
+session_words (Some mark) = mark_line (codes "session not over: its mark is there") mark.age
+
+abbrev pub moment_words : Entry → List ℕ
+moment_words e = codes " " ++ (escaped e.date ++ (codes " " ++ escaped e.time))
 
 -- of the last session in the log: its start, and what the log says of its end
 abbrev pub entry_line : Entry → List ℕ
-entry_line e =
-    codes "session " ++ (escaped e.system ++ (codes " " ++ (escaped e.date ++ (codes " " ++ (escaped e.time ++ (codes ": "
-    ++ ended (escaped e.text)))))))
+entry_line e = codes "session " ++ (escaped e.system ++ (moment_words e ++ (codes ": " ++ ended (escaped e.text))))
 
 abbrev pub told_line : Option Entry → List ℕ
 told_line None = []

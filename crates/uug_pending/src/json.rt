@@ -1,8 +1,8 @@
 //! The status of an end's folder, as JSON.
-ghost use Rattle.std.specs.Prelude.{◌≡◌, ◌++◌, IfOk, OnOk, string_bytes};
+ghost use Rattle.std.specs.Prelude.{◌≡◌, ◌++◌, IfOk, OnOk, Some, string_bytes};
 ghost use Rattle.std.specs.Option.{option_map};
 ghost use Rattle.uug_pending.specs.LastSession.{shown_entry, shown_last, told_in};
-ghost use Rattle.uug_pending.specs.StatusJson.{age_of, byte_words, bytes_words, entry_object, failed_items, failed_object, failed_rest, held_items, held_object, held_rest, job_members, last_items, members, number_words, pending_items, pending_object, pending_rest, session_words, size_of, status_json, text_words, told_item, told_rest};
+ghost use Rattle.uug_pending.specs.StatusJson.{age_of, byte_words, bytes_words, entry_object, failed_items, failed_object, failed_rest, file_members, held_items, held_object, held_rest, job_members, last_items, members, moment_members, number_words, pending_items, pending_object, pending_rest, session_words, size_of, status_json, text_words, told_item, told_rest};
 ghost use Rattle.uug_scan.specs.Detailed.{is_plain};
 ghost use Rattle.uug_talk.specs.Lines.{lines};
 
@@ -100,12 +100,18 @@ fn add_told<A: Allocator>(
         ≡ string_bytes text.old ++ told_item (told_in process.now line.now)) }
 {
     match told_in(process, line) {
-        Some(entry) => {
-            text.push_str(",")?;
-            add_entry(text, &entry)
-        }
+        Some(entry) => { add_item(text, &entry) }
         None => Ok(()),
     }
+}
+
+/// Appends an entry behind another one.
+fn add_item<A: Allocator>(text: &mut String<A>, entry: &LogEntry<'_>) -> Result<(), AllocError>
+    ensures { OnOk result (string_bytes text.new
+        ≡ string_bytes text.old ++ told_item (Some (shown_entry entry.now))) }
+{
+    text.push_str(",")?;
+    add_entry(text, entry)
 }
 
 /// Appends an entry of a log.
@@ -115,13 +121,21 @@ fn add_entry<A: Allocator>(text: &mut String<A>, entry: &LogEntry<'_>) -> Result
 {
     text.push_str("{\"system\":")?;
     add_text(text, entry.system)?;
-    text.push_str(",\"date\":")?;
-    add_text(text, entry.date)?;
-    text.push_str(",\"time\":")?;
-    add_text(text, entry.time)?;
+    add_moment(text, entry)?;
     text.push_str(",\"text\":")?;
     add_text(text, entry.text)?;
     text.push_str("}")
+}
+
+/// Appends the members for the moment of an entry.
+fn add_moment<A: Allocator>(text: &mut String<A>, entry: &LogEntry<'_>) -> Result<(), AllocError>
+    ensures { OnOk result (string_bytes text.new
+        ≡ string_bytes text.old ++ moment_members (shown_entry entry.now)) }
+{
+    text.push_str(",\"date\":")?;
+    add_text(text, entry.date)?;
+    text.push_str(",\"time\":")?;
+    add_text(text, entry.time)
 }
 
 /// Appends the jobs that wait.
@@ -161,11 +175,19 @@ fn add_pending_job<A: Allocator>(
 {
     text.push_str("{")?;
     add_job(text, &pending.job)?;
-    text.push_str(",\"bytes\":")?;
-    add_number(text, size_of(&pending.file))?;
-    text.push_str(",\"age\":")?;
-    add_number(text, age_of(&pending.file))?;
+    add_file(text, &pending.file)?;
     text.push_str("}")
+}
+
+/// Appends the members of the file of a job.
+fn add_file<A: Allocator>(text: &mut String<A>, file: &Option<SeenFile>) -> Result<(), AllocError>
+    ensures { OnOk result
+        (string_bytes text.new ≡ string_bytes text.old ++ file_members file.now) }
+{
+    text.push_str(",\"bytes\":")?;
+    add_number(text, size_of(file))?;
+    text.push_str(",\"age\":")?;
+    add_number(text, age_of(file))
 }
 
 /// Returns the size of a file, if there is one.

@@ -1,7 +1,8 @@
 //! The last session in a log.
+ghost use Rattle.std.specs.List.{position};
 ghost use Rattle.std.specs.Option.{option_copied, option_map};
 ghost use Rattle.std.specs.Prelude.{◌≡◌};
-ghost use Rattle.uug_pending.specs.LastSession.{date_in, entry_in, is_start, is_told, last_in, parts_in, shown_entry, shown_last, shown_parts, start_in, told_in};
+ghost use Rattle.uug_pending.specs.LastSession.{date_in, entry_in, is_space, is_start, is_told, last_in, parts_in, shown_entry, shown_last, shown_parts, start_in, told_in};
 
 use uug_talk::split_line;
 
@@ -113,6 +114,15 @@ fn date_in(word: &[u8]) -> Option<&[u8]>
 fn parts_in(text: &[u8]) -> Option<(&[u8], &[u8])>
     ensures { option_map shown_parts result ≡ parts_in text.now }
 {
-    let at = text.iter().position(|b| *b == b' ')?;
+    let Some(at) = space_in(text) else {
+        return None;
+    };
     Some((&text[..at], &text[at + 1..]))
+}
+
+/// Returns the place of the first space of a text.
+fn space_in(text: &[u8]) -> Option<usize>
+    ensures { result ≡ position is_space text.now }
+{
+    text.iter().position(|b| *b == b' ')
 }

@@ -3,7 +3,8 @@ ghost use Rattle.std.specs.Prelude.{◌≡◌, ◌∷◌, [], ◌++◌, IfOk, On
 ghost use Rattle.std.specs.Option.{option_map};
 ghost use Rattle.uug_folder.specs.JobsText.{job_words};
 ghost use Rattle.uug_pending.specs.LastSession.{shown_entry, shown_last, told_in};
-ghost use Rattle.uug_pending.specs.StatusText.{age_words, count_words, entry_line, failed_line, failed_lines, file_words, held_line, held_lines, last_lines, pending_line, pending_lines, session_words, span_words, status_text, told_line, told_lines, why_words};
+ghost use Rattle.uug_pending.specs.StatusText.{age_words, count_words, entry_line, failed_line, failed_lines, file_words, held_line, held_lines, last_lines};
+ghost use Rattle.uug_pending.specs.StatusText.{mark_line, moment_words, pending_line, pending_lines, session_words, span_words, status_text, told_line, told_lines, why_words};
 ghost use Rattle.uug_talk.specs.Lines.{lines};
 ghost use Rattle.uug_talk.specs.Words.{joined};
 
@@ -69,8 +70,20 @@ fn add_session<A: Allocator>(
     let Some(mark) = session else {
         return Ok(());
     };
-    text.push_str("session not over: its mark is there")?;
-    add_age(text, mark.age)?;
+    add_mark(text, "session not over: its mark is there", mark.age)
+}
+
+/// Appends the line of a mark of this age.
+fn add_mark<A: Allocator>(
+    text: &mut String<A>,
+    words: &str,
+    age: Option<u64>,
+) -> Result<(), AllocError>
+    ensures { OnOk result
+        (string_bytes text.new ≡ string_bytes text.old ++ mark_line words.now age) }
+{
+    text.push_str(words)?;
+    add_age(text, age)?;
     text.push_str("\n")
 }
 
@@ -128,13 +141,21 @@ fn add_entry<A: Allocator>(text: &mut String<A>, entry: &LogEntry<'_>) -> Result
 {
     text.push_str("session ")?;
     add_escaped(text, entry.system)?;
-    text.push_str(" ")?;
-    add_escaped(text, entry.date)?;
-    text.push_str(" ")?;
-    add_escaped(text, entry.time)?;
+    add_moment(text, entry)?;
     text.push_str(": ")?;
     add_escaped(text, entry.text)?;
     text.push_str("\n")
+}
+
+/// Appends the date and the time of an entry.
+fn add_moment<A: Allocator>(text: &mut String<A>, entry: &LogEntry<'_>) -> Result<(), AllocError>
+    ensures { OnOk result
+        (string_bytes text.new ≡ string_bytes text.old ++ moment_words (shown_entry entry.now)) }
+{
+    text.push_str(" ")?;
+    add_escaped(text, entry.date)?;
+    text.push_str(" ")?;
+    add_escaped(text, entry.time)
 }
 
 /// Appends the lines of the jobs that wait.

@@ -5,7 +5,7 @@ use Rattle.uug_pending.specs.LastSession.{last_from, last_in, shown_last}
 use Rattle.uug_pending.proofs.last_session.last_session.Given as goal
 
 abbrev pub invariant-loop-line : goal.invariant-loop-line
-invariant-loop-line g l = last_from (option_map shown_last l.last) (lines l.rest) ≡ last_in l.log
+invariant-loop-line l = last_from (option_map shown_last l.last) (lines l.rest) ≡ last_in l.log
 
 abbrev pub decreases-loop-line : goal.decreases-loop-line
-decreases-loop-line g l = length l.rest
+decreases-loop-line l = length l.rest
