@@ -437,14 +437,14 @@ unhappy() {
     fi
 }
 
-# refusing NAME SAID WORD..: an end that is called for two seconds says this of its caller.
+# refusing NAME SAID WORD..: an end that is called for four seconds says this of its caller.
 refusing() {
     local name=$1 said=$2 answerer
-    (cd "$work" && "${as_user[@]}" timeout 60 "$program" answer unix:line b --me beta --peer alpha --wait 2 \
+    (cd "$work" && "${as_user[@]}" timeout 60 "$program" answer unix:line b --me beta --peer alpha --wait 4 \
         >"$work/answered" 2>"$work/heard" </dev/null) &
     answerer=$!
     wait_for_socket "$work/line" || true
-    "${@:3}"
+    "${@:3}" || true
     wait "$answerer" || true
     if [ "$(head -n 1 "$work/heard")" = "uucpair: $said" ]; then
         passed=$((passed + 1))
@@ -623,7 +623,7 @@ folders "send x ~/y me"
 speaker '\x10Shere=beta\0' '\x10RBADSEQ\0'
 unhappy "an end that keeps a number" badsequence 'this end keeps no number' "${alpha[@]}"
 
-# heard_last NAME TEXT SAID: with -v it is said which text was heard last of an end that has closed the line behind this one.
+# heard_last NAME TEXT SAID: it is said which text was heard last of an end that has closed the line behind this one.
 heard_last() {
     local ended=0
     folders "send x ~/y me"
@@ -635,7 +635,7 @@ heard_last() {
     pause 0.5
     kill "$answerer"
     wait "$caller" || ended=$?
-    if [ "$ended" -eq 1 ] && grep -qxF "uucpair: heard last $3" "$work/said"; then
+    if [ "$ended" -eq 1 ] && grep -qxF "uucpair: heard $3, and then it hung up" "$work/said"; then
         passed=$((passed + 1))
     else
         failed=$((failed + 1))

@@ -170,7 +170,6 @@ def terminals_over_which_no_session_begins(one):
     ends_alone = "(line ends alone: both ends call, or a terminal is not raw: stty raw -echo)"
     both = "(one end has to call, and both answer; or a terminal echoes: stty raw -echo)"
     raw = "a terminal has to be raw: stty raw -echo"
-    os.mkdir(one.path("locks"))
     for what, verbs, cooked, hints in (
         ("both answer", ("answer", "answer"), None, (both, both)),
         ("both call", ("call", "call"), None, (ends_alone, ends_alone)),

@@ -285,7 +285,8 @@ def a_line_that_is_reset(one):
     # what it says then is left unread
     select.select([line], [], [], 10)
     line.close()
-    one.row("who calls", caller.end(20).all(), (1, report("caller", "hungup", pending=4), said("unix:reset: connection reset")))
+    one.row("who calls", caller.end(20).all(), (1, report("caller", "hungup", pending=4),
+            said('heard "Shere=beta", and then it hung up (it may not know the name of this end)', "unix:reset: connection reset")))
 
 
 @scene()

@@ -85,13 +85,15 @@ gone_words Caller = codes "the other end hung up, and said nothing (no uucico or
 gone_words Called = codes "the caller hung up, and said nothing (it may expect another name than that of --me)"
 
 -- the other end hung up in the greeting
-abbrev pub gone_hint : Side → List ℕ
-gone_hint Caller = codes ", and then it hung up (it may not know the name of this end)"
-gone_hint Called = codes ", and then the caller hung up (it may lack protocol g)"
+abbrev pub gone_hint : Side → (said : List ℕ) → List ℕ
+gone_hint Caller said =
+    if starts_with nat_eq said (codes "Shere")
+    then codes ", and then it hung up (it may not know the name of this end)" else codes ", and then it hung up"
+gone_hint Called said = codes ", and then the caller hung up (it may lack protocol g)"
 
 -- a text was heard, and then the other end hung up
 abbrev pub gone_behind_words : Side → (said : List ℕ) → List ℕ
-gone_behind_words side said = codes "heard " ++ (quoted said ++ gone_hint side)
+gone_behind_words side said = codes "heard " ++ (quoted said ++ gone_hint side said)
 
 -- a text was heard, and no answer to what was said then
 abbrev pub unanswered_words : (said : List ℕ) → List ℕ

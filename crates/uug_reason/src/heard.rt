@@ -181,15 +181,18 @@ fn add_gone<A: Allocator>(text: &mut String<A>, side: Side, said: &[u8]) -> Resu
 {
     text.push_str("heard ")?;
     add_quoted(text, said)?;
-    text.push_str(gone_hint(side))
+    text.push_str(gone_hint(side, said))
 }
 
-/// Returns that the other end hung up in the greeting, and what that may mean.
-fn gone_hint(side: Side) -> &'static str
-    ensures { result.now ≡ gone_hint side }
+/// Returns that the other end hung up in the greeting after this text, and what that may mean.
+fn gone_hint(side: Side, said: &[u8]) -> &'static str
+    ensures { result.now ≡ gone_hint side said.now }
 {
     match side {
-        Side::Caller => ", and then it hung up (it may not know the name of this end)",
+        Side::Caller if said.starts_with(b"Shere") => {
+            ", and then it hung up (it may not know the name of this end)"
+        }
+        Side::Caller => ", and then it hung up",
         Side::Called => ", and then the caller hung up (it may lack protocol g)",
     }
 }
