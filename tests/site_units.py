@@ -646,7 +646,7 @@ def rows_of_sessions(folder: Path) -> Iterator[Row]:
         yield f"folders {gives}, {takes}", sessions.folder_words(one, one.public), words
     one = Alternate(public="/p", gives=["~"], takes=["~"])
     words = sessions.words_of_session(Site(None, "me"), "call", "me", "far", one, lines.Line("port p", 0, 1, logged="ttyS0"))
-    yield "the name of the line", words[-2:], ["--port", "ttyS0"]
+    yield "the name of the line", words[-2:], ["--port-name", "ttyS0"]
     yield "words of a session", words[1:9] + words[9:11], [
         "call",
         "-",
@@ -951,7 +951,7 @@ def rows_of_numbers(folder: Path) -> Iterator[Row]:
     ):
         one = Alternate(sends=spans, called_send=sends, public="/p", gives=["~"], takes=["~"])
         found = answers.Answer(site, Peer().line, "Uany", options.Options()).words(logins.Admission("near", one), said)
-        yield f"the grade for who says {said!r}, {sends}", [word for word in found[found.index("--port") + 2 :]], words
+        yield f"the grade for who says {said!r}, {sends}", [word for word in found[found.index("--port-name") + 2 :]], words
     for what, one, texts in (
         ("a number", Alternate(counts=True), b"\x10Sme -Q1 -R\0"),
         ("a grade", Alternate(accepts=[times.Span(0, times.WEEK, "C")]), b"\x10Sme -pC -vgrade=C -R\0"),

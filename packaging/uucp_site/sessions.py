@@ -83,7 +83,7 @@ def words_of_session(site: Site, tool: str, me: str, system: str, alternate: Alt
         str(site.log),
         "--stats",
         str(site.stats),
-        "--port",
+        "--port-name",
         line.logged,
         *folder_words(alternate, public),
     ]

@@ -518,7 +518,7 @@ def a_public_file_that_cant_be_opened_for_a_moment(one):
 @scene()
 def what_an_end_offers_gives_and_takes(one):
     """--grade offers jobs of a grade and higher ones, or none; --no-give and --no-take shut the public folder, but not for the end's own
-    requests; --port names the line."""
+    requests; --port-name names the line."""
     for number, (options, sent, given, taken) in enumerate(((["--grade", "A"], "A", True, True), (["--grade", "0"], "", True, True),
             (["--grade=-"], "", True, True), (["--grade", "z"], "ABNz", True, True), (["--no-give"], "ABNz", False, True),
             (["--no-take"], "ABNz", True, False), (["--no-give", "--no-take", "--grade", "B"], "AB", False, False))):
@@ -532,7 +532,7 @@ def what_an_end_offers_gives_and_takes(one):
             nodes.queue(other, "C.A2", "S D.0002 ~/sent u -C D.0002 0644 ", _0002="sent\n")
             write(f"{nodes.at(ours, 'pub')}/open", "open\n")
             os.chmod(f"{nodes.at(ours, 'pub')}/open", 0o644)
-            nodes.talk(**{"call" if who == "alpha" else "answer": [*options, "--port", "ttyS5"]})
+            nodes.talk(**{"call" if who == "alpha" else "answer": [*options, "--port-name", "ttyS5"]})
             name = f"{' '.join(options)} at {who}"
             there = nodes.pub(other)
             one.row(f"{name}: what went", "".join(sorted(set(there) - {"asked", "open"})), "".join(sorted(sent)))

@@ -166,7 +166,7 @@ pub record IsEndIn (entries : Entries) (task : CallTask) : Type 0 where
   pub public : IsWordIn entries (codes "public") task.public
   pub stats : IsWordIn entries (codes "stats") task.stats
   pub grade : IsWordIn entries (codes "grade") task.grade
-  pub port : IsWordIn entries (codes "port") task.port
+  pub port : IsWordIn entries (codes "port-name") task.port
   pub is_giving : task.is_giving ≡ not (is_given entries (codes "no-give"))
   pub is_taking : task.is_taking ≡ not (is_given entries (codes "no-take"))
 

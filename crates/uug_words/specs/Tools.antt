@@ -114,7 +114,7 @@ file_rules =
     ∷ number_rule (codes "file-limit") (codes "67108864")
     ∷ number_rule (codes "keep-partials") (codes "30")
     ∷ flag_rule (codes "spool") ∷ word_rule (codes "public")
-    ∷ word_rule (codes "stats") ∷ word_rule (codes "grade") ∷ word_rule (codes "port")
+    ∷ word_rule (codes "stats") ∷ word_rule (codes "grade") ∷ word_rule (codes "port-name")
     ∷ flag_rule (codes "no-give") ∷ flag_rule (codes "no-take")
     ∷ verbose_rule ∷ []
 

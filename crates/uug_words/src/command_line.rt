@@ -175,7 +175,7 @@ fn end_task<'a>(side: Side, matches: &ArgMatches<'a>) -> CallTask<'a>
         public: word(matches, "public"),
         stats: word(matches, "stats"),
         grade: word(matches, "grade"),
-        port: word(matches, "port"),
+        port: word(matches, "port-name"),
         is_giving: !is_given(matches, "no-give"),
         is_taking: !is_given(matches, "no-take"),
         is_fail_status: is_given(matches, "fail-status"),

@@ -251,7 +251,7 @@ fn with_files<'a>(alloc: Global, command: Command<'a>) -> Result<Command<'a>, Al
         .arg(named(alloc, "public", "FOLDER", help::PUBLIC))?
         .arg(named(alloc, "stats", "FILE", help::STATS))?
         .arg(named(alloc, "grade", "G", help::GRADE))?
-        .arg(named(alloc, "port", "NAME", help::PORT))?
+        .arg(named(alloc, "port-name", "NAME", help::PORT))?
         .arg(flag(alloc, "no-give", help::NO_GIVE))?
         .arg(flag(alloc, "no-take", help::NO_TAKE))?
         .arg(verbose(
