@@ -5,7 +5,7 @@ ghost use Rattle.uug_spool.specs.SpoolNames.{is_system_name};
 ghost use Rattle.uug_spool_call.specs.Reported.{IsReported};
 ghost use Rattle.uug_stream.specs.Streams.{CountsFault};
 ghost use Rattle.uug_sys.specs.Callers.{other_than};
-ghost use Rattle.uug_sys.specs.SpoolCalls.{IsCallOf, line_fault};
+ghost use Rattle.uug_sys.specs.SpoolCalls.{IsCallOf, line_fault, port_of};
 ghost use Rattle.uug_sys.specs.SpoolLocks.{CallsLater, Says, is_locked, lock_words};
 ghost use Rattle.uug_transfer.specs.Writing.{TakesFront};
 
