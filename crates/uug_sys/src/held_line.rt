@@ -1,6 +1,6 @@
 //! The remark about a device that another run holds.
 ghost use Rattle.std.specs.Prelude.{◌≡◌, ◌++◌, IfOk, OnOk, string_bytes};
-ghost use Rattle.uug_sys.specs.HeldLines.{held_remark, held_words, unread_words};
+ghost use Rattle.uug_sys.specs.HeldLines.{between, held_remark, held_words, words_of};
 
 use std::alloc::{AllocError, Allocator};
 use std::rt::Files;
@@ -32,16 +32,36 @@ fn held_remark<A: Allocator>(
         string_bytes remark ≡ held_remark holder path.now device.now) }
 {
     let mut remark = String::from_str(alloc, "uucpair: ")?;
-    match holder {
-        Holder::Process(number) => add_held(&mut remark, number, path)?,
-        Holder::Unknown => add_unread(&mut remark, path)?,
-        Holder::Nobody => {
-            remark.push_str("it has no lock file: who has opened it is told by fuser ")?;
-            add_escaped(&mut remark, device.as_bytes())?;
-        }
-    }
+    add_holder(&mut remark, holder, path, device)?;
     remark.push_str("\n")?;
     Ok(remark)
+}
+
+/// Appends who holds a device, by the holder of the lock file at this path.
+fn add_holder<A: Allocator>(
+    text: &mut String<A>,
+    holder: Holder,
+    path: &str,
+    device: &str,
+) -> Result<(), AllocError>
+    ensures { OnOk result
+        (string_bytes text.new ≡ string_bytes text.old ++ words_of holder path.now device.now) }
+{
+    match holder {
+        Holder::Process(number) => add_held(text, number, path),
+        Holder::Unknown => add_between(
+            text,
+            "by ",
+            path,
+            ", which names no process: remove that file if nobody uses the line",
+        ),
+        Holder::Nobody => add_between(
+            text,
+            "it has no lock file: who has opened it is told by fuser ",
+            device,
+            "",
+        ),
+    }
 }
 
 /// Appends that this process holds the lock file.
@@ -54,12 +74,17 @@ fn add_held<A: Allocator>(text: &mut String<A>, number: u32, path: &str) -> Resu
     text.push_str(": call again when that has ended")
 }
 
-/// Appends that the lock file does not tell who holds it.
-fn add_unread<A: Allocator>(text: &mut String<A>, path: &str) -> Result<(), AllocError>
+/// Appends a path between two texts.
+fn add_between<A: Allocator>(
+    text: &mut String<A>,
+    front: &str,
+    path: &str,
+    behind: &str,
+) -> Result<(), AllocError>
     ensures { OnOk result
-        (string_bytes text.new ≡ string_bytes text.old ++ unread_words path.now) }
+        (string_bytes text.new ≡ string_bytes text.old ++ between front.now path.now behind.now) }
 {
-    text.push_str("by ")?;
+    text.push_str(front)?;
     add_escaped(text, path.as_bytes())?;
-    text.push_str(", which names no process: remove that file if nobody uses the line")
+    text.push_str(behind)
 }

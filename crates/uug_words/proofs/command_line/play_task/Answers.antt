@@ -26,26 +26,13 @@ returns-then-is_given-3 c = record {
   path = c.file-file.ensures;
 }
 
-pub returns-then-is_given-4 : goal.returns-then-is_given-4
-returns-then-is_given-4 c = record {
+pub returns-else-is_given-3 : goal.returns-else-is_given-3
+returns-else-is_given-3 c = record {
   plays = refl;
   options = rw (
     sym c.is_given.ensures ∙ c.if-is_given.false,
     sym c.is_given-else-is_given.ensures ∙ c.if-is_given-2.false,
     sym c.is_given-else-is_given-2.ensures ∙ c.if-is_given-3.false,
-    sym c.is_given-else-is_given-3.ensures ∙ c.if-is_given-4.true,
-  ) refl;
-  path = c.file-file.ensures;
-}
-
-pub returns-else-is_given-4 : goal.returns-else-is_given-4
-returns-else-is_given-4 c = record {
-  plays = refl;
-  options = rw (
-    sym c.is_given.ensures ∙ c.if-is_given.false,
-    sym c.is_given-else-is_given.ensures ∙ c.if-is_given-2.false,
-    sym c.is_given-else-is_given-2.ensures ∙ c.if-is_given-3.false,
-    sym c.is_given-else-is_given-3.ensures ∙ c.if-is_given-4.false,
   ) refl;
   path = c.file-file.ensures;
 }
