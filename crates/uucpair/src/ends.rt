@@ -305,7 +305,7 @@ fn failure_text(
     if let Cause::NotANumber = failure.cause {
         word = format!(in alloc; "{}", BadNumber)?;
     }
-    let reason = if is_refused_lock(failure) {
+    let reason = if is_refused_lock(&failure) {
         locks_line(alloc, call.locks, failure)?
     } else {
         let report = call.report.unwrap_or("");

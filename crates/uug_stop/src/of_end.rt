@@ -93,7 +93,7 @@ fn stop_of_system(
     ensures { StopsOnSystem (is_refused_lock failure) call.now failure
         (string_bytes remark) result }
 {
-    if is_refused_lock(failure) {
+    if is_refused_lock(&failure) {
         return says_reason(locks_line(alloc, call.locks, failure));
     }
     let output = output_named(call, failure.end);
@@ -103,8 +103,8 @@ fn stop_of_system(
 }
 
 /// Returns whether the system of one end refused to make a lock file.
-pub fn is_refused_lock(failure: SystemFailure) -> bool
-    ensures { result ≡ is_refused_lock failure }
+pub fn is_refused_lock(failure: &SystemFailure) -> bool
+    ensures { result ≡ is_refused_lock failure.now }
 {
     match (failure.resource, failure.cause) {
         (Resource::Dir, Cause::Refused(_, _)) => failure.end != 0,
