@@ -19,7 +19,7 @@ pub returns-in_ok-add_named-in-ReceivesFrom : goal.returns-in_ok-add_named-in-Re
 returns-in_ok-add_named-in-ReceivesFrom g c =
     let before = c.args.line.now.items in
     subst (λ (e : LogEvent). OnOk c.add_position-in-ReceivesFrom.result (c.add_position-in-ReceivesFrom.new.line.items
-        ≡ before ++ entry_text c.args.system.now (shown_event e)))
+    ≡ before ++ entry_text c.args.system.now (shown_event e)))
     (sym c.in-ReceivesFrom.is)
     (then_one _ before c.add_named-in-ReceivesFrom.new.line.items c.add_position-in-ReceivesFrom.new.line.items
     (codes "Receiving " ++ c.in-ReceivesFrom.file.now) (position_text c.in-ReceivesFrom.position)
