@@ -54,36 +54,60 @@ const LAST: LastSession<'static> = LastSession {
     behind: LOG,
 };
 
+/// Returns a job that sends, all of whose names are this one.
+fn send_of(name: Name) -> Job {
+    Job::Send {
+        source: name,
+        target: name,
+        user: name,
+        temp: None,
+    }
+}
+
+/// Returns a job that requests, all of whose names are this one.
+fn request_of(name: Name) -> Job {
+    Job::Request {
+        source: name,
+        target: name,
+        user: name,
+    }
+}
+
 /// Returns the status of a folder with jobs of each kind, whose names are this one.
 fn shown<A: Allocator>(alloc: A, name: Name, is_json: bool) -> Result<String<A>, AllocError> {
     let file = SeenFile {
         size: 9000,
         age: Some(7300),
     };
-    let send = Job::Send {
-        source: name,
-        target: name,
-        user: name,
-        temp: None,
-    };
-    let request = Job::Request {
-        source: name,
-        target: name,
-        user: name,
-    };
-    let pending = [(send, Some(file)), (send, None), (request, None)].map(|(job, file)| PendingJob {
-        job,
-        file,
-    });
+    let pending = [
+        PendingJob {
+            job: send_of(name),
+            file: Some(file),
+        },
+        PendingJob {
+            job: send_of(name),
+            file: None,
+        },
+        PendingJob {
+            job: request_of(name),
+            file: None,
+        },
+    ];
     let held = [HeldFile {
         name,
         whole: 60_000,
         held: file,
     }];
-    let failed = [(request, b"\xff \"".as_slice()), (send, b"")].map(|(job, why)| FailedJob {
-        job,
-        why,
-    });
+    let failed = [
+        FailedJob {
+            job: request_of(name),
+            why: b"\xff \"",
+        },
+        FailedJob {
+            job: send_of(name),
+            why: b"",
+        },
+    ];
     if is_json {
         status_json(alloc, &Some(file), &Some(LAST), &pending, &held, &failed)
     } else {
