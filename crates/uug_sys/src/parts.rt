@@ -8,6 +8,7 @@ ghost use Rattle.uug_task.specs.Tasks.{IsTask};
 use crate::numbers::Numbers;
 use crate::resumed::{partial_path, read_held};
 use std::alloc::{AllocError, Allocator};
+use std::fs;
 use std::fs::File;
 use std::rt::Files;
 use std::time::Clock;
@@ -114,21 +115,21 @@ fn see_given<A: Allocator + Copy, R: Files<File = File> + Eprint + Alloc + Clone
     match see_jobs(alloc, rt, lock.dir(), jobs) {
         Ok(()) => {
             let given = read_given(alloc, rt, lock, jobs, task.allowance());
-            tell_unqueued(rt, task, jobs, &given);
+            tell_unqueued(alloc, rt, task, &given);
             given
         }
         Err(fault) => Err(fault),
     }
 }
 
-/// Says of a calling end without jobs that it has files, and how they are sent.
-fn tell_unqueued<A: Allocator, R: Eprint>(
+/// Says of a calling end that has files, and never had a job, how they are sent.
+fn tell_unqueued<A: Allocator + Copy, R: Files + Eprint>(
+    alloc: A,
     rt: &R,
     task: &CallTask<'_>,
-    jobs: &[Job],
     given: &Result<Given<A>, RunFault>,
 ) {
-    if task.side == Side::Called || !jobs.is_empty() {
+    if task.side == Side::Called || has_jobs(alloc, rt, task.dir) {
         return;
     }
     if let Ok(given) = given {
@@ -138,6 +139,14 @@ fn tell_unqueued<A: Allocator, R: Eprint>(
                 "uucpair: no job sends the files in {dir}/send: make one by uucpair queue DIR send FILE\n"
             );
         }
+    }
+}
+
+/// Returns whether the file of jobs of this folder is there, or may be.
+fn has_jobs<A: Allocator, R: Files>(alloc: A, rt: &R, dir: &str) -> bool {
+    match format!(in alloc; "{dir}/jobs") {
+        Ok(path) => fs::metadata(rt, path.as_str()).is_ok(),
+        Err(AllocError) => true,
     }
 }
 
