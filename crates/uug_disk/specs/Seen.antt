@@ -1,4 +1,4 @@
--- What is seen of a file that is held, by the front of the text in which it is (this project's profile).
+-- Defines the view of a file that is held, by the front of the text in which it is (this project's profile).
 use Rattle.std.specs.Prelude.{◌-◌, ℕ, length, Option, Some, None}
 use Rattle.uug_conversation.specs.Partial.{Partial}
 use Rattle.uug_disk.specs.declared.seen_files.HeldFile.{HeldFile}

@@ -1,4 +1,4 @@
--- What is said of the bytes past a greeting, so that a wrong definition does not check.
+-- Works out the remarks on bytes past a greeting, so that a wrong definition does not check.
 use Rattle.std.proofs.Common.{◌≡◌, [], ◌∷◌, ◌++◌, codes, false, true, refl}
 use Rattle.std.specs.Fmt.{digits}
 use Rattle.uug_reason.specs.PassedWords.{passed_remark}

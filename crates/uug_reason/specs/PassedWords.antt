@@ -1,4 +1,4 @@
--- What is said of a session that gave up past its greeting, by the bytes that came then (this project's profile).
+-- Spells what is said of a session that gave up past its greeting, by the bytes that came then (this project's profile).
 use Rattle.std.specs.Fmt.{decimal}
 use Rattle.std.specs.Prelude.{◌==◌, ◌&&◌, ℕ, Bool, not, List, [], ◌++◌, codes, nat_le, if◌then◌else◌}
 use Rattle.uug_talk.specs.Lines.{ended}

@@ -40,7 +40,7 @@ pub(crate) struct Teller<'a, 'c, A: Allocator, R> {
 /// A session that is over.
 #[derive(Drop)]
 pub(crate) struct SessionOver<'e, A: Allocator> {
-    /// How it ended.
+    /// The phase in which it ended.
     pub(crate) phase: Phase,
     /// The jobs that are done, and those that were given up.
     pub(crate) struck: &'e [Job],

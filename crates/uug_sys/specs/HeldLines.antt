@@ -1,4 +1,4 @@
--- What is said of a device that another run holds (this project's profile).
+-- Spells what is said of a device that another run holds (this project's profile).
 use Rattle.std.specs.Fmt.{decimal}
 use Rattle.std.specs.Prelude.{ℕ, List, [], ◌++◌, codes}
 use Rattle.uug_locks.specs.declared.holder.Holder.{Holder}
