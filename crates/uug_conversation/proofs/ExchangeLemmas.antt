@@ -1,5 +1,5 @@
 -- The exchange of one job in front of what an end accords with: at the master's side, and at the slave's.
-use Rattle.std.proofs.Common.{◌≡◌, ℕ, ◌<◌, ◌≤◌, Bool, true, false, ◌&&◌, List, [], ◌∷◌, ◌++◌, length, drop, Option, Some, None, Ok, refl, sym, ap, ap₂, subst, ◌∙◌}
+use Rattle.std.proofs.Common.{◌≡◌, ℕ, ◌+◌, ◌<◌, ◌≤◌, Bool, true, false, ◌&&◌, List, [], ◌∷◌, ◌++◌, length, drop, Option, Some, None, Ok, refl, sym, ap, ap₂, subst, subst₂, ◌∙◌, arith}
 use Rattle.uug_digest.specs.declared.file_digest.FileDigest.{FileDigest}
 use Rattle.uug_talk.specs.Chunks.{Measure}
 use Rattle.uug_talk.specs.declared.answer.Answer.TheVariants as answer
@@ -26,11 +26,12 @@ use Rattle.uug_conversation.specs.ReadBack.{IsReadBack, EachTurn}
 use Rattle.uug_conversation.specs.Turns.{other, Said, the_order, the_answer, the_consent, the_giving, the_file, said_messages, all_messages, Turn}
 use Rattle.uug_conversation.specs.declared.side.Side.{Side}
 use Rattle.uug_conversation.specs.Told.{giving_said, heard, is_too_large, order_said, outcome, told_of, unless_too_large}
-use Rattle.std.proofs.lemmas.List.{append_assoc}
+use Rattle.std.proofs.lemmas.List.{append_assoc, length-append}
 use Rattle.std.proofs.lemmas.List.Folds.{concat-append}
 use Rattle.std.specs.List.{Contains, concat}
 use Rattle.uug_talk.proofs.GathersBackLemmas.{file_back}
-use Rattle.uug_conversation.specs.Left.{IsLeft, left_by}
+use Rattle.uug_conversation.specs.Left.{Advances, IsLeft, left_by}
+use Rattle.uug_conversation.proofs.AdvanceLemmas.{advances_by}
 use Rattle.uug_conversation.proofs.StoredLemmas.{Contains-head, Contains-tail}
 use Rattle.uug_conversation.proofs.ToldLemmas.{fits_given, given_is_taken}
 use Rattle.uug_conversation.proofs.TurnLemmas.{Fits, LeavesFronts, Open, said_kind, said_bytes, own_says, other_says}
@@ -286,9 +287,10 @@ module _ (measure_of : Side → Measure) (positive : (side : Side) → 0 < (meas
       heard h.digests (told_of giver.holdings.digests (Some file)) ≡ told → front_of h (fetched_by source temp) told ≡ front →
       GoesBehind giver.holdings.digests front file → (name : List ℕ) (mode : ℕ) → to_give giver.holdings (fetched_by source temp) ≡ Some file →
       Contains giver.jobs (job.Send source target user temp) → (came : List ℕ) → IsFront came (drop (length front) file.bytes) →
+      Advances giver.measure.size (length front + length (drop (length front) file.bytes)) (length front) (length front + length came) →
       IsLeft giver h (left_by h (awaits.SentFile (fetched_by source temp) name mode told h.limit) came)
-  sent_left source target user temp file front None is held well name mode given inside came is_front = tt
-  sent_left source target user temp file front (Some told) is held well name mode given inside came is_front = record {
+  sent_left source target user temp file front None is held well name mode given inside came is_front advances = tt
+  sent_left source target user temp file front (Some told) is held well name mode given inside came is_front advances = record {
     source = source;
     target = target;
     user = user;
@@ -303,20 +305,29 @@ module _ (measure_of : Side → Measure) (positive : (side : Side) → 0 < (meas
       sym (whole_again front file.bytes well.is_front) ∙ ap (λ z. front ++ z) is_front.1
           ∙ sym (append_assoc front came is_front.0) ∙ ap (λ z. (z ++ came) ++ is_front.0) (sym held),
     );
+    advances =
+        let bytes : length front + length (drop (length front) file.bytes) ≡ length file.bytes =
+        sym (length-append front (drop (length front) file.bytes)) ∙ ap length (whole_again front file.bytes well.is_front) in
+        subst (λ z. Advances giver.measure.size (length file.bytes) (length z) (length (z ++ came))) (sym held)
+        (subst₂ (λ whole after. Advances giver.measure.size whole (length front) after) bytes (sym (length-append front came)) advances);
   }
 
-  rest_left : (source target user : List ℕ) (temp : Option (List ℕ)) (file : File) (front : List ℕ) (told : Option FileDigest) →
+  rest_left : (measure_of (other me)).size ≡ giver.measure.size →
+      (source target user : List ℕ) (temp : Option (List ℕ)) (file : File) (front : List ℕ) (told : Option FileDigest) →
       heard h.digests (told_of giver.holdings.digests (Some file)) ≡ told → front_of h (fetched_by source temp) told ≡ front →
       GoesBehind giver.holdings.digests front file → (name : List ℕ) (mode : ℕ) (l : Lists) → to_give giver.holdings (fetched_by source temp) ≡ Some file →
       Contains giver.jobs (job.Send source target user temp) →
       LeavesFronts giver h l (awaits.SentFile (fetched_by source temp) name mode told h.limit) (said_messages (measure_of (other me)) (the_file (drop (length front) file.bytes)))
-  rest_left source target user temp file front told is held well name mode l given inside came rest e =
+  rest_left measured source target user temp file front told is held well name mode l given inside came rest e =
       let bytes = drop (length front) file.bytes in
       let whole = file_back (measure_of (other me)).size h.limit bytes (positive (other me)) in
-      sent_left source target user temp file front told is held well name mode given inside (concat came)
-      (concat rest, sym (ap (λ g. g.bytes) whole.whole) ∙ ap concat e ∙ concat-append came rest)
+      let both : bytes ≡ concat came ++ concat rest = sym (ap (λ g. g.bytes) whole.whole) ∙ ap concat e ∙ concat-append came rest in
+      let most : length (concat came) ≤ length bytes = omega (arith, ap length both, length-append (concat came) (concat rest)) in
+      sent_left source target user temp file front told is held well name mode given inside (concat came) (concat rest, both)
+      (subst (λ size. Advances size (length front + length bytes) (length front) (length front + length (concat came))) measured
+      (advances_by (measure_of (other me)).size (length front) bytes came rest (positive (other me)) e most))
 
-  send_as_slave : (source target user : List ℕ) (temp : Option (List ℕ)) (found : Option File) →
+  send_as_slave : (measure_of (other me)).size ≡ giver.measure.size → (source target user : List ℕ) (temp : Option (List ℕ)) (found : Option File) →
       to_give giver.holdings (fetched_by source temp) ≡ found → Contains giver.jobs (job.Send source target user temp) → (front : List ℕ) →
       ((file : File) → found ≡ Some file → front_of h (fetched_by source temp) (heard h.digests (told_of giver.holdings.digests (Some file))) ≡ front) →
       ((file : File) → found ≡ Some file → GoesBehind giver.holdings.digests front file) →
@@ -328,8 +339,8 @@ module _ (measure_of : Side → Measure) (positive : (side : Side) → 0 < (meas
       Fits giver h measure_of me (between l awaits.Order) [] ts →
       Fits giver h measure_of me (between l awaits.Order) []
       (send_exchange (other me) me giver.holdings.digests source target user temp found (h.landing source target) front verdict immovable next ts)
-  send_as_slave source target user temp None given inside front held well small verdict v immovable i next l ts back rest = rest
-  send_as_slave source target user temp (Some file) given inside front held well small Never v immovable i next l ts back rest =
+  send_as_slave measured source target user temp None given inside front held well small verdict v immovable i next l ts back rest = rest
+  send_as_slave measured source target user temp (Some file) given inside front held well small Never v immovable i next l ts back rest =
       hear_text {r = replies l awaits.Order (the_answer answer.SendNever ∷ [])} back.0 refl
       (λ front rest e. tt) (record { not_over = refl; not_bad = refl; not_parted = refl })
       (order_heard (order.Send source target user temp file.mode) (told_of giver.holdings.digests (Some file)) l back.0
@@ -337,7 +348,7 @@ module _ (measure_of : Side → Measure) (positive : (side : Side) → 0 < (meas
       (front_of h (fetched_by source temp) (heard h.digests (told_of giver.holdings.digests (Some file)))) (fetched_by source temp) (h.landing source target)
       file.mode (heard h.digests (told_of giver.holdings.digests (Some file))) l) v) refl refl
       (say back.1.0 rest)
-  send_as_slave source target user temp (Some file) given inside front held well small Later v immovable i next l ts back rest =
+  send_as_slave measured source target user temp (Some file) given inside front held well small Later v immovable i next l ts back rest =
       hear_text {r = replies l awaits.Order (the_answer answer.SendLater ∷ [])} back.0 refl
       (λ front rest e. tt) (record { not_over = refl; not_bad = refl; not_parted = refl })
       (order_heard (order.Send source target user temp file.mode) (told_of giver.holdings.digests (Some file)) l back.0
@@ -345,25 +356,25 @@ module _ (measure_of : Side → Measure) (positive : (side : Side) → 0 < (meas
       (front_of h (fetched_by source temp) (heard h.digests (told_of giver.holdings.digests (Some file)))) (fetched_by source temp) (h.landing source target)
       file.mode (heard h.digests (told_of giver.holdings.digests (Some file))) l) v) refl refl
       (say back.1.0 rest)
-  send_as_slave source target user temp (Some file) given inside front held well small Yes v false i next l ts back rest =
+  send_as_slave measured source target user temp (Some file) given inside front held well small Yes v false i next l ts back rest =
       let told = heard h.digests (told_of giver.holdings.digests (Some file)) in
       hear_text {r = replies l (awaits.SentFile (fetched_by source temp) (h.landing source target) file.mode told h.limit) (the_consent (length front) ∷ [])} back.0 refl
       (λ front rest e. tt) (record { not_over = refl; not_bad = refl; not_parted = refl })
       (consent_said giver.holdings.digests source target user temp file front (held file refl) (small file refl) v l back.0) refl refl
       (say back.1.0
       (hear_text {r = keeps (kept_as (h.landing source target) file) (replies l awaits.Order (the_answer answer.DoneYes ∷ []))} back.1.1.0 refl
-      (rest_left source target user temp file front told refl (held file refl) (well file refl) (h.landing source target) file.mode l given inside)
+      (rest_left measured source target user temp file front told refl (held file refl) (well file refl) (h.landing source target) file.mode l given inside)
       (record { not_over = refl; not_bad = refl; not_parted = refl })
       (rest_taken giver.holdings.digests (fetched_by source temp) (h.landing source target) file front (held file refl) (well file refl) false i l) refl refl
       (say back.1.1.1.0 rest)))
-  send_as_slave source target user temp (Some file) given inside front held well small Yes v true i next l ts back rest =
+  send_as_slave measured source target user temp (Some file) given inside front held well small Yes v true i next l ts back rest =
       let told = heard h.digests (told_of giver.holdings.digests (Some file)) in
       hear_text {r = replies l (awaits.SentFile (fetched_by source temp) (h.landing source target) file.mode told h.limit) (the_consent (length front) ∷ [])} back.0 refl
       (λ front rest e. tt) (record { not_over = refl; not_bad = refl; not_parted = refl })
       (consent_said giver.holdings.digests source target user temp file front (held file refl) (small file refl) v l back.0) refl refl
       (say back.1.0
       (hear_text {r = replies l awaits.Order (the_answer answer.DoneNever ∷ [])} back.1.1.0 refl
-      (rest_left source target user temp file front told refl (held file refl) (well file refl) (h.landing source target) file.mode l given inside)
+      (rest_left measured source target user temp file front told refl (held file refl) (well file refl) (h.landing source target) file.mode l given inside)
       (record { not_over = refl; not_bad = refl; not_parted = refl })
       (rest_taken giver.holdings.digests (fetched_by source temp) (h.landing source target) file front (held file refl) (well file refl) true i l) refl refl
       (say back.1.1.1.0 rest)))
@@ -403,26 +414,26 @@ module _ (measure_of : Side → Measure) (positive : (side : Side) → 0 < (meas
 
   -- ---- all jobs of the other end, at the slave's side: its own jobs don't move
 
-  job_as_slave : HoldsFronts giver.holdings h → TakesSizes giver.holdings h → (j : Job) → Contains giver.jobs j → (next : List Move) (l : Lists) (ts : List Turn) →
+  job_as_slave : (measure_of (other me)).size ≡ giver.measure.size → HoldsFronts giver.holdings h → TakesSizes giver.holdings h → (j : Job) → Contains giver.jobs j → (next : List Move) (l : Lists) (ts : List Turn) →
       EachTurn (λ t. IsReadBack h.limit t.said) (exchange (other me) me giver.holdings h j next ts) →
       Fits giver h measure_of me (between l awaits.Order) [] ts →
       Fits giver h measure_of me (between l awaits.Order) [] (exchange (other me) me giver.holdings h j next ts)
-  job_as_slave fronts sizes (job.Send source target user temp) inside next l ts back rest =
+  job_as_slave measured fronts sizes (job.Send source target user temp) inside next l ts back rest =
       let found = to_give giver.holdings (fetched_by source temp) in
-      send_as_slave source target user temp found refl inside (front_held h giver.holdings.digests (fetched_by source temp) found)
+      send_as_slave measured source target user temp found refl inside (front_held h giver.holdings.digests (fetched_by source temp) found)
       (λ file e. ap (λ z. front_held h giver.holdings.digests (fetched_by source temp) z) (sym e))
       (goes_behind giver.holdings h fronts (fetched_by source temp) found refl) (λ file e. sizes (fetched_by source temp) file e) (h.verdict (h.landing source target)) refl
       (h.immovable (h.landing source target)) refl next l ts back rest
-  job_as_slave fronts sizes (job.Request source target user) inside next l ts back rest =
+  job_as_slave measured fronts sizes (job.Request source target user) inside next l ts back rest =
       request_as_slave source target user (to_give h source) refl (h.delayed source) refl (giver.holdings.landing source target)
       (giver.holdings.immovable (giver.holdings.landing source target)) next l ts back rest
 
-  pub as_slave : HoldsFronts giver.holdings h → TakesSizes giver.holdings h → (jobs : List Job) → ((j : Job) → Contains jobs j → Contains giver.jobs j) → (l : Lists) (ts : List Turn) →
+  pub as_slave : (measure_of (other me)).size ≡ giver.measure.size → HoldsFronts giver.holdings h → TakesSizes giver.holdings h → (jobs : List Job) → ((j : Job) → Contains jobs j → Contains giver.jobs j) → (l : Lists) (ts : List Turn) →
       EachTurn (λ t. IsReadBack h.limit t.said) (exchanges (other me) me giver.holdings h jobs ts) →
       Fits giver h measure_of me (between l awaits.Order) [] ts →
       Fits giver h measure_of me (between l awaits.Order) [] (exchanges (other me) me giver.holdings h jobs ts)
-  as_slave fronts sizes [] inside l ts back rest = rest
-  as_slave fronts sizes (j ∷ jobs) inside l ts back rest =
-      job_as_slave fronts sizes j (inside j (Contains-head j jobs)) (choice giver.holdings jobs).failing l (exchanges (other me) me giver.holdings h jobs ts) back
-      (as_slave fronts sizes jobs (λ k i. inside k (Contains-tail j jobs k i)) l ts
+  as_slave measured fronts sizes [] inside l ts back rest = rest
+  as_slave measured fronts sizes (j ∷ jobs) inside l ts back rest =
+      job_as_slave measured fronts sizes j (inside j (Contains-head j jobs)) (choice giver.holdings jobs).failing l (exchanges (other me) me giver.holdings h jobs ts) back
+      (as_slave measured fronts sizes jobs (λ k i. inside k (Contains-tail j jobs k i)) l ts
       (behind_exchange (other me) me giver.holdings h j (choice giver.holdings jobs).failing (exchanges (other me) me giver.holdings h jobs ts) back) rest)

@@ -70,25 +70,25 @@ module _ (measure_of : Side → Measure) (positive : (side : Side) → 0 < (meas
 
   -- ---- the caller's H, and what comes behind
 
-  after_at_caller : (next : Option Order) (a b : Party) → Suit a b → (passed struck failed : List Job) →
+  after_at_caller : (next : Option Order) (a b : Party) → (measure_of Called).size ≡ b.measure.size → Suit a b → (passed struck failed : List Job) →
       EachTurn (λ t. IsReadBack a.holdings.limit t.said) (after_hang_up next a b) →
       Fits b a.holdings measure_of Caller
       (between (record { passed = passed; ahead = []; struck = struck; failed = failed }) awaits.HangUpAnswer) [] (after_hang_up next a b)
-  after_at_caller None a b fronts passed struck failed back =
+  after_at_caller None a b measured fronts passed struck failed back =
       agree_as_master Caller b a.holdings (record { passed = passed; ahead = []; struck = struck; failed = failed }) back
-  after_at_caller (Some next) a b fronts passed struck failed back =
+  after_at_caller (Some next) a b measured fronts passed struck failed back =
       let l : Lists = record { passed = passed; ahead = []; struck = struck; failed = failed } in
       hear_text measure_of positive Caller b a.holdings {r = replies l awaits.Order []} back.0 refl
       (λ front rest e. tt) (record { not_over = refl; not_bad = refl; not_parted = refl }) refl refl refl
-      (as_slave measure_of positive Caller b a.holdings fronts.of_called fronts.sizes_of_called b.jobs (λ j i. i) l last_turns back.1
+      (as_slave measure_of positive Caller b a.holdings measured fronts.of_called fronts.sizes_of_called b.jobs (λ j i. i) l last_turns back.1
       (last_at_caller b a.holdings passed struck failed
       (behind_exchanges measure_of positive Caller b a.holdings Called Caller b.holdings a.holdings b.jobs last_turns back.1)))
 
-  hang_up_at_caller : (a b : Party) → Suit a b → EachTurn (λ t. IsReadBack a.holdings.limit t.said) (hang_up a b) →
+  hang_up_at_caller : (a b : Party) → (measure_of Called).size ≡ b.measure.size → Suit a b → EachTurn (λ t. IsReadBack a.holdings.limit t.said) (hang_up a b) →
       Masters measure_of positive Caller b a.holdings [] (hang_up a b)
-  hang_up_at_caller a b fronts back passed struck failed =
+  hang_up_at_caller a b measured fronts back passed struck failed =
       say measure_of positive Caller b a.holdings back.0
-      (after_at_caller (choice b.holdings b.jobs).next a b fronts passed struck failed back.1)
+      (after_at_caller (choice b.holdings b.jobs).next a b measured fronts passed struck failed back.1)
 
   after_at_called : (next : Option Order) (a b : Party) → Suit a b → (choice b.holdings b.jobs).next ≡ next →
       EachTurn (λ t. IsReadBack b.holdings.limit t.said) (after_hang_up next a b) →
@@ -118,18 +118,18 @@ module _ (measure_of : Side → Measure) (positive : (side : Side) → 0 < (meas
 
   -- ---- the whole conversation
 
-  caller_accords : (a b : Party) → Suit a b → EachTurn (λ t. IsReadBack a.holdings.limit t.said) (conversation a b) →
+  caller_accords : (a b : Party) → (measure_of Called).size ≡ b.measure.size → Suit a b → EachTurn (λ t. IsReadBack a.holdings.limit t.said) (conversation a b) →
       FitsReply measure_of positive Caller b a.holdings (opening Caller a.holdings (at_start a.jobs [] [])) (conversation a b)
-  caller_accords a b fronts back =
+  caller_accords a b measured fronts back =
       as_master measure_of positive Caller b a.holdings b.holdings fronts.of_caller a.jobs (hang_up a b) back
-      (hang_up_at_caller a b fronts
+      (hang_up_at_caller a b measured fronts
       (behind_exchanges measure_of positive Caller b a.holdings Caller Called a.holdings b.holdings a.jobs (hang_up a b) back))
       [] [] []
 
-  called_accords : (a b : Party) → Suit a b → EachTurn (λ t. IsReadBack b.holdings.limit t.said) (conversation a b) →
+  called_accords : (a b : Party) → (measure_of Caller).size ≡ a.measure.size → Suit a b → EachTurn (λ t. IsReadBack b.holdings.limit t.said) (conversation a b) →
       FitsReply measure_of positive Called a b.holdings (opening Called b.holdings (at_start b.jobs [] [])) (conversation a b)
-  called_accords a b fronts back =
-      as_slave measure_of positive Called a b.holdings fronts.of_caller fronts.sizes_of_caller a.jobs (λ j i. i) (at_start b.jobs [] []) (hang_up a b) back
+  called_accords a b measured fronts back =
+      as_slave measure_of positive Called a b.holdings measured fronts.of_caller fronts.sizes_of_caller a.jobs (λ j i. i) (at_start b.jobs [] []) (hang_up a b) back
       (hang_up_at_called a b fronts
       (behind_exchanges measure_of positive Called a b.holdings Caller Called a.holdings b.holdings a.jobs (hang_up a b) back))
 
@@ -142,8 +142,8 @@ both_positive a b s t Called = t.size
 pub accords_from_opening : (a b : Party) → Suit a b → IsSound a → IsSound b →
     (me : Side) → let r = opening me (party me a b).holdings (at_start (party me a b).jobs [] []) in
     Accords (party (other me) a b) (party me a b).holdings (party me a b).measure r.state (all_messages (party me a b).measure r.says) (conversation_view me a b)
-accords_from_opening a b fronts s t Caller = (caller_accords (measures a b) (both_positive a b s t) a b fronts (conversation_back a b fronts s t Caller)).accords
-accords_from_opening a b fronts s t Called = (called_accords (measures a b) (both_positive a b s t) a b fronts (conversation_back a b fronts s t Called)).accords
+accords_from_opening a b fronts s t Caller = (caller_accords (measures a b) (both_positive a b s t) a b refl fronts (conversation_back a b fronts s t Caller)).accords
+accords_from_opening a b fronts s t Called = (called_accords (measures a b) (both_positive a b s t) a b refl fronts (conversation_back a b fronts s t Called)).accords
 
 pub first_law : (a b : Party) → Suit a b → IsSound a → IsSound b →
     (me : Side) (k : ℕ) → IsAt me a b k (progress_at me a b k)

@@ -1,9 +1,11 @@
 mod Accord
+mod AdvanceLemmas
 mod AlternationLemmas
 mod ChoiceLemmas
 mod ComparedFacts
 pub mod ComparingLemmas
 pub mod ConversationFacts
+mod CutSessionLemmas
 mod DialogueLemmas
 pub mod EarlierJobLemmas
 pub mod EarlyLemmas

@@ -1,5 +1,5 @@
 -- Defines the part that is left of a file whose session ends in its middle (this project's profile).
-use Rattle.std.specs.Prelude.{◌≡◌, ℕ, List, [], ◌∷◌, ◌++◌, length, drop, Contains, Option, Some, None}
+use Rattle.std.specs.Prelude.{◌≡◌, ℕ, ◌+◌, ◌<◌, ◌≤◌, List, [], ◌∷◌, ◌++◌, length, drop, Contains, Option, Some, None}
 use Rattle.uug_conversation.specs.declared.awaits.Awaits.{Awaits}
 use Rattle.uug_conversation.specs.declared.awaits.Awaits.TheVariants as awaits
 use Rattle.uug_conversation.specs.declared.job.Job.TheVariants as job
@@ -29,7 +29,14 @@ left_by h _ gathered = None
 abbrev pub left_of : Holdings → State → Option Partial
 left_of h s = left_by h s.awaits s.gathered
 
--- it is of a Send job of the giver: of the file that its holdings give to it, with what this end heard of that, and a front of its bytes
+-- in a file of `whole` bytes, which comes in messages of `size` bytes each but the last
+pub data Advances (size whole before after : ℕ) : Type 0 where
+  by_nothing : after ≡ before → Advances size whole before after
+  by_messages : before + size ≤ after → Advances size whole before after
+  to_its_end : before < after → after ≡ whole → Advances size whole before after
+
+-- it is of a Send job of the giver: of the file that its holdings give to it, with what this end heard of that, and a front of its
+-- bytes, which messages of the giver have brought behind what was held
 pub record IsLeftOf (giver : Party) (taker : Holdings) (p : Partial) : Type 0 where
   pub source : List ℕ
   pub target : List ℕ
@@ -41,6 +48,8 @@ pub record IsLeftOf (giver : Party) (taker : Holdings) (p : Partial) : Type 0 wh
   pub is_given : to_give giver.holdings p.key.source ≡ Some file
   pub is_told : heard taker.digests (told_of giver.holdings.digests (Some file)) ≡ Some p.key.told
   pub front : IsFront p.bytes file.bytes
+  pub advances :
+      Advances giver.measure.size (length file.bytes) (length (front_of taker p.key.source (Some p.key.told))) (length p.bytes)
 
 -- if anything is left, it is so
 abbrev pub IsLeft : (giver : Party) → (taker : Holdings) → Option Partial → Type 0

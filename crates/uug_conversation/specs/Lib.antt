@@ -5,6 +5,7 @@ pub mod Code
 pub mod Comparing
 pub mod Conversation
 pub mod Count
+pub mod CutSessions
 pub mod DialogueState
 pub mod DialogueValue
 pub mod EarlierJobs

@@ -1,12 +1,13 @@
 //! Laws of the conversation of two ends and of the one-sided machine. The functions do nothing.
-ghost use Rattle.std.specs.Prelude.{◌≡◌, ◌≢◌, ◌↔◌, ℕ, ◌<◌, ◌≤◌, Bool, true, false, List, [], length, Option, Some, None, Ok, Err};
+ghost use Rattle.std.specs.Prelude.{◌≡◌, ◌≢◌, ◌↔◌, ℕ, ◌+◌, ◌*◌, ◌<◌, ◌≤◌, Bool, true, false, List, [], length, Option, Some, None, Ok, Err};
 ghost use Rattle.uug_conversation.specs.Comparing.{AllFit, TellsTruly, told_awaited};
 ghost use Rattle.uug_conversation.specs.Conversation.{conversation};
+ghost use Rattle.uug_conversation.specs.CutSessions.{EachLeavesMore, Session};
 ghost use Rattle.uug_conversation.specs.DialogueState.{DialogueState, replied, taking};
 ghost use Rattle.uug_conversation.specs.Holdings.{File, Holdings, Kept, to_give};
 ghost use Rattle.uug_conversation.specs.Jobs.{Lists, moved_once, pass};
 ghost use Rattle.uug_conversation.specs.Left.{GoesOnBehind, IsLeft, left_of};
-ghost use Rattle.uug_conversation.specs.Partial.{Partial};
+ghost use Rattle.uug_conversation.specs.Partial.{Key, Partial};
 ghost use Rattle.uug_conversation.specs.Runs.{progress_at};
 ghost use Rattle.uug_conversation.specs.Machine.{State, gathered_with, goes_on, is_dropped, kind_awaited, on_past_limit, on_request_answer, on_text, opening, out_of_turn, reply_to, send_verdict, step};
 ghost use Rattle.uug_conversation.specs.OneEnd.{Act, AllAllowed, FollowsConversation, after_acts, link_up};
@@ -200,4 +201,12 @@ pub fn what_came_is_not_sent_again()
         → let giver = (party (other me) a b).holdings in let taker = (party me a b).holdings in
         taker.partials ≡ Some ps → left_of taker (progress_at me a b k).state ≡ Some p
         → GoesOnBehind giver taker p }
+{}
+
+/// States how many sessions a file takes at most, however each is cut off. If each of them brings at least one new message
+/// of it, `size` bytes long unless the file ends with it, a file of N bytes has come after N / `size` sessions, rounded up.
+pub fn a_file_takes_so_many_sessions()
+    ensures { (taker : Side) (key : Key) (file : File) (size : ℕ) (sessions : List Session) → 0 < size
+        → EachLeavesMore taker key file size 0 sessions
+        → length sessions * size < length file.bytes + size }
 {}
