@@ -30,8 +30,8 @@ PROMISES = (
     ("play_stream", ("script",), ()),
     ("play_stream", (), ()),
     ("Node::arrive", (), ("made", "made_so_far")),
-    ("laws::two_ends_keep_their_promises", (), ()),
-    ("laws::the_file_of_a_job_that_is_gone_was_kept", (), ()),
+    ("promises::two_ends_keep_their_promises", (), ()),
+    ("promises::the_file_of_a_job_that_is_gone_was_kept", (), ()),
     ("run_both", ("gone_jobs",), ()),
 )
 

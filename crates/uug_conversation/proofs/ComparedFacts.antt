@@ -1,8 +1,8 @@
 -- What an end does that compares digests, worked out by hand.
 use Rattle.std.proofs.Common.{◌≡◌, ℕ, true, List, [], ◌∷◌, codes, drop, Option, Some, None, refl, ap}
 use Rattle.hex.proofs.OnLiterals.{hex_on_literals}
-use Rattle.uug_digest.specs.Digests.{digest_of, told_by_answer, told_by_order}
-use Rattle.uug_digest.specs.declared.file_digest.FileDigest.{FileDigest}
+use Rattle.uug_talk.specs.Digests.{digest_of, told_by_answer, told_by_order}
+use Rattle.uug_talk.specs.declared.file_digest.FileDigest.{FileDigest}
 use Rattle.uug_talk.specs.declared.answer.Answer.TheVariants as answer
 use Rattle.uug_talk.specs.declared.gather.TheConstants.{FILE_MAX}
 use Rattle.uug_conversation.specs.declared.awaits.Awaits.TheVariants as awaits

@@ -1,8 +1,8 @@
 -- What is kept is what was told of, and what was told is what was heard.
 use Rattle.std.proofs.Common.{◌≡◌, ℕ, nat_lt, Bool, true, false, List, [], ◌∷◌, ◌++◌, length, Option, Some, None, Result, Ok, Err, refl, sym, ap, subst, ◌∙◌}
 use Rattle.std.proofs.lemmas.List.Elements.{All-nil, All-cons}
-use Rattle.uug_digest.specs.Digests.{digest_of, told_by_answer, told_by_order}
-use Rattle.uug_digest.specs.declared.file_digest.FileDigest.{FileDigest}
+use Rattle.uug_talk.specs.Digests.{digest_of, told_by_answer, told_by_order}
+use Rattle.uug_talk.specs.declared.file_digest.FileDigest.{FileDigest}
 use Rattle.uug_talk.specs.declared.answer.Answer.{Answer}
 use Rattle.uug_talk.specs.declared.answer.Answer.TheVariants as answer
 use Rattle.uug_talk.specs.declared.error.BadText.{BadText}

@@ -1,6 +1,6 @@
 -- The exchange of one job in front of what an end accords with: at the master's side, and at the slave's.
 use Rattle.std.proofs.Common.{◌≡◌, ℕ, ◌+◌, ◌<◌, ◌≤◌, Bool, true, false, ◌&&◌, List, [], ◌∷◌, ◌++◌, length, drop, Option, Some, None, Ok, refl, sym, ap, ap₂, subst, subst₂, ◌∙◌, arith}
-use Rattle.uug_digest.specs.declared.file_digest.FileDigest.{FileDigest}
+use Rattle.uug_talk.specs.declared.file_digest.FileDigest.{FileDigest}
 use Rattle.uug_talk.specs.Chunks.{Measure}
 use Rattle.uug_talk.specs.declared.answer.Answer.TheVariants as answer
 use Rattle.uug_talk.specs.declared.order.Order.{Order}
@@ -19,7 +19,7 @@ use Rattle.uug_conversation.specs.Holdings.{File, Kept, Holdings, to_give, kept_
 use Rattle.uug_conversation.specs.Jobs.{Lists, Move, pass, strike, fail, moved, moved_once}
 use Rattle.uug_conversation.specs.Party.{HoldsFronts, Party, TakesSizes}
 use Rattle.uug_conversation.specs.Resuming.{IsFront, front_held, front_of, position_heard}
-use Rattle.uug_digest.specs.Positions.{consent_text}
+use Rattle.uug_talk.specs.Positions.{consent_text}
 use Rattle.uug_talk.specs.Lenient.{is_held, or_wished, refused_letter_of}
 use Rattle.uug_conversation.specs.Machine.{State, Reply, between, replies, kind_awaited, on_whole, keeps, chooses, file_verdict, goes_on, on_send, on_request, on_order, on_send_answer, on_text, sends_file, on_request_answer, on_sent_file, on_asked_file}
 use Rattle.uug_conversation.specs.ReadBack.{IsReadBack, EachTurn}

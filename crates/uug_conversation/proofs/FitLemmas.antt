@@ -15,7 +15,7 @@ use Rattle.uug_conversation.specs.declared.side.Side.{Side}
 use Rattle.uug_conversation.specs.declared.side.Side.TheVariants.{Caller, Called}
 use Rattle.uug_conversation.specs.View.{view, conversation_view, own_messages, party}
 use Rattle.uug_talk.proofs.ChunkLemmas.{command_fits, file_fits}
-use Rattle.uug_digest.specs.Positions.{consent_text}
+use Rattle.uug_talk.specs.Positions.{consent_text}
 
 abbrev Fits : ℕ → List ℕ → Type 0
 Fits size message = length message ≤ size

@@ -14,7 +14,7 @@ use Rattle.uug_conversation.specs.Turns.{other, Said, the_order, the_answer, the
 use Rattle.uug_conversation.specs.declared.side.Side.{Side}
 use Rattle.uug_conversation.specs.declared.side.Side.TheVariants.{Caller, Called}
 use Rattle.uug_conversation.specs.View.{Seen, says, hears, view, floor, moves_after, kept_after}
-use Rattle.uug_digest.specs.Positions.{consent_text}
+use Rattle.uug_talk.specs.Positions.{consent_text}
 
 -- ---- nothing of the other's was taken
 

@@ -15,7 +15,7 @@ use Rattle.uug_conversation.specs.Outgoing.{Outgoing, IsSayable, IsWithin, is_si
 use Rattle.uug_conversation.specs.Reactions.{all_said, said_by}
 use Rattle.uug_conversation.specs.DialogueState.{is_empty}
 use Rattle.uug_conversation.specs.Turns.{Said, the_order, the_answer, the_consent, the_giving, the_file, the_refusal, said_messages, all_messages}
-use Rattle.uug_digest.specs.Positions.{consent_text}
+use Rattle.uug_talk.specs.Positions.{consent_text}
 
 -- ---- from any offset on there is a message
 

@@ -2,9 +2,9 @@
 use Rattle.std.proofs.Common.{◌≡◌, ℕ, ◌<◌, ◌≤◌, ◌^◌, Bool, true, false, List, [], ◌∷◌, length, drop, Option, Some, None, refl, arith}
 use Rattle.std.proofs.lemmas.List.Elements.{All-head, All-tail}
 use Rattle.std.specs.List.{All}
-use Rattle.uug_digest.specs.Digests.{IsSend, give_telling_text, order_telling_text}
-use Rattle.uug_digest.specs.declared.file_digest.FileDigest.{FileDigest}
-use Rattle.uug_digest.proofs.TellingLemmas.{IsSized, digest_is_sized, give_command, give_reads, give_tells, give_tells_none, order_command, order_reads, order_tells_it, order_tells_none}
+use Rattle.uug_talk.specs.Digests.{IsSend, give_telling_text, order_telling_text}
+use Rattle.uug_talk.specs.declared.file_digest.FileDigest.{FileDigest}
+use Rattle.uug_talk.proofs.TellingLemmas.{IsSized, digest_is_sized, give_command, give_reads, give_tells, give_tells_none, order_command, order_reads, order_tells_it, order_tells_none}
 use Rattle.uug_talk.specs.declared.answer.Answer.{Answer}
 use Rattle.uug_talk.specs.declared.answer.Answer.TheVariants as answer
 use Rattle.uug_talk.specs.declared.gather.TheConstants.{FILE_LIMIT_MAX}
@@ -36,8 +36,8 @@ use Rattle.uug_conversation.proofs.ResumingLemmas.{GoesBehind, front_short, goes
 use Rattle.uug_talk.proofs.OrderLemmas.{order_of-spelled}
 use Rattle.uug_talk.proofs.AnswerLemmas.{answer_of-spelled}
 use Rattle.uug_talk.proofs.WriteLemmas.{IsCommandText-order, IsCommandText-answer, ReadsOrder-written, ReadsAnswer-written}
-use Rattle.uug_digest.specs.Positions.{consent_text}
-use Rattle.uug_digest.proofs.PositionLemmas.{consent_command, consent_reads, consent_tells}
+use Rattle.uug_talk.specs.Positions.{consent_text}
+use Rattle.uug_talk.proofs.PositionLemmas.{consent_command, consent_reads, consent_tells}
 
 -- ---- a file that is given is there, and not too large
 

@@ -2,8 +2,8 @@
 use Rattle.std.proofs.Common.{◌≡◌, ℕ, ◌≤◌, Bool, true, false, ◌&&◌, nat_le, List, [], ◌∷◌, ◌++◌, length, drop, Option, Some, None, refl, sym, ap, subst, ◌∙◌, arith}
 use Rattle.std.proofs.lemmas.Bool.Decides.{nat_tests}
 use Rattle.std.proofs.lemmas.List.{length-append}
-use Rattle.uug_digest.specs.Positions.{consent_text, position_told}
-use Rattle.uug_digest.specs.declared.file_digest.FileDigest.{FileDigest}
+use Rattle.uug_talk.specs.Positions.{consent_text, position_told}
+use Rattle.uug_talk.specs.declared.file_digest.FileDigest.{FileDigest}
 use Rattle.uug_conversation.specs.Holdings.{File, Holdings, to_give}
 use Rattle.uug_conversation.specs.Left.{IsLeft}
 use Rattle.uug_conversation.specs.Partial.{Key, Partial}

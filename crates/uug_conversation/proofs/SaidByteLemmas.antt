@@ -6,11 +6,11 @@ use Rattle.std.proofs.lemmas.Bool.Decides.{nat_tests}
 use Rattle.std.proofs.lemmas.List.Elements.{All-nil, All-cons, All-head, All-tail, All-append, All-take, All-drop, All-replicate, All-weaker}
 use Rattle.std.specs.Int.{to_be_bytes, w32}
 use Rattle.hex.specs.Hex.{IsBytes, encode_lower, is_hex_digit}
-use Rattle.uug_digest.proofs.DigitLemmas.{encoded_digits, size_bytes}
-use Rattle.uug_digest.proofs.HashLemmas.{sha256_bytes}
-use Rattle.uug_digest.proofs.TellingLemmas.{give_joined, order_joined}
-use Rattle.uug_digest.specs.Digests.{digest_text, digest_words}
-use Rattle.uug_digest.specs.declared.file_digest.FileDigest.{FileDigest}
+use Rattle.uug_talk.proofs.DigitLemmas.{encoded_digits, size_bytes}
+use Rattle.uug_talk.proofs.HashLemmas.{sha256_bytes}
+use Rattle.uug_talk.proofs.TellingLemmas.{give_joined, order_joined}
+use Rattle.uug_talk.specs.Digests.{digest_text, digest_words}
+use Rattle.uug_talk.specs.declared.file_digest.FileDigest.{FileDigest}
 use Rattle.uug_packet.specs.Bytes.{AreBytes}
 use Rattle.uug_talk.specs.declared.answer.Answer.{Answer}
 use Rattle.uug_talk.specs.declared.answer.Answer.TheVariants as answer
@@ -42,7 +42,7 @@ use Rattle.uug_conversation.specs.declared.side.Side.{Side}
 use Rattle.uug_conversation.specs.declared.side.Side.TheVariants.{Caller, Called}
 use Rattle.uug_conversation.specs.View.{conversation_view, own_messages, view}
 use Rattle.uug_conversation.proofs.LimitLemmas.{given_file}
-use Rattle.uug_digest.specs.Positions.{consent_text, resuming_words}
+use Rattle.uug_talk.specs.Positions.{consent_text, resuming_words}
 
 abbrev IsByte : ℕ → Type 0
 IsByte b = b < 256

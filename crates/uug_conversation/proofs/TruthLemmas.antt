@@ -1,7 +1,7 @@
 -- Whatever comes, what an end tells is told of the files that its spool gives.
 use Rattle.std.proofs.Common.{ℕ, nat_lt, Bool, true, false, ◌&&◌, List, ◌∷◌, ◌++◌, length, Option, Some, None, Result, Ok, Err, refl}
-use Rattle.uug_digest.specs.Digests.{told_by_answer, told_by_order}
-use Rattle.uug_digest.specs.declared.file_digest.FileDigest.{FileDigest}
+use Rattle.uug_talk.specs.Digests.{told_by_answer, told_by_order}
+use Rattle.uug_talk.specs.declared.file_digest.FileDigest.{FileDigest}
 use Rattle.uug_talk.specs.declared.answer.Answer.{Answer}
 use Rattle.uug_talk.specs.declared.answer.Answer.TheVariants as answer
 use Rattle.uug_talk.specs.declared.error.BadText.{BadText}

@@ -23,7 +23,7 @@ use Rattle.uug_conversation.specs.View.{Seen, says, hears, seen, view, own_messa
 use Rattle.uug_conversation.proofs.Accord.{none_left, Listens, Does, Accords}
 use Rattle.uug_talk.proofs.GatherLemmas.{gathered_push}
 use Rattle.uug_talk.proofs.GathersBackLemmas.{command_back, file_back}
-use Rattle.uug_digest.specs.Positions.{consent_text}
+use Rattle.uug_talk.specs.Positions.{consent_text}
 
 seen-own : (me : Side) (bytes : List ℕ) (moves : List Move) (keeps : List Kept) → seen me me bytes moves keeps ≡ says bytes
 seen-own Caller bytes moves keeps = refl

@@ -1,6 +1,6 @@
 -- Whose turn it is (Taylor UUCP manual, "UUCP Protocol").
 use Rattle.std.specs.Prelude.{◌≡◌, ◌⊎◌, ⊤, ℕ, List, [], ◌∷◌, Option}
-use Rattle.uug_digest.specs.declared.file_digest.FileDigest.{FileDigest}
+use Rattle.uug_talk.specs.declared.file_digest.FileDigest.{FileDigest}
 use Rattle.uug_talk.specs.declared.answer.Answer.TheVariants.{DoneYes, DoneNever, HangNo}
 use Rattle.uug_talk.specs.declared.order.Order.{Order}
 use Rattle.uug_conversation.specs.Turns.{other, Said, the_order, the_answer, the_giving, the_file, Turn}

@@ -2,8 +2,8 @@
 -- takes (Taylor UUCP manual, "UUCP Protocol"; what becomes of a job, and what is out of turn, is this project's profile;
 -- so is all that a lenient end does in place of ending).
 use Rattle.std.specs.Prelude.{ℕ, nat_lt, Bool, true, false, ◌&&◌, List, [], ◌∷◌, ◌++◌, length, Option, Some, None, Result, Ok, Err}
-use Rattle.uug_digest.specs.Digests.{told_by_answer, told_by_order}
-use Rattle.uug_digest.specs.declared.file_digest.FileDigest.{FileDigest}
+use Rattle.uug_talk.specs.Digests.{told_by_answer, told_by_order}
+use Rattle.uug_talk.specs.declared.file_digest.FileDigest.{FileDigest}
 use Rattle.uug_talk.specs.declared.answer.Answer.{Answer}
 use Rattle.uug_talk.specs.declared.answer.Answer.TheVariants as answer
 use Rattle.uug_talk.specs.declared.error.BadText.{BadText}

@@ -14,7 +14,7 @@ use Rattle.uug_conversation.specs.Holdings.{Holdings}
 use Rattle.uug_conversation.specs.Reactions.{said_by}
 use Rattle.uug_conversation.specs.Told.{giving_said, order_said}
 use Rattle.uug_conversation.specs.Turns.{Said, the_order, the_answer, the_consent, the_giving, the_file, the_refusal, all_messages}
-use Rattle.uug_digest.specs.Positions.{consent_text}
+use Rattle.uug_talk.specs.Positions.{consent_text}
 
 pub record Outgoing : Type 0 where
   -- what is to be said, in order

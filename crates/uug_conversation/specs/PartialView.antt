@@ -1,6 +1,6 @@
 -- Reads the program's value of an end's partial files.
 use Rattle.std.specs.Prelude.{ℕ, List, map, Option, Some, None}
-use Rattle.uug_digest.specs.declared.file_digest.FileDigest.{FileDigest}
+use Rattle.uug_talk.specs.declared.file_digest.FileDigest.{FileDigest}
 use Rattle.uug_conversation.specs.declared.partial_file.PartialFile.{PartialFile}
 use Rattle.uug_conversation.specs.Partial.{Key, Partial}
 

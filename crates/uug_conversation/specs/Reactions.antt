@@ -1,6 +1,6 @@
 -- What the code of one end's machine answers, as what the end says.
 use Rattle.std.specs.Prelude.{◌≡◌, ℕ, ◌≤◌, ◌++◌, List, [], ◌∷◌, drop, Option, Some, None}
-use Rattle.uug_digest.specs.declared.file_digest.FileDigest.{FileDigest}
+use Rattle.uug_talk.specs.declared.file_digest.FileDigest.{FileDigest}
 use Rattle.uug_talk.specs.declared.answer.Answer.{Answer}
 use Rattle.uug_talk.specs.declared.answer.Answer.TheVariants as answer
 use Rattle.uug_talk.specs.declared.mode.TheConstants.{MODE_MAX}

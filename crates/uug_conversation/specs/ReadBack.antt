@@ -1,14 +1,14 @@
 -- What is said in a conversation comes back: it may be cut into messages, is read as what was said (Taylor UUCP manual, "UUCP
 -- Protocol"), and tells what was told of its file.
 use Rattle.std.specs.Prelude.{◌≡◌, ℕ, ◌≤◌, List, [], ◌∷◌, length, Ok}
-use Rattle.uug_digest.specs.Digests.{told_by_answer, told_by_order}
+use Rattle.uug_talk.specs.Digests.{told_by_answer, told_by_order}
 use Rattle.uug_talk.specs.Answer.{answer_of, answer_text}
 use Rattle.uug_talk.specs.Chunks.{IsCommandText}
 use Rattle.uug_talk.specs.Order.{order_of}
 use Rattle.uug_talk.specs.declared.answer.Answer.TheVariants.{GiveYes, SendYes}
 use Rattle.uug_conversation.specs.Told.{giving_said, order_said}
 use Rattle.uug_conversation.specs.Turns.{Said, the_order, the_answer, the_consent, the_giving, the_file, the_refusal, Turn}
-use Rattle.uug_digest.specs.Positions.{consent_text, position_told}
+use Rattle.uug_talk.specs.Positions.{consent_text, position_told}
 
 -- at an end that takes files of so many bytes
 abbrev pub IsReadBack : (limit : ℕ) → Said → Type 0

@@ -1,7 +1,7 @@
 -- From which byte on a file is sent (this project's profile).
 use Rattle.std.specs.Prelude.{◌≡◌, ℕ, nat_le, Bool, true, false, ◌&&◌, List, [], ◌∷◌, ◌++◌, length, drop, Option, Some, None}
-use Rattle.uug_digest.specs.Positions.{position_told}
-use Rattle.uug_digest.specs.declared.file_digest.FileDigest.{FileDigest}
+use Rattle.uug_talk.specs.Positions.{position_told}
+use Rattle.uug_talk.specs.declared.file_digest.FileDigest.{FileDigest}
 use Rattle.uug_conversation.specs.Holdings.{File, Holdings}
 use Rattle.uug_conversation.specs.Partials.{held_among}
 use Rattle.uug_conversation.specs.Told.{heard, told_of}

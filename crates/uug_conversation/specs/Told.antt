@@ -1,8 +1,8 @@
 -- What an end tells of a file, and what it makes of what it is told of one (this project's profile).
 use Rattle.std.specs.Prelude.{ℕ, nat_lt, Bool, true, false, ◌==◌, ◌&&◌, List, Option, Some, None, if◌then◌else◌}
 use Rattle.std.specs.Str.{bytes_eq}
-use Rattle.uug_digest.specs.Digests.{digest_of, give_telling_text, order_telling_text}
-use Rattle.uug_digest.specs.declared.file_digest.FileDigest.{FileDigest}
+use Rattle.uug_talk.specs.Digests.{digest_of, give_telling_text, order_telling_text}
+use Rattle.uug_talk.specs.declared.file_digest.FileDigest.{FileDigest}
 use Rattle.uug_talk.specs.Answer.{answer_text}
 use Rattle.uug_talk.specs.Order.{order_text}
 use Rattle.uug_talk.specs.declared.answer.Answer.TheVariants.{GiveYes}

@@ -2,8 +2,7 @@ ghost use Rattle.std.specs.Prelude.{IsTrue, ◌≡◌, ◌↔◌};
 ghost use Rattle.uug_talk.specs.Gathering.{OfFile, limit_of};
 ghost use Rattle.uug_conversation.specs.Machine.{comes_early, kind_awaited};
 
-use uug_digest::FileDigest;
-use uug_talk::Name;
+use uug_talk::{FileDigest, Name};
 
 /// The item that an end awaits from the other in a conversation.
 #[derive(Clone, Copy, Debug, PartialEq, Eq)]

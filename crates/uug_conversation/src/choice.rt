@@ -12,8 +12,7 @@ use crate::job::Job;
 use crate::queue::Queue;
 use crate::spool::{FileView, Spool};
 use std::alloc::Allocator;
-use uug_digest::FileDigest;
-use uug_talk::{Name, Order};
+use uug_talk::{FileDigest, Name, Order};
 
 /// Returns the file of this name that may be sent, if there is one.
 pub(crate) fn to_give<'a, S: Spool>(spool: &'a S, name: &Name) -> Option<FileView<'a>>

@@ -7,7 +7,7 @@ ghost use Rattle.uug_conversation.specs.Holdings.{to_give};
 ghost use Rattle.uug_conversation.specs.Reactions.{reply_of, said_before, gives_order, IsInRange, HasModeAnswered};
 ghost use Rattle.uug_conversation.specs.Resuming.{front_of, position_heard, rest_from};
 ghost use Rattle.uug_conversation.specs.Told.{heard, is_too_large, told_with};
-ghost use Rattle.uug_digest.specs.Digests.{told_by_answer, told_by_order};
+ghost use Rattle.uug_talk.specs.Digests.{told_by_answer, told_by_order};
 ghost use Rattle.uug_talk.specs.Answer.{answer_of};
 ghost use Rattle.uug_talk.specs.Lenient.{is_held, is_refusable, or_wished};
 ghost use Rattle.uug_talk.specs.Order.{HasMode};
@@ -21,9 +21,9 @@ use crate::reaction::{Reaction, Saying, Says};
 use crate::spool::Spool;
 use crate::verdict::Verdict;
 use std::alloc::Allocator;
-use uug_digest::{FileDigest, position_told, told_by_answer, told_by_order};
 use uug_talk::{
-    Answer, BadText, Name, Order, is_held, read_answer, read_order, read_wished, refused_letter,
+    Answer, BadText, FileDigest, Name, Order, is_held, position_told, read_answer, read_order,
+    read_wished, refused_letter, told_by_answer, told_by_order,
 };
 
 /// Continues as master: chooses the next job and says its command, after an answer if there is one.

@@ -14,8 +14,7 @@ use crate::spool::{FileView, KeepFault, Spool};
 use crate::stored::Stored;
 use crate::verdict::Verdict;
 use std::alloc::{AllocError, Allocator};
-use uug_digest::FileDigest;
-use uug_talk::{MODE_MAX, Name};
+use uug_talk::{FileDigest, MODE_MAX, Name};
 
 /// A spool whose files are in memory.
 #[derive(Drop)]

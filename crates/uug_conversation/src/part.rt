@@ -1,5 +1,5 @@
 ghost use Rattle.std.specs.Prelude.{◌≡◌, ◌≢◌, ◌+◌, ◌<◌, ◌≤◌, [], ◌∷◌, true, false, length, drop};
-ghost use Rattle.uug_digest.specs.Positions.{consent_text};
+ghost use Rattle.uug_talk.specs.Positions.{consent_text};
 ghost use Rattle.uug_talk.specs.Answer.{IsWritten, answer_text};
 ghost use Rattle.uug_talk.specs.Lenient.{is_refusable, refusal_text};
 ghost use Rattle.uug_talk.specs.Order.{HasMode};
@@ -13,11 +13,10 @@ ghost use Rattle.uug_conversation.specs.Told.{giving_said, order_said};
 use crate::choice::to_give;
 use crate::reaction::Saying;
 use crate::spool::Spool;
-use uug_digest::{FileDigest, give_telling, order_telling, write_consent};
 use uug_talk::laws::{file_goes_on, messages_fit};
 use uug_talk::{
-    Answer, Chunks, FILE_LIMIT_MAX, MESSAGE_MAX, Message, Order, refusal_text, write_answer,
-    write_order,
+    Answer, Chunks, FILE_LIMIT_MAX, FileDigest, MESSAGE_MAX, Message, Order, give_telling,
+    order_telling, refusal_text, write_answer, write_consent, write_order,
 };
 
 /// Writes the message at an offset in the text or file into `message`, and returns whether it is the last. It has at

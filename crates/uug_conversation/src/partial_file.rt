@@ -4,8 +4,7 @@ ghost use Rattle.uug_conversation.specs.Told.{is_same};
 ghost use Rattle.uug_conversation.specs.PartialView.{key_of, partial_of};
 
 use std::alloc::Allocator;
-use uug_digest::FileDigest;
-use uug_talk::Name;
+use uug_talk::{FileDigest, Name};
 
 /// The first bytes of a file that was cut off.
 #[derive(Drop)]

@@ -6,8 +6,7 @@ ghost use Rattle.uug_conversation.specs.PartialView.{key_of, partial_of, partial
 use crate::partial_file::{PartialFile, is_same};
 use std::alloc::{AllocError, Allocator};
 use std::marker::Model;
-use uug_digest::FileDigest;
-use uug_talk::Name;
+use uug_talk::{FileDigest, Name};
 
 /// The first bytes of files that were cut off, one of each name and digest.
 #[derive(Drop)]

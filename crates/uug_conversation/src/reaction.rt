@@ -3,8 +3,7 @@ ghost use Rattle.uug_conversation.specs.Machine.{awaits_answer_to};
 ghost use Rattle.uug_conversation.specs.Reactions.{says_nothing, fits_no_turn, gives_answer, gives_consent, gives_order, gives_refusal};
 
 use crate::awaits::Awaits;
-use uug_digest::FileDigest;
-use uug_talk::{Answer, Name, Order};
+use uug_talk::{Answer, FileDigest, Name, Order};
 
 /// An item said in one turn. It is a command with its file's announced digest, an answer, SY with the position from
 /// which its file is to be sent, RY with the file's mode and announced digest, a file, known by the name under which the

@@ -5,8 +5,7 @@ ghost use Rattle.uug_conversation.specs.Partials.{held_among};
 
 use crate::verdict::Verdict;
 use thiserror::Error;
-use uug_digest::FileDigest;
-use uug_talk::{FILE_LIMIT_MAX, MODE_MAX, Name};
+use uug_talk::{FILE_LIMIT_MAX, FileDigest, MODE_MAX, Name};
 
 /// A file that a spool lends.
 #[derive(Clone, Copy, Debug)]

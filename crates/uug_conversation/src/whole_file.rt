@@ -17,8 +17,7 @@ use crate::reaction::Reaction;
 use crate::spool::{KeepFault, Spool};
 use crate::verdict::Verdict;
 use std::alloc::{AllocError, Allocator};
-use uug_digest::FileDigest;
-use uug_talk::{Answer, MODE_MAX, Name};
+use uug_talk::{Answer, FileDigest, MODE_MAX, Name};
 
 /// The reason why a whole file was neither kept nor refused.
 #[derive(Clone, Copy)]

@@ -15,11 +15,10 @@ use std::io::ErrorKind;
 use std::rt::Files;
 use std::time::Clock;
 use std::{fs, io};
-use uug_digest::{FileDigest, TELLING_MAX};
 use uug_failure::Cause;
 use uug_folder::{Allowance, partial_text, read_partial};
 use uug_session::{PartialFile, Partials};
-use uug_talk::FILE_LIMIT_MAX;
+use uug_talk::{FILE_LIMIT_MAX, FileDigest, TELLING_MAX};
 
 /// The length of the name of such a file: a digest in hexadecimal digits.
 const DIGITS: usize = 64;

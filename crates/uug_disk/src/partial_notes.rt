@@ -6,11 +6,10 @@ use std::fs::{File, OpenFile, OpenOptions};
 use std::io::ErrorKind;
 use std::rt::Files;
 use std::{fs, io};
-use uug_digest::{FileDigest, NamedDigest};
 use uug_failure::write_again;
 use uug_folder::Notebook;
 use uug_session::PartialFile;
-use uug_talk::Name;
+use uug_talk::{FileDigest, Name, NamedDigest};
 
 /// The bytes that are written down at once.
 const STEP: usize = 16_384;

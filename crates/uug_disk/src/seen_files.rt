@@ -15,11 +15,10 @@ use std::io::{ErrorKind, Read, Seek, SeekFrom};
 use std::rt::Files;
 use std::time::Clock;
 use std::{fs, io};
-use uug_digest::TELLING_MAX;
 use uug_failure::{EndDir, RunFault};
 use uug_folder::read_partial;
 use uug_session::Job;
-use uug_talk::Name;
+use uug_talk::{Name, TELLING_MAX};
 
 /// The maximum number of bytes before those of the file in the text in which it is held: a line and its end.
 const HELD_LINE_MAX: u64 = TELLING_MAX as u64 + 1;

@@ -4,8 +4,8 @@ use Rattle.std.proofs.lemmas.Bool.Decides.{nat_tests}
 use Rattle.std.proofs.lemmas.List.Elements.{All-head, All-tail}
 use Rattle.std.specs.List.{position, position_or_len}
 use Rattle.uug_conversation.specs.Partial.{Partial}
-use Rattle.uug_digest.specs.Named.{named_text, read_named}
-use Rattle.uug_digest.specs.declared.named_digest.NamedDigest.{NamedDigest}
+use Rattle.uug_talk.specs.Named.{named_text, read_named}
+use Rattle.uug_talk.specs.declared.named_digest.NamedDigest.{NamedDigest}
 use Rattle.uug_folder.specs.PartialTexts.{partial_in, partial_named, partial_split}
 use Rattle.uug_talk.specs.Lines.{is_line_feed}
 

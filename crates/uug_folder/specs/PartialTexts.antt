@@ -3,8 +3,8 @@
 use Rattle.std.specs.Prelude.{ℕ, ◌+◌, List, ◌∷◌, ◌++◌, drop, take, Option, Some, None}
 use Rattle.std.specs.List.{position}
 use Rattle.uug_conversation.specs.Partial.{Partial}
-use Rattle.uug_digest.specs.Named.{named_text, read_named}
-use Rattle.uug_digest.specs.declared.named_digest.NamedDigest.{NamedDigest}
+use Rattle.uug_talk.specs.Named.{named_text, read_named}
+use Rattle.uug_talk.specs.declared.named_digest.NamedDigest.{NamedDigest}
 use Rattle.uug_talk.specs.Lines.{is_line_feed}
 
 abbrev pub partial_text : Partial → List ℕ

@@ -1,8 +1,8 @@
 ghost use Rattle.std.specs.Prelude.{◌≡◌, ◌+◌, max};
-ghost use Rattle.uug_digest.specs.declared.telling.TheConstants.{TELLING_MAX};
+ghost use Rattle.uug_talk.specs.declared.telling.TheConstants.{TELLING_MAX};
 
-use uug_digest::TELLING_MAX;
 use uug_session::FileLimit;
+use uug_talk::TELLING_MAX;
 
 /// The allowance of an end for the files that it reads for a session, and for those that it holds.
 #[derive(Clone, Copy)]

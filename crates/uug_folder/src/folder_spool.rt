@@ -10,9 +10,8 @@ use crate::folder::Folder;
 use std::alloc::{AllocError, Allocator};
 use std::marker::Model;
 use std::snapshot::Snapshot;
-use uug_digest::FileDigest;
 use uug_session::{FileView, KeepFault, Spool, Stored, Verdict};
-use uug_talk::{FILE_MAX, MODE_MAX, Name};
+use uug_talk::{FILE_MAX, FileDigest, MODE_MAX, Name};
 
 /// A spool that puts the files that it keeps in a folder. Clauses see the files that it has to give, those that it has
 /// kept, and the folder.

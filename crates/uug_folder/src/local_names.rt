@@ -11,9 +11,8 @@ use crate::notebook::Notebook;
 use std::alloc::Allocator;
 use std::marker::Model;
 use uug_conversation::has_name;
-use uug_digest::FileDigest;
 use uug_session::{FileLimit, FileView, KeepFault, Partials, Spool, Verdict};
-use uug_talk::Name;
+use uug_talk::{FileDigest, Name};
 
 /// The spool over a folder, for another end that names files as real systems do. `~/x` and `/x` are `x` in the folder.
 /// No other path is taken or given, nor a name with a dot in front. A file that is sent to `~/` or `/` goes into the

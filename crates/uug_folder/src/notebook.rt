@@ -1,5 +1,4 @@
-use uug_digest::FileDigest;
-use uug_talk::Name;
+use uug_talk::{FileDigest, Name};
 
 /// A place in which an end writes down what comes of a file, so that it isn't lost if the end is killed. What can't be
 /// written is left out.

@@ -6,8 +6,8 @@ ghost use Rattle.uug_folder.specs.PartialTexts.{partial_in, partial_text};
 ghost use Rattle.uug_talk.specs.Lines.{is_line_feed};
 
 use std::alloc::{AllocError, Allocator};
-use uug_digest::NamedDigest;
 use uug_session::PartialFile;
+use uug_talk::NamedDigest;
 
 /// Returns the text of that file: a line with the name, size and digest of the whole file, then the bytes that have come.
 pub fn partial_text<A: Allocator + Copy>(

@@ -31,7 +31,7 @@ use Rattle.uug_line.specs.JournalValue.{JournalValue, log_of}
 use Rattle.uug_line.specs.LineEndState.{LineEndState, after_call, called_with, holding, nothing_done}
 use Rattle.uug_line.specs.LineEndValue.{AreWritten, BeginsAgain, HasBegun, HasRoom, HoldsOn, IsCalled, IsNoted, IsOrdered, LineEndValue, hearer_of, leaves_spool, line_end_of, player_of, state_of}
 use Rattle.uug_line.proofs.SpokenLemmas.{Calls, does_so, steps_so}
-use Rattle.uug_events.proofs.HeldLemmas.{held_late, same_bytes}
+use Rattle.uug_session.proofs.HeldLemmas.{held_late, same_bytes}
 use Rattle.uug_session.proofs.CallLemmas.{late_beside, lost_beside, begun_with}
 use Rattle.uug_session.proofs.InRangeLemmas.{end_begins, first_words_can}
 

@@ -1,1 +1,3 @@
+pub mod CountLemmas
 mod LoggedFacts
+pub mod StandardFacts

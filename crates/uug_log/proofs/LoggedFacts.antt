@@ -1,12 +1,12 @@
 -- What an end has in its log of sessions and jobs, so that a wrong definition does not check.
 use Rattle.std.proofs.Common.{◌≡◌, ◌∷◌, [], true, false, codes, Some, refl}
 use Rattle.uug_conversation.specs.declared.side.Side.TheVariants.{Caller, Called}
-use Rattle.uug_follow.specs.declared.transfer.Outcome.TheVariants.{Done, Never, TooLarge, Later, Differs}
-use Rattle.uug_follow.specs.declared.transfer.Transfer.{Transfer}
-use Rattle.uug_follow.specs.declared.transfer.Wish.{Wish}
-use Rattle.uug_follow.specs.declared.transfer.Wish.TheVariants.{Send, Request}
-use Rattle.uug_follow.specs.declared.way.Way.{Way}
-use Rattle.uug_follow.specs.declared.way.Way.TheVariants.{Out, In}
+use Rattle.uug_log.specs.declared.transfer.Outcome.TheVariants.{Done, Never, TooLarge, Later, Differs}
+use Rattle.uug_log.specs.declared.transfer.Transfer.{Transfer}
+use Rattle.uug_log.specs.declared.transfer.Wish.{Wish}
+use Rattle.uug_log.specs.declared.transfer.Wish.TheVariants.{Send, Request}
+use Rattle.uug_log.specs.declared.way.Way.{Way}
+use Rattle.uug_log.specs.declared.way.Way.TheVariants.{Out, In}
 use Rattle.uug_log.specs.Logged.{end_text, job_entry, resumed_entry, start_entry}
 use Rattle.uug_spool.specs.LogLines.{called, calls, fault, receives, receives_from, sends, sends_from}
 

@@ -1,1 +1,5 @@
+pub mod Lines
 pub mod Logged
+pub mod Losses
+pub mod Paces
+pub mod Watched

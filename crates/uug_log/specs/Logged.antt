@@ -3,14 +3,14 @@ use Rattle.std.specs.Prelude.{◌/◌, ◌%◌, ℕ, Bool, true, false, List, []
 use Rattle.jiff_core.specs.declared.civil.datetime.DateTime.{DateTime}
 use Rattle.uug_conversation.specs.declared.side.Side.{Side}
 use Rattle.uug_conversation.specs.declared.side.Side.TheVariants.{Caller, Called}
-use Rattle.uug_follow.specs.Lines.{outcome_word, wish_word}
-use Rattle.uug_follow.specs.declared.transfer.Outcome.{Outcome}
-use Rattle.uug_follow.specs.declared.transfer.Outcome.TheVariants.{Done, Never, TooLarge, Later, Differs}
-use Rattle.uug_follow.specs.declared.transfer.Transfer.{Transfer}
-use Rattle.uug_follow.specs.declared.transfer.Wish.{Wish}
-use Rattle.uug_follow.specs.declared.transfer.Wish.TheVariants.{Send, Request}
-use Rattle.uug_follow.specs.declared.way.Way.{Way}
-use Rattle.uug_follow.specs.declared.way.Way.TheVariants.{Out, In}
+use Rattle.uug_log.specs.Lines.{outcome_word, wish_word}
+use Rattle.uug_log.specs.declared.transfer.Outcome.{Outcome}
+use Rattle.uug_log.specs.declared.transfer.Outcome.TheVariants.{Done, Never, TooLarge, Later, Differs}
+use Rattle.uug_log.specs.declared.transfer.Transfer.{Transfer}
+use Rattle.uug_log.specs.declared.transfer.Wish.{Wish}
+use Rattle.uug_log.specs.declared.transfer.Wish.TheVariants.{Send, Request}
+use Rattle.uug_log.specs.declared.way.Way.{Way}
+use Rattle.uug_log.specs.declared.way.Way.TheVariants.{Out, In}
 use Rattle.uug_scan.specs.Detailed.{escaped}
 use Rattle.uug_spool.specs.LogLines.{Entry, called, calls, fault, receives, receives_from, sends, sends_from}
 use Rattle.uug_spool.specs.declared.moment.Moment.{Moment}

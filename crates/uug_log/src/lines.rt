@@ -5,9 +5,11 @@ ghost use Rattle.uug_scan.specs.Detailed.{escaped};
 ghost use Rattle.uug_spool.specs.LogLines.{fault as fault_entry, log_line, over as over_entry};
 ghost use Rattle.uug_spool.specs.ShownLines.{shown_head};
 
+use crate::news_lines::{outcome_word, wish_word};
+use crate::transfer::{Outcome, Transfer, Wish};
+use crate::way::Way;
 use std::alloc::{AllocError, Allocator};
 use uug_conversation::Side;
-use uug_follow::{Outcome, Transfer, Way, Wish, outcome_word, wish_word};
 use uug_reason::add_escaped;
 use uug_spool::{LogEvent, LogHead, log_line};
 

@@ -4,10 +4,12 @@ ghost use Rattle.uug_log.specs.Logged.{is_refused_to_it};
 
 use crate::lines::{end_text, fault_line, job_line, over_line, resumed_line, start_line};
 use crate::log_file::LogFile;
+use crate::observer::Journal;
+use crate::transfer::{News, Outcome, Transfer};
+use crate::way::Way;
 use std::alloc::Allocator;
 use std::time::{Clock, Instant};
 use uug_conversation::Side;
-use uug_follow::{Journal, News, Outcome, Transfer, Way};
 use uug_talk::Name;
 
 /// The log of the sessions of an end, in a file. Results of a job are written once they are on the disk. An end over a

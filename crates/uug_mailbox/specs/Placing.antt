@@ -3,7 +3,7 @@ use Rattle.std.specs.Prelude.{◌&&◌, ◌||◌, ℕ, List, [], ◌∷◌, ◌+
 use Rattle.std.specs.List.{list_any}
 use Rattle.std.specs.Str.{bytes_eq}
 use Rattle.uug_talk.specs.Lines.{lines}
-use Rattle.uug_digest.specs.Digests.{hash_text}
+use Rattle.uug_talk.specs.Digests.{hash_text}
 use Rattle.uug_spool.specs.DiskOrder.{stored_ops}
 use Rattle.uug_spool.specs.Operations.{Op, folder_synced, unlinked}
 use Rattle.uug_spool.specs.SpoolNames.{begins_with, spot}

@@ -17,11 +17,10 @@ use crate::spool_folder::SpoolFolder;
 use std::alloc::{AllocError, Allocator};
 use std::snapshot::Snapshot;
 use uug_conversation::has_name;
-use uug_digest::FileDigest;
 use uug_folder::{Notebook, local_source};
 use uug_session::{FileLimit, FileView, KeepFault, Partials, Spool, Stored, Verdict};
 use uug_spool::Disk;
-use uug_talk::{MODE_MAX, Name};
+use uug_talk::{FileDigest, MODE_MAX, Name};
 
 /// The settings of an end over a spool.
 #[derive(Clone, Copy)]

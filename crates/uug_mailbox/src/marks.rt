@@ -5,9 +5,8 @@ ghost use Rattle.uug_talk.specs.Lines.{lines};
 ghost use Rattle.uug_mailbox.specs.Placing.{has_marker, has_same_text, is_again, is_data, is_mark, keeps, names_data, next_marks};
 
 use std::alloc::Allocator;
-use uug_digest::hash_text;
 use uug_spool::Room;
-use uug_talk::{Name, split_line};
+use uug_talk::{Name, hash_text, split_line};
 
 /// A marker that was there when the session began. Its file is in its place, or was used up there, and may be sent
 /// again.

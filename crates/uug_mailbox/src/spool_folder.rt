@@ -7,9 +7,8 @@ ghost use Rattle.uug_mailbox.specs.Placing.{again_ops, came_of, end_ops, mark_op
 use crate::marks::{Came, Marks, is_again, is_mark, keeps, next_marks};
 use crate::places::temp_name;
 use std::alloc::Allocator;
-use uug_digest::hash_text;
 use uug_spool::{Disk, DiskFailed, Room, Spot, store};
-use uug_talk::Name;
+use uug_talk::{Name, hash_text};
 
 /// The marks of a session without markers.
 const NO_MARKS: Marks = Marks {

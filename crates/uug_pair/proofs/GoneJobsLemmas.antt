@@ -11,11 +11,11 @@ use Rattle.uug_conversation.specs.Sides.{AtBoth, at}
 use Rattle.uug_conversation.specs.declared.job.Job.{Job}
 use Rattle.uug_conversation.specs.declared.side.Side.{Side}
 use Rattle.uug_conversation.specs.declared.side.Side.TheVariants.{Caller, Called}
-use Rattle.uug_ends.specs.Gone.{FileWasKept, IsGone}
-use Rattle.uug_ends.specs.TwoCourses.{EventAt, NoneIsFooled}
-use Rattle.uug_ends.specs.TwoNodes.{HaveRun, holdings_at, kept_by_both, lists_of}
-use Rattle.uug_events.specs.Beginnings.{AreSound, EndBeginning, IsSoundBeginning}
-use Rattle.uug_events.specs.NodeRuns.{HasRun}
+use Rattle.uug_pair.specs.Gone.{FileWasKept, IsGone}
+use Rattle.uug_pair.specs.TwoCourses.{EventAt, NoneIsFooled}
+use Rattle.uug_pair.specs.TwoNodes.{HaveRun, holdings_at, kept_by_both, lists_of}
+use Rattle.uug_session.specs.Beginnings.{AreSound, EndBeginning, IsSoundBeginning}
+use Rattle.uug_session.specs.NodeRuns.{HasRun}
 use Rattle.uug_folder.specs.JobsText.{IsQueueOf}
 use Rattle.uug_pair.specs.GoneJobs.{GoneJobsWereDone, of_both}
 use Rattle.uug_session.specs.Engine.{all_ahead}

@@ -1,3 +1,13 @@
+mod EndsFacts
+mod EventLemmas
 mod GoneJobsLemmas
+mod GoneLemmas
+mod HonestLemmas
+mod Joins
+mod MovedLemmas
 mod PairLemmas
 mod RunLemmas
+mod StandsLemmas
+mod StepJoins
+mod TwoCoursesLaw
+mod TwoNodesLaw

@@ -2,9 +2,9 @@
 use Rattle.std.proofs.Common.{◌≡◌, List, subst}
 use Rattle.uug_conversation.specs.Holdings.{Holdings, Kept}
 use Rattle.uug_conversation.specs.declared.side.Side.{Side}
-use Rattle.uug_events.specs.Beginnings.{EndBeginning}
-use Rattle.uug_events.specs.NodeRuns.{HasRun, IsLedByEvents}
-use Rattle.uug_events.proofs.NodeRunLemmas.{led_on}
+use Rattle.uug_session.specs.Beginnings.{EndBeginning}
+use Rattle.uug_session.specs.NodeRuns.{HasRun, IsLedByEvents}
+use Rattle.uug_session.proofs.NodeRunLemmas.{led_on}
 use Rattle.uug_session.specs.Node.{NodeState}
 use Rattle.uug_transfer.specs.BufferedNodes.{IsLed}
 

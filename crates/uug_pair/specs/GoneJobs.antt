@@ -4,11 +4,11 @@ use Rattle.uug_conversation.specs.Holdings.{Holdings, Kept}
 use Rattle.uug_conversation.specs.Sides.{AtBoth, at}
 use Rattle.uug_conversation.specs.declared.job.Job.{Job}
 use Rattle.uug_conversation.specs.declared.side.Side.{Side}
-use Rattle.uug_ends.specs.Gone.{FileWasKept, IsGone}
-use Rattle.uug_ends.specs.TwoCourses.{EventAt, NoneIsFooled}
-use Rattle.uug_ends.specs.TwoNodes.{HaveRun, holdings_at, kept_by_both, lists_of}
-use Rattle.uug_events.specs.Beginnings.{EndBeginning}
-use Rattle.uug_events.specs.NodeRuns.{HasRun}
+use Rattle.uug_pair.specs.Gone.{FileWasKept, IsGone}
+use Rattle.uug_pair.specs.TwoCourses.{EventAt, NoneIsFooled}
+use Rattle.uug_pair.specs.TwoNodes.{HaveRun, holdings_at, kept_by_both, lists_of}
+use Rattle.uug_session.specs.Beginnings.{EndBeginning}
+use Rattle.uug_session.specs.NodeRuns.{HasRun}
 use Rattle.uug_session.specs.Node.{NodeState}
 use Rattle.uug_task.specs.Tasks.{beginning_of}
 use Rattle.uug_task.specs.declared.end_parts.EndParts.{EndParts}

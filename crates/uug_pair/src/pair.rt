@@ -1,7 +1,7 @@
 //! Two folders, and the socket between their ends.
 ghost use Rattle.std.specs.Prelude.{◌≡◌, ◌≤◌, ◌<◌, ◌↔◌, ◌&&◌, false, IfErr, IfOk, IsSome};
-ghost use Rattle.uug_events.specs.Beginnings.{IsSoundBeginning};
-ghost use Rattle.uug_events.specs.NodeRuns.{HasRun};
+ghost use Rattle.uug_session.specs.Beginnings.{IsSoundBeginning};
+ghost use Rattle.uug_session.specs.NodeRuns.{HasRun};
 ghost use Rattle.uug_folder.specs.JobsText.{IsQueueOf};
 ghost use Rattle.uug_stream.specs.Streams.{CountsFault};
 ghost use Rattle.uug_transfer.specs.FaultInjection.{is_in_range};
@@ -14,6 +14,7 @@ ghost use Rattle.uug_task.specs.Tasks.{beginning_of};
 ghost use Rattle.uug_transfer.specs.BufferedNodes.{IsLed, node_in, spool_in};
 ghost use Rattle.uug_transfer.specs.EndOver.{IsEndFault};
 
+use crate::promises::the_file_of_a_job_that_is_gone_was_kept;
 use std::alloc::{AllocError, Allocator};
 use std::fs::File;
 use std::net::Net;
@@ -21,11 +22,10 @@ use std::rt::Files;
 use uug_disk::{
     DirLock, NoFile, OpenJobs, SystemFolder, SystemText, lock_dir, open_jobs, read_send,
 };
-use uug_ends::laws::the_file_of_a_job_that_is_gone_was_kept;
-use uug_events::laws::events_follow_events;
 use uug_failure::{EndDir, RunFault, SystemFailure};
 use uug_folder::FolderSpool;
 use uug_port::open_wire;
+use uug_session::event_laws::events_follow_events;
 use uug_session::{Side, Spool, Stored};
 use uug_stream::{Output, ToolFault};
 use uug_task::{EndParts, place_in_pair};

@@ -1,38 +1,41 @@
+pub mod ArrivingLemmas
 pub mod CallLemmas
-mod MadeLemmas
+pub mod CleanLineLemmas
+mod ComparedLemmas
+pub mod CourseLemmas
+pub mod EngineLemmas
+mod Facts
+pub mod FoundLemmas
+pub mod Greetings
+pub mod HeldLemmas
 pub mod InRangeLemmas
 mod KeeperLemmas
+pub mod LineEventLemmas
 mod LinkEndLemmas
 mod LongTextLemmas
-pub mod OwnRequestLemmas
-pub mod SameJobsLemmas
-pub mod ShownItemLemmas
-pub mod TextCallLemmas
-pub mod TextSearchLemmas
-mod TimeoutLemmas
-pub mod ToldLemmas
-pub mod TwoEndsLemmas
-pub mod ArrivingLemmas
-pub mod CleanLineLemmas
-pub mod CourseLemmas
-mod ComparedLemmas
-pub mod EngineLemmas
+mod MadeLemmas
+mod NextItemLemmas
 pub mod NodeCallLemmas
 pub mod NodeItemLemmas
-pub mod FoundLemmas
 pub mod NodeLemmas
+pub mod NodeRunLemmas
 pub mod NodeSearchLemmas
 pub mod NumberLemmas
 pub mod NumberStandingLemmas
-mod NextItemLemmas
+pub mod OverLemmas
+pub mod OwnRequestLemmas
+pub mod PacketSearchLemmas
 pub mod PiecesLemmas
 mod ResultLemmas
 pub mod RoomLemmas
 mod SaidTextsLemmas
-pub mod OverLemmas
+pub mod SameJobsLemmas
+pub mod ShownItemLemmas
 pub mod SpeakLemmas
 pub mod StepKeeps
+pub mod TextCallLemmas
+pub mod TextSearchLemmas
 pub mod TextsHeldLemmas
-pub mod PacketSearchLemmas
-mod Facts
-pub mod Greetings
+mod TimeoutLemmas
+pub mod ToldLemmas
+pub mod TwoEndsLemmas

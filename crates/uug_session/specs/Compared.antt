@@ -1,6 +1,6 @@
 -- What a node keeps and tells by digests, whatever comes to it (this project's profile).
 use Rattle.std.specs.Prelude.{◌≡◌, ℕ, List, Some}
-use Rattle.uug_digest.specs.declared.file_digest.FileDigest.{FileDigest}
+use Rattle.uug_talk.specs.declared.file_digest.FileDigest.{FileDigest}
 use Rattle.uug_talk.specs.Chunks.{Measure}
 use Rattle.uug_conversation.specs.Comparing.{AllFit, TellsTruly, told_awaited}
 use Rattle.uug_conversation.specs.DialogueState.{DialogueState, is_empty, opened_with, taking, with_first_sent}

@@ -1,4 +1,5 @@
 pub mod Arriving
+pub mod Beginnings
 pub mod Code
 pub mod Compared
 pub mod EndStep
@@ -8,11 +9,13 @@ pub mod Found
 pub mod Greeting
 pub mod GreetingCalls
 pub mod InRange
+pub mod LineEvents
 pub mod Node
 pub mod NodeArriving
 pub mod NodeCalls
 pub mod NodeGreeting
 pub mod NodeLoan
+pub mod NodeRuns
 pub mod NodeSteps
 pub mod NumberStanding
 pub mod PhaseWords

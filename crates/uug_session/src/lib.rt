@@ -1,4 +1,5 @@
-//! One end of a UUCP session: its greeting, its link and its conversation.
+//! One end of a UUCP session: its greeting, its link and its conversation. Its laws also describe an end by the events
+//! that happen to it: those that led a node from one state to another, and what comes at its line.
 #![tactic(auto)]
 
 mod arrive;
@@ -6,6 +7,7 @@ pub mod arriving_laws;
 mod end;
 pub mod end_laws;
 mod engine;
+pub mod event_laws;
 mod greeting;
 pub mod greeting_laws;
 mod greeting_text;

@@ -3,9 +3,9 @@ use Rattle.std.proofs.Common.{◌≡◌, ℕ, Bool, List, Option, Result, Ok, Er
 use Rattle.std.specs.Prelude.{IfOk, OnOk}
 use Rattle.uug_conversation.specs.Holdings.{Holdings, Kept}
 use Rattle.uug_conversation.specs.declared.side.Side.{Side}
-use Rattle.uug_events.proofs.NodeRunLemmas.{led_on}
-use Rattle.uug_events.specs.Beginnings.{EndBeginning, IsSoundBeginning}
-use Rattle.uug_events.specs.NodeRuns.{HasRun, IsLedByEvents}
+use Rattle.uug_session.proofs.NodeRunLemmas.{led_on}
+use Rattle.uug_session.specs.Beginnings.{EndBeginning, IsSoundBeginning}
+use Rattle.uug_session.specs.NodeRuns.{HasRun, IsLedByEvents}
 use Rattle.uug_session.specs.Engine.{IsEnded}
 use Rattle.uug_session.specs.Node.{NodeState}
 use Rattle.uug_stream.specs.Streams.{Appends}

@@ -2,8 +2,8 @@
 use Rattle.std.specs.Prelude.{◌≡◌, ℕ, Bool, List, Option, if◌then◌else◌}
 use Rattle.uug_conversation.specs.Holdings.{Holdings, Kept}
 use Rattle.uug_conversation.specs.declared.side.Side.{Side}
-use Rattle.uug_events.specs.Beginnings.{EndBeginning, IsSoundBeginning}
-use Rattle.uug_events.specs.NodeRuns.{HasRun}
+use Rattle.uug_session.specs.Beginnings.{EndBeginning, IsSoundBeginning}
+use Rattle.uug_session.specs.NodeRuns.{HasRun}
 use Rattle.uug_session.specs.Engine.{IsEnded}
 use Rattle.uug_session.specs.Node.{NodeState}
 use Rattle.uug_stream.specs.Streams.{Appends}

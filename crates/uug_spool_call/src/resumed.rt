@@ -8,12 +8,12 @@ use std::fs::File;
 use std::io::ErrorKind;
 use std::rt::Files;
 use std::time::Clock;
-use uug_digest::FileDigest;
 use uug_disk::{drop_partials, hold_partial, read_partials};
 use uug_failure::{Cause, Resource, SystemFailure};
 use uug_reason::reason_line;
 use uug_session::{Node, PartialFile, Partials};
 use uug_spool_disk::SpoolPaths;
+use uug_talk::FileDigest;
 
 /// Reads what an end holds of files that were cut off, if it resumes such files.
 pub(crate) fn read_held<A, R>(

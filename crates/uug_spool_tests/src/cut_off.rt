@@ -2,10 +2,9 @@
 
 use crate::assertions::{assert_same_at, assert_so_at, name};
 use std::alloc::{AllocError, Global};
-use uug_digest::FileDigest;
 use uug_folder::{partial_text, read_partial};
 use uug_session::{PartialFile, Partials};
-use uug_talk::Name;
+use uug_talk::{FileDigest, Name};
 
 /// The text that holds `ab` of the file `x`, which is `abc`.
 const TEXT: &str =

@@ -4,7 +4,6 @@ use crate::assertions::{assert_same_at, assert_so_at, name};
 use crate::logs::moment;
 use std::alloc::{AllocError, Global};
 use std::process::Abort;
-use uug_digest::FileDigest;
 use uug_folder::{partial_text, read_partial};
 use uug_mailbox::{WorkStore, add_file, queue_of};
 use uug_refusal::Refusing;
@@ -14,7 +13,7 @@ use uug_spool::{
     add_command_line, execution_text, log_line, name_said, quoted, read_command, stats_line,
     status_line,
 };
-use uug_talk::Name;
+use uug_talk::{FileDigest, Name};
 
 type Heap<'a> = &'a Refusing<Global>;
 

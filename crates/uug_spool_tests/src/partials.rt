@@ -4,8 +4,8 @@ use crate::assertions::{assert_same, assert_same_at, name};
 use crate::places::{Files, files};
 use std::alloc::Global;
 use std::process::Abort;
-use uug_digest::FileDigest;
 use uug_session::{PartialFile, Partials, Spool};
+use uug_talk::FileDigest;
 
 /// The bytes of the mail that have come.
 const FRONT: &[u8] = b"a m";

@@ -5,10 +5,10 @@ use std::alloc::{AllocError, Allocator};
 use std::fs::File;
 use std::rt::Files;
 use std::time::Clock;
-use uug_digest::FileDigest;
 use uug_disk::read_partials;
 use uug_session::{PartialFile, Partials};
 use uug_spool_call::hold_left;
+use uug_talk::FileDigest;
 use uug_task::CallTask;
 
 /// Reads what an end holds of files that were cut off, if it resumes such files.

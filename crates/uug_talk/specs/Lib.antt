@@ -2,6 +2,7 @@ pub mod Answer
 pub mod Call
 pub mod Chained
 pub mod Chunks
+pub mod Digests
 pub mod Gathering
 pub mod Hail
 pub mod HailCalls
@@ -11,8 +12,10 @@ pub mod Lines
 pub mod MessagesLeft
 pub mod Mode
 pub mod Name
+pub mod Named
 pub mod Number
 pub mod Order
+pub mod Positions
 pub mod Refusal
 pub mod StreamTexts
 pub mod Texts

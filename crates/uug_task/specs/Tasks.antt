@@ -7,7 +7,7 @@ use Rattle.uug_conversation.specs.Holdings.{Holdings, IsLimit, Kept}
 use Rattle.uug_conversation.specs.Jobs.{Lists}
 use Rattle.uug_conversation.specs.declared.side.Side.{Side}
 use Rattle.uug_conversation.specs.declared.side.Side.TheVariants as sides
-use Rattle.uug_events.specs.Beginnings.{EndBeginning}
+use Rattle.uug_session.specs.Beginnings.{EndBeginning}
 use Rattle.uug_session.specs.EndStep.{Identity}
 use Rattle.uug_session.specs.Engine.{BeginsSession, all_ahead}
 use Rattle.uug_session.specs.Node.{NodeState}

@@ -2,8 +2,8 @@
 ghost use Rattle.std.specs.Prelude.{◌≡◌, ◌≤◌, ◌⊎◌, [], All, IfErr, IfOk};
 ghost use Rattle.uug_conversation.specs.Jobs.{pending};
 ghost use Rattle.uug_conversation.specs.Party.{HasNames};
-ghost use Rattle.uug_events.specs.Beginnings.{IsSoundBeginning};
-ghost use Rattle.uug_events.specs.NodeRuns.{HasRun};
+ghost use Rattle.uug_session.specs.Beginnings.{IsSoundBeginning};
+ghost use Rattle.uug_session.specs.NodeRuns.{HasRun};
 ghost use Rattle.uug_link.specs.Announced.{announced};
 ghost use Rattle.uug_link.specs.Terms.{IsWindow};
 ghost use Rattle.uug_session.specs.Engine.{BeginsSession, HasFailed, all_ahead};
@@ -15,8 +15,8 @@ ghost use Rattle.uug_transfer.specs.BufferedNodes.{node_in, spool_in};
 ghost use Rattle.uug_transfer.specs.EndOver.{IsEndFault};
 
 use std::alloc::{AllocError, Allocator};
-use uug_events::laws::{a_node_begins_as_an_end, events_follow_events};
 use uug_folder::{JobTexts, JobsFile, TextFile};
+use uug_session::event_laws::{a_node_begins_as_an_end, events_follow_events};
 use uug_session::{Node, Place, Queue, Side, Spool};
 use uug_stream::{Output, ToolFault};
 use uug_transfer::{

@@ -3,11 +3,10 @@
 use crate::assertions::{assert_same, assert_so};
 use std::alloc::AllocGlobal;
 use std::process::Abort;
-use uug_digest::{
-    FileDigest, NamedDigest, give_telling, order_telling, position_told, told_by_answer,
-    told_by_order, write_consent,
+use uug_talk::{
+    FileDigest, Name, NamedDigest, Order, give_telling, order_telling, position_told,
+    told_by_answer, told_by_order, write_consent,
 };
-use uug_talk::{Name, Order};
 
 /// Commands, and whether each announces the size and the digest of the file `abc`.
 const COMMANDS: &[(&[u8], bool)] = &[

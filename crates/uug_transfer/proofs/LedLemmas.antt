@@ -2,8 +2,8 @@
 use Rattle.std.proofs.Common.{◌≡◌, ℕ, List, refl, sym, ap, subst, ◌∙◌}
 use Rattle.uug_conversation.specs.DialogueValue.{dialogue_has_parted}
 use Rattle.uug_conversation.specs.Holdings.{Holdings, Kept}
-use Rattle.uug_events.proofs.NodeRunLemmas.{calls_lead, led_by_none, led_by_one, led_on}
-use Rattle.uug_events.specs.NodeRuns.{IsLedByEvents}
+use Rattle.uug_session.proofs.NodeRunLemmas.{calls_lead, led_by_none, led_by_one, led_on}
+use Rattle.uug_session.specs.NodeRuns.{IsLedByEvents}
 use Rattle.uug_session.proofs.CallLemmas.{late_beside, lost_beside, with_talk}
 use Rattle.uug_session.specs.EndStep.{EndEffect, line_lost, time_ran_out, unmoved}
 use Rattle.uug_conversation.specs.DialogueState.{DialogueState}

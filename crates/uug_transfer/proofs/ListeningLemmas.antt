@@ -4,8 +4,8 @@ use Rattle.std.proofs.Math.Seq.{take-append-le}
 use Rattle.std.proofs.lemmas.List.{take-append-drop}
 use Rattle.uug_conversation.specs.DialogueValue.{dialogue_has_parted}
 use Rattle.uug_conversation.specs.Holdings.{Holdings, Kept}
-use Rattle.uug_events.proofs.LineEventLemmas.{ListensOn, end_listens, late_listens, listens_at_first, listens_cleared, listens_more, lost_listens, piece_listens}
-use Rattle.uug_events.specs.LineEvents.{HasListened, LineEvent, ListeningEnd, after_line_event, after_line_events, brings_bytes, brings_nothing, is_at_end, is_left, listening_at}
+use Rattle.uug_session.proofs.LineEventLemmas.{ListensOn, end_listens, late_listens, listens_at_first, listens_cleared, listens_more, lost_listens, piece_listens}
+use Rattle.uug_session.specs.LineEvents.{HasListened, LineEvent, ListeningEnd, after_line_event, after_line_events, brings_bytes, brings_nothing, is_at_end, is_left, listening_at}
 use Rattle.uug_link.specs.Entries.{EntryValue}
 use Rattle.uug_session.specs.Arriving.{Buffered}
 use Rattle.uug_session.proofs.CallLemmas.{late_beside}

@@ -10,7 +10,7 @@ use Rattle.uug_conversation.specs.Machine as machine
 use Rattle.uug_conversation.specs.Sharing.{OnlyMoves}
 use Rattle.uug_conversation.specs.declared.job.Job.{Job}
 use Rattle.uug_conversation.specs.declared.side.Side.{Side}
-use Rattle.uug_events.specs.NodeRuns.{IsLedByEvents, state_after}
+use Rattle.uug_session.specs.NodeRuns.{IsLedByEvents, state_after}
 use Rattle.uug_folder.proofs.OpenJobsLemmas.{HasGoneOn, nothing_told, only_moves, settled_holds, settled_least, unsettled_least}
 use Rattle.uug_folder.specs.Notices.{also_told, notice, notices}
 use Rattle.uug_folder.specs.NumberText.{HoldsNumber, IsNumberKept, holding_number}

@@ -4,7 +4,7 @@ use Rattle.uug_session.specs.Engine.{Does, EngineState, bare, stage_late, with_o
 use Rattle.uug_conversation.specs.Holdings.{Holdings, Kept}
 use Rattle.uug_session.specs.Node.{NodeState, node_of, struck_jobs}
 use Rattle.uug_session.specs.NodeArriving.{TakesAll}
-use Rattle.uug_events.specs.NodeRuns.{IsLedByEvents}
+use Rattle.uug_session.specs.NodeRuns.{IsLedByEvents}
 use Rattle.uug_conversation.specs.OwnRequests.{KeepsWhatItAskedFor}
 use Rattle.uug_conversation.specs.Sharing.{HaveSameJobs}
 use Rattle.uug_conversation.specs.DialogueValue.{dialogue_has_parted}

@@ -4,7 +4,7 @@ use Rattle.uug_conversation.specs.Holdings.{Holdings, Kept}
 use Rattle.uug_session.specs.Arriving.{Buffered}
 use Rattle.uug_session.specs.EndStep.{Emitted, Identity}
 use Rattle.uug_session.specs.Node.{NodeState}
-use Rattle.uug_events.specs.LineEvents.{HasListened, LineEvent, ListeningEnd, after_line_event, brings_bytes, brings_nothing, is_at_end, is_left, listening_at}
+use Rattle.uug_session.specs.LineEvents.{HasListened, LineEvent, ListeningEnd, after_line_event, brings_bytes, brings_nothing, is_at_end, is_left, listening_at}
 use Rattle.uug_transfer.specs.Received.{Received, line_end, piece, silence}
 
 -- what reads bring, of what comes at a line: an end that hangs up reads nothing

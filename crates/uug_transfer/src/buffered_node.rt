@@ -4,7 +4,7 @@ ghost use Rattle.uug_session.specs.Engine.{HasFailed, IsEnded, hung_up, with_out
 ghost use Rattle.uug_session.specs.Node.{node_of};
 ghost use Rattle.uug_session.specs.NumberStanding.{KeepsNumber};
 ghost use Rattle.uug_transfer.specs.Ends.{status_of};
-ghost use Rattle.uug_events.specs.NodeRuns.{IsLedByEvents};
+ghost use Rattle.uug_session.specs.NodeRuns.{IsLedByEvents};
 ghost use Rattle.uug_transfer.specs.BufferedNodes.{injector_in, node_in, spool_in, to_write, Hears, IsLate, IsLed, KeepsJobs, SendsOut, Waits};
 
 use crate::fault_injector::FaultInjector;

@@ -11,9 +11,8 @@ use super::script::assert_says;
 use super::{Left, MemoryNode, NOTHING, SEND, SENDER, Side, assert_ended, end, place};
 use std::alloc::{Allocator, Global};
 use std::process::Abort;
-use uug_digest::FileDigest;
 use uug_session::{End, FileView, KeepFault, Node, Queue, Spool, Stored, Verdict};
-use uug_talk::{FILE_MAX, Name};
+use uug_talk::{FILE_MAX, FileDigest, Name};
 
 /// A spool with no file to give. It takes every file, and keeps it under its own name, wherever it is sent. Its device
 /// fails at the first file.

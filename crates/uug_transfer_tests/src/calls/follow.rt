@@ -5,7 +5,7 @@ use crate::calls::assertions::{assert_same, assert_same_at};
 use arrayvec::ArrayVec;
 use std::alloc::Global;
 use std::process::Abort;
-use uug_follow::{
+use uug_log::{
     FileProgress, Journal, Mark, News, Observer, Outcome, Pace, Way, news_line, progress_line,
 };
 use uug_packet::{PACKET_MAX, Packet, Seq, encode};

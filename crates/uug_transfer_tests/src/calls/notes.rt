@@ -8,11 +8,10 @@ use std::process::Abort;
 use std::rt::Files;
 use std::time::Clock;
 use std::{fs, process};
-use uug_digest::FileDigest;
 use uug_disk::{PartialNotes, hold_partial, read_partials};
 use uug_folder::{Allowance, Notebook};
 use uug_session::{FileLimit, PartialFile};
-use uug_talk::Name;
+use uug_talk::{FileDigest, Name};
 
 /// The bytes that come before the first are written down.
 const FEW: usize = 16_383;

@@ -5,10 +5,9 @@ use super::scenes::NEVER;
 use crate::calls::assertions::assert_same;
 use std::alloc::{AllocError, Global};
 use std::process::Abort;
-use uug_digest::FileDigest;
 use uug_folder::{FolderSpool, LocalNames, NoNotebook};
 use uug_session::{FileLimit, PartialFile, Partials, Spool};
-use uug_talk::Name;
+use uug_talk::{FileDigest, Name};
 
 type Files = LocalNames<MemoryFolder, NoNotebook, Global>;
 

@@ -1,7 +1,7 @@
 use Rattle.std.proofs.Common.{◌≢◌, ◌++◌, ◌∷◌, ◌∙◌, All, ap, ap₂, refl, sym, subst}
 use Rattle.uug_conversation.specs.PartialView.{partial_of}
-use Rattle.uug_digest.specs.Named.{read_named}
-use Rattle.uug_digest.specs.declared.named_digest.NamedDigest.{NamedDigest}
+use Rattle.uug_talk.specs.Named.{read_named}
+use Rattle.uug_talk.specs.declared.named_digest.NamedDigest.{NamedDigest}
 use Rattle.uug_folder.proofs.PartialLemmas.{read_back}
 use Rattle.uug_folder.specs.PartialTexts.{partial_in}
 use Rattle.uug_folder.proofs.partial_file.partial_text.Goals as goal

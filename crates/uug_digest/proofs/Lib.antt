@@ -1,8 +1,0 @@
-mod DigestFacts
-pub mod DigitLemmas
-pub mod HashLemmas
-pub mod NamedLemmas
-mod PositionFacts
-pub mod PositionLemmas
-pub mod ReadLemmas
-pub mod TellingLemmas

@@ -1,6 +1,0 @@
-use Rattle.uug_ends.proofs.TwoCoursesLaw.{two_keep}
-use Rattle.uug_ends.proofs.laws.two_ends_keep_their_promises.Goals as goal
-
-pub returns : goal.returns
-returns c ends order sound none =
-    two_keep ends order sound none

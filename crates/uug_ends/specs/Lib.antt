@@ -1,4 +1,0 @@
-pub mod Courses
-pub mod Gone
-pub mod TwoCourses
-pub mod TwoNodes

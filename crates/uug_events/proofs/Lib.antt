@@ -1,3 +1,0 @@
-pub mod HeldLemmas
-pub mod LineEventLemmas
-pub mod NodeRunLemmas

@@ -1,6 +1,0 @@
-use Rattle.uug_events.proofs.NodeRunLemmas.{node_begins}
-use Rattle.uug_events.proofs.laws.a_node_begins_as_an_end.Goals as goal
-
-pub returns : goal.returns
-returns c side b entries n begins =
-    node_begins side b entries n begins

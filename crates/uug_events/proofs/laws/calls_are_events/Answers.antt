@@ -1,6 +1,0 @@
-use Rattle.uug_events.proofs.NodeRunLemmas.{calls_lead}
-use Rattle.uug_events.proofs.laws.calls_are_events.Goals as goal
-
-pub returns : goal.returns
-returns c h most calls added old new made =
-    calls_lead h most calls added old new made

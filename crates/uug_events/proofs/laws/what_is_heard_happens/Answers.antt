@@ -1,6 +1,0 @@
-use Rattle.uug_events.proofs.LineEventLemmas.{heard_leads}
-use Rattle.uug_events.proofs.laws.what_is_heard_happens.Goals as goal
-
-pub returns : goal.returns
-returns c h kept kept_after es emitted before after heard =
-    heard_leads h kept kept_after es emitted before after heard

@@ -1,4 +1,0 @@
-pub mod Lines
-pub mod Losses
-pub mod Paces
-pub mod Watched

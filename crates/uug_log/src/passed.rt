@@ -1,0 +1,71 @@
+//! The losses that the packets of one direction show.
+ghost use Rattle.std.specs.Prelude.{◌≡◌, None, Some, MatchOption};
+ghost use Rattle.uug_reader.specs.Shown.{item_of};
+ghost use Rattle.uug_log.specs.Losses.{next_message, passed_after};
+ghost use Rattle.uug_log.specs.Watched.{nothing_yet};
+
+use uug_packet::{Control, Packet};
+use uug_reader::Found;
+
+/// The numbers of packets of a kind that went one way, up to the greatest numbers that fit.
+#[derive(Clone, Copy, Debug, PartialEq, Eq)]
+pub struct Counts {
+    /// Rejects, selective ones too.
+    pub rejects: u64,
+    /// Data packets that were not the next one: they are sent once more, or one in front of them was lost.
+    pub repeats: u64,
+    /// Data packets with a wrong checksum or field.
+    pub damaged: u64,
+}
+
+/// The state of one direction.
+#[derive(Clone, Copy, Debug, PartialEq, Eq)]
+pub struct Passed {
+    /// The number of the data packet that is the next one.
+    pub next: u8,
+    pub counts: Counts,
+}
+
+impl Passed {
+    /// Begins with nothing. The first data packet has the number 1.
+    pub(crate) fn new() -> Self
+        ensures { result ≡ nothing_yet.passed }
+    {
+        Passed {
+            next: 1,
+            counts: Counts {
+                rejects: 0,
+                repeats: 0,
+                damaged: 0,
+            },
+        }
+    }
+
+    /// Takes what has passed. Returns the message of the next data packet.
+    pub(crate) fn take<'a>(&mut self, found: Found<'a>) -> Option<&'a [u8]>
+        ensures passed { self.new ≡ passed_after self.old (item_of found.entry) }
+        ensures message { MatchOption result
+            (next_message self.old.next (item_of found.entry) ≡ None)
+            (λ message. next_message self.old.next (item_of found.entry) ≡ Some message.now) }
+    {
+        match found {
+            Found::Bad => {
+                self.counts.damaged = self.counts.damaged.saturating_add(1);
+                None
+            }
+            Found::Packet(Packet::Control(Control::Rj(_) | Control::Srj(_))) => {
+                self.counts.rejects = self.counts.rejects.saturating_add(1);
+                None
+            }
+            Found::Packet(Packet::Control(_)) => None,
+            Found::Packet(Packet::Carry { seq, message, .. }) if seq.value() == self.next => {
+                self.next = (self.next + 1) % 8;
+                Some(message)
+            }
+            Found::Packet(Packet::Carry { .. }) => {
+                self.counts.repeats = self.counts.repeats.saturating_add(1);
+                None
+            }
+        }
+    }
+}
