@@ -1,12 +1,14 @@
-"""`status`: what it shows of a folder, in lines and as JSON, and that it changes nothing, also while a session runs."""
+"""`status`: what it shows of a folder or a spool, in lines and as JSON, and that it changes nothing, also while a session runs."""
 import json
 import os
 import re
+import subprocess
 import time
 
 from disks import NOBODY
 from lines import Cable
 from resumes import cut, digest, held
+from spools import AS_NOBODY, Nodes
 from suite import Ends, files_below, filler, masked, report, said, scene, text_of, wait_until, write
 
 EMPTY = '{"session":null,"log":[],"pending":[],"held":[],"failed":[]}\n'
@@ -37,11 +39,11 @@ def partial(ends, name, whole, size, seconds, text=None):
     return path
 
 
-def both(one, what, lines, parsed, **how):
-    """Adds rows for both texts: the lines, and the object with its ages within a minute."""
-    one.row(f"{what}: the lines", status(one, **how).all(), (0, "".join(f"{line}\n" for line in lines), ""))
-    ended = status(one, "--json", **how)
-    one.row(f"{what}: JSON's status", (ended.status, ended.err, ended.out.count("\n")), (0, "", 1))
+def both(one, what, lines, parsed, *words, told="", **how):
+    """Adds rows for both texts: the lines, and the object with its ages within a minute. This is told on standard error."""
+    one.row(f"{what}: the lines", status(one, *words, **how).all(), (0, "".join(f"{line}\n" for line in lines), told))
+    ended = status(one, "--json", *words, **how)
+    one.row(f"{what}: JSON's status", (ended.status, ended.err, ended.out.count("\n")), (0, told, 1))
     found = json.loads(ended.out)
     late = []
     for key in ("pending", "held"):
@@ -314,3 +316,234 @@ def mistakes_about_a_log(one):
     os.mkfifo(one.path("pipe"))
     for log, why in (("none", "no such file or directory"), ("alpha", "not a regular file"), ("pipe", "not a regular file")):
         one.row(log, status(one, "--log", log).all(), (3, "", said("device fault", f"can't read {log}", f"{log}: {why}")))
+
+
+# ---- of a spool
+
+
+def of(nodes, node="alpha", *words, peer=None):
+    """Returns the words of a status behind its folder: of the other node's part of a spool."""
+    return ("--spool", "--peer", peer or nodes.other(node), "--locks", nodes.at(node, "lock"), *words)
+
+
+def shown_at(one, nodes, node="alpha", *words, **how):
+    return status(one, *of(nodes, node, *words, **how), folder=nodes.at(node, "spool"))
+
+
+@scene("root", "uucp")
+def status_of_what_uucp_queued(one):
+    """Jobs that Debian's `uucp` and `uux` queue: of each line what goes where, and its data; by their grades."""
+    os.chmod(one.work, 0o755)
+    at = lambda name: one.path(f"uucp/{name}")
+    for folder in ("spool", "pub", "log", "lock", "src"):
+        os.makedirs(at(folder))
+    for name, lines in {
+        "config": ["nodename alpha", f"spool {at('spool')}", f"pubdir {at('pub')}", f"lockdir {at('lock')}", f"sysfile {at('sys')}",
+                   f"logfile {at('log/Log')}", f"statfile {at('log/Stats')}", f"debugfile {at('log/Debug')}", f"portfile {at('port')}"],
+        "port": ["port gate", "type tcp"],
+        "sys": [f"system {name}\ntime any\nport gate\nchat \"\"\nprotocol g\nlocal-send /\n" for name in ("beta", "gamma")],
+    }.items():
+        write(at(name), "".join(f"{line}\n" for line in lines))
+    for name, text in (("x", "hello\n"), ("y", "")):
+        aged(at(f"src/{name}"), 7300, text)
+    subprocess.run(["chown", "-R", "uucp:uucp", at("")], check=True)
+
+    def queue(program, *words, **how):
+        subprocess.run(["runuser", "-u", "uucp", "--", program, "-I", at("config"), "-r", *words], check=True, **how)
+
+    queue("uucp", "-gB", "-C", at("src/x"), "beta!~/x")
+    queue("uucp", "-gC", "-c", at("src/y"), "beta!~/y2")
+    queue("uucp", "-gA", "-C", at("src/y"), "beta!~/first")
+    queue("uucp", "-ga", "beta!~/asked", at("pub/got"))
+    queue("uucp", "-C", at("src/x"), "gamma!~/other")
+    queue("uux", "-gb", "-", "beta!rmail", "(you@beta)", input=b"a mail\n")
+    for number, seconds in ((1, 600), (3, 200_000), (4, 90)):
+        aged(at(f"spool/beta/D./D.000{number}"), seconds)
+    src, got, before = at("src"), at("pub/got"), files_below(at(""))
+    lines = [
+        "5 pending, 0 held, 0 failed",
+        f"pending send {src}/y ~/first uucp: 0 bytes, 2 d old",
+        f"pending send {src}/x ~/x uucp: 6 bytes, 10 min old",
+        f"pending send {src}/y ~/y2 uucp: 0 bytes, 2 h old",
+        f"pending request ~/asked {got} uucp",
+        "pending send D.0004 D.alphab0004 uucp: 7 bytes, 1 min old",
+    ]
+    sent = lambda source, target, size, age: {**job("send", source, target, bytes=size, age=age), "user": "uucp"}
+    parsed = {"session": None, "log": [], "held": [], "failed": [], "pending": [
+        sent(f"{src}/y", "~/first", 0, 200_000), sent(f"{src}/x", "~/x", 6, 600), sent(f"{src}/y", "~/y2", 0, 7300),
+        {**job("request", "~/asked", got, bytes=None, age=None), "user": "uucp"}, sent("D.0004", "D.alphab0004", 7, 90),
+    ]}
+    # an object has its members in this order
+    parsed = {key: parsed[key] for key in ("session", "log", "pending", "held", "failed")}
+    words = ("--spool", "--peer", "beta", "--locks", at("lock"))
+    both(one, "what uucp queued", lines, parsed, *words, folder=at("spool"))
+    one.row("nothing is changed", files_below(at("")), before)
+    queue("uucp", "beta!~/w*", "~/")
+    ended = status(one, *words, folder=at("spool"))
+    one.row("a wildcard for the other system", (ended.status, ended.out.splitlines(), re.sub("C.N[^:]*", "C.N", ended.err)),
+            (0, lines, said("C.N: a line that can't be sent stays")))
+
+
+@scene()
+def what_status_shows_of_a_spool(one):
+    """The lines of C. files that are not over, what is held, and the lock file of a session: of the system that is named."""
+    nodes = Nodes(one)
+    src, spool = nodes.at("alpha", "src"), nodes.at("alpha", "spool")
+    empty = {"session": None, "log": [], "pending": [], "held": [], "failed": []}
+    nodes.known("alpha", "beta")
+    both(one, "an empty spool", ["0 pending, 0 held, 0 failed"], empty, *of(nodes), folder=spool)
+    one.row("its JSON", shown_at(one, nodes, "alpha", "--json").out, EMPTY)
+    nodes.queue("alpha", "C.Z1", f"S {src}/gone ~/gone me -c D.0 0644 ", "", f"S {src} ~/folder me -c D.0 0644 ", f"S {src}/x ~/x me -c D.0 0644 ",
+                "S ~/x ~/over me -C D.0001 0644 ", "S ~/x ~/copied me -C D.0002 0644 ", "R ~/q /tmp/q me -d", _0002="copied\n")
+    nodes.mail("alpha", "0003", "mail\n")
+    nodes.queue("alpha", "C.A9", "S ~/z ~/z me -C D.X0004 0644 ", system="beta")
+    write(f"{spool}/beta/D.X/D.X0004", "text\n")
+    nodes.queue("alpha", "C.A1", "S ~/other ~/other me -C D.0002 0644 ", system="gamma", _0002="other\n")
+    for name, seconds in (("src/x", 90), ("spool/beta/D./D.0002", 3660), ("spool/beta/D./D.0003", 600), ("spool/beta/D.X/D.X0004", 200_000)):
+        aged(nodes.at("alpha", name), seconds, "x\n" if name == "src/x" else None)
+    text = filler("long", 60_000)
+    for system, size in (("beta", 23_000), ("gamma", 5)):
+        aged(f"{spool}/.Partial/{system}/{digest(text)}", 7300, f'long "" 0x{60_000:08x} sha256:{digest(text)}\n{text[:size]}')
+    write(nodes.at("alpha", "lock/LCK..gamma"), "")
+    lines = [
+        "7 pending, 1 held, 0 failed",
+        "pending send ~/z ~/z me: 5 bytes, 2 d old",
+        "pending send D.0003 D.alphaN0003 u: 5 bytes, 10 min old",
+        f"pending send {src}/gone ~/gone me: no file",
+        f"pending send {src} ~/folder me: no file",
+        f"pending send {src}/x ~/x me: 2 bytes, 1 min old",
+        "pending send ~/x ~/copied me: 7 bytes, 1 h old",
+        "pending request ~/q /tmp/q me",
+        "held long: 23000 of 60000 bytes, 2 h old",
+    ]
+    none = {"bytes": None, "age": None}
+    parsed = {**empty, "pending": [
+        job("send", "~/z", "~/z", bytes=5, age=200_000), {**job("send", "D.0003", "D.alphaN0003", bytes=5, age=600), "user": "u"},
+        job("send", f"{src}/gone", "~/gone", **none), job("send", src, "~/folder", **none), job("send", f"{src}/x", "~/x", bytes=2, age=90),
+        job("send", "~/x", "~/copied", bytes=7, age=3660), job("request", "~/q", "/tmp/q", **none),
+    ], "held": [{"name": "long", "bytes": 23_000, "whole": 60_000, "age": 7300}]}
+    before = files_below(nodes.at("alpha"))
+    both(one, "a full spool", lines, parsed, *of(nodes), folder=spool)
+    one.row("nothing is changed", files_below(nodes.at("alpha")), before)
+    one.row("another system", without_ages(shown_at(one, nodes, peer="gamma").out), "1 pending, 1 held, 0 failed\n"
+            "session not over: its mark is there, AGE\npending send ~/other ~/other me: 6 bytes, AGE\nheld long: 5 of 60000 bytes, AGE\n")
+    one.row("its mark in JSON", without_ages(shown_at(one, nodes, "alpha", "--json", peer="gamma").out).split(',"log"')[0], '{"session":{"age":N}')
+
+
+@scene()
+def lines_that_status_cant_show(one):
+    """A line that no session offers is told on standard error, once of a C. file; the others are shown."""
+    nodes = Nodes(one)
+    told = lambda *names: said(*(f"{name}: a line that can't be sent stays" for name in names))
+    first, rest = "pending send ~/a ~/a me: 2 bytes, AGE\n", "pending send ~/b ~/b me: 2 bytes, AGE\n"
+    for number, line in enumerate(("nothing", "S ~/x ~/y me -C", "S ~/x ~/y me -C C.N1 0644 ", "S ~/x ~/y me -C D.0007 rw ", "S x ~/y me -c D.0 0644 ",
+                                   "X ~/w* beta!~/ me -d", "S ~/a\\040b ~/y me -Cq D.0007 0644 ", f"R ~/{'n' * 200} ~/y me -d", "\xff \0")):
+        nodes.queue("alpha", "C.N1", "S ~/a ~/a me -C D.0001 0644 ", line, line, "S ~/b ~/b me -C D.0002 0644 ", _0001="a\n", _0002="b\n", _0007="c\n")
+        ended = shown_at(one, nodes)
+        one.row(f"line {number}: {line[:30]!r}", (ended.status, without_ages(ended.out), ended.err),
+                (0, f"2 pending, 0 held, 0 failed\n{first}{rest}", told("C.N1")))
+    nodes.queue("alpha", "C.A2", "S ~/b ~/b me -C D.0002 0644 \nnothing")
+    ended = shown_at(one, nodes, "alpha", "--json")
+    one.row("two files, as JSON", (ended.status, len(json.loads(ended.out)["pending"]), ended.err), (0, 3, told("C.A2", "C.N1")))
+    spool = nodes.at("alpha", "spool")
+    for name in ("none", "C.", "N3", "C.N4.part"):
+        write(f"{spool}/beta/C./{name}", "S ~/b ~/b me -C D.0002 0644 \n")
+    os.makedirs(f"{spool}/beta/C./C.N5")
+    os.mkfifo(f"{spool}/beta/C./C.N6")
+    shown = lambda: shown_at(one, nodes).out.splitlines()[0]
+    one.holds("what is no C. file", shown() in ("3 pending, 0 held, 0 failed", "4 pending, 0 held, 0 failed"), shown())
+    with open(f"{spool}/beta/C./C.N7", "w") as file:
+        file.truncate(1_048_577)
+    one.row("a C. file that is too long", (shown_at(one, nodes).status, shown_at(one, nodes).out), (3, ""))
+
+
+@scene()
+def mistakes_about_a_spool(one):
+    nodes = Nodes(one)
+    spool = nodes.at("alpha", "spool")
+    usage = lambda line: (2, "", said("bad usage", line))
+    fault = lambda *lines: (3, "", said("device fault", *lines))
+    nodes.known("alpha", "beta")
+    write(one.path("file"), "")
+    for words in ((), ("--json",)):
+        one.row(f"no spool {words}", status(one, *of(nodes), *words, folder="none").all(), fault("none: no such file or directory"))
+        one.row(f"a file {words}", status(one, *of(nodes), *words, folder="file").all(), fault("file: not a directory"))
+        one.row(f"no system {words}", status(one, "--spool", *words, folder=spool).all(), usage("the name of the other end is missing: --peer"))
+        one.row(f"no --spool {words}", status(one, "--peer", "beta", *words, folder=spool).all(), usage("--peer names a system of a spool: add --spool"))
+        one.row(f"no log {words}", status(one, *of(nodes), "--log", "none", *words, folder=spool).all(),
+                fault("can't read none", "none: no such file or directory"))
+    one.row("an empty name", status(one, "--spool", "--peer", "", folder=spool).all(), usage("the name of the other end is missing: --peer"))
+    one.row("two words", status(one, "--spool", "--peer", "a b", folder=spool).all(),
+            usage('"a b" is no name of a system: 1 to 200 printing characters without a space'))
+    for name in (".", "..", ".Status", "../x", "x/y"):
+        one.row(f"the name {name}", status(one, "--spool", "--peer", name, folder=spool).all(),
+                usage(f'"{name}" is no name of a system in a spool: it has no slash, and no dot in front'))
+    there = files_below(nodes.at("alpha"))
+    for words, out in (((), "0 pending, 0 held, 0 failed\n"), (("--json",), EMPTY)):
+        one.row(f"a system that is not known {words}", shown_at(one, nodes, "alpha", *words, peer="delta").all(),
+                (0, out, said("the spool has no folder of delta")))
+    one.row("nothing is made", (files_below(nodes.at("alpha")), os.listdir(spool)), (there, ["beta"]))
+
+
+@scene("root")
+def what_status_may_not_read_of_a_spool(one):
+    """What can't be read of a spool is a fault, rather than left out."""
+    nodes = Nodes(one)
+    os.chmod(one.work, 0o755)
+    spool = nodes.at("alpha", "spool")
+    nodes.queue("alpha", "C.N1", "S ~/a ~/a me -C D.0001 0644 ", _0001="a\n")
+    shown = lambda: status(one, *of(nodes), folder=spool, front=NOBODY)
+    one.row("it can be read", (shown().status, shown().out.splitlines()[0]), (0, "1 pending, 0 held, 0 failed"))
+    for name in ("beta/C./C.N1", "beta/C.", "beta/D.", "beta", ""):
+        path = f"{spool}/{name}"
+        mode = os.stat(path).st_mode
+        os.chmod(path, 0o600)
+        one.row(f"{name} can't be read", shown().all(), (3, "", said("device fault", f"{spool}: permission denied")))
+        os.chmod(path, mode)
+
+
+@scene()
+def status_of_a_session_over_a_spool(one):
+    """While a session runs, after one that was cut off, and the last one with that system in a log that several share."""
+    nodes = Nodes(one)
+    text = filler("long", 60_000)
+    nodes.known("beta", "alpha")
+    nodes.queue("alpha", "C.N1", "S ~/long ~/long me -C D.0001 0644 ", _0001=text)
+    called = nodes.answer("beta")
+    cable = Cable(one, rate=10_000)
+    nodes.own()
+    caller = one.start(nodes.words("call", "alpha", cable.line, "beta"), front=AS_NOBODY)
+    look = lambda node: status(one, *of(nodes, node), folder=nodes.at(node, "spool"), front=AS_NOBODY)
+    one.holds("what comes is seen", wait_until(lambda: "held " in look("beta").out), look("beta").out)
+    one.row("at the end that calls", without_ages(look("alpha").out), "1 pending, 0 held, 0 failed\n"
+            "session not over: its mark is there, AGE\npending send ~/long ~/long me: 60000 bytes, AGE\n")
+    one.row("at the one that is called", re.sub(r"D.0001: \d+", "D.0001: N", without_ages(look("beta").out)),
+            "0 pending, 1 held, 0 failed\nsession not over: its mark is there, AGE\nheld D.0001: N of 60000 bytes, AGE\n")
+    cable.rate = 10_000_000
+    one.row("both are well", (caller.end().status, called.end().status), (0, 0))
+    for node in nodes.names:
+        one.row(f"then, at {node}", look(node).all(), (0, "0 pending, 0 held, 0 failed\n", ""))
+
+
+@scene()
+def the_last_session_with_a_system(one):
+    """A log of a spool has the sessions with all systems: shown is the last one with that which is named, and what is said of its end."""
+    nodes = Nodes(one)
+    nodes.known("beta", "alpha")
+    log = nodes.at("alpha", "Log")
+    nodes.queue("alpha", "C.N1", f"S {nodes.at('alpha', 'src')}/none ~/none me -c D.0 0644 ")
+    nodes.talk()
+    write(log, text_of(log) + "uucico gamma - (d t 1) Calling system gamma (port p)\nuucico gamma - (d t 1) ERROR: no\n"
+          "uucico - - (d t 2) Incoming call (login x port p)\nuucico delta - (d t 1) Calling system delta (port p)\n"
+          "uucico  gamma - (d t 1) Call complete (3 bytes)\nnothing\n\ngamma\n")
+    starts = [number for number, line in enumerate(text_of(log).splitlines()) if " beta " in line and re.search("Calling|ERROR|complete", line)]
+    expected, entries = shown_of(log, *starts)
+    one.holds("there is a start, an error and an end", len(starts) > 2, text_of(log))
+    words = ("--log", log)
+    sessions = lambda **how: [line for line in shown_at(one, nodes, "alpha", *words, **how).out.splitlines() if line.startswith("session ")]
+    one.row("with beta", sessions(), expected)
+    one.row("with beta, as JSON", json.loads(shown_at(one, nodes, "alpha", *words, "--json").out)["log"], entries)
+    one.row("with gamma", sessions(peer="gamma"), ["session gamma d t: Calling system gamma (port p)", "session gamma d t: ERROR: no"])
+    one.row("with delta", sessions(peer="delta"), ["session delta d t: Calling system delta (port p)"])
+    one.row("with another", sessions(peer="epsilon"), [])
+    one.row("without a log", [line for line in shown_at(one, nodes).out.splitlines() if line.startswith("session")], [])

@@ -45,7 +45,7 @@ pub record Cancels (s : Streams) (answer : Result ℕ RunFault) : Type 0 where
   pub reads : StaysUnread s
   pub no_other : IfErr answer IsQueueFault
 
--- `status`: nothing was read of the input, and what was written is the status of a folder
+-- `status`: nothing was read of the input, and what was written is the status of a folder, or of a part of a spool
 pub record ShowsStatus (is_json : Bool) (s : Streams) (answer : Result ℕ RunFault) : Type 0 where
   pub status : IfOk answer (λ status. status ≡ 0)
   pub reads : StaysUnread s

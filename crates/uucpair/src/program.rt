@@ -24,11 +24,13 @@ use uug_pending::{
     CancelFault, CancelOutcome, CancelTask, StatusTask, cancel_run, rival_remark, status_run,
 };
 use uug_port::{SystemInput, SystemOutput};
+use uug_spool_call::spool_status_run;
 use uug_stop::{Stop, end_of, with_reason};
 use uug_stream::{Output, ToolFault, write_all};
 use uug_task::{CallTask, System};
 use uug_words::{
-    Task, VERSION, has_no_host, has_no_port, hint_words, order_remark, task_of, waiting_words,
+    Task, VERSION, has_no_host, has_no_port, hint_words, order_remark, status_remark, task_of,
+    waiting_words,
 };
 
 /// The remark on an order beside a job to cancel.
@@ -91,8 +93,29 @@ where
     }
 }
 
-/// Shows the status of a folder.
+/// Shows the status of a folder, or of a system's part of a spool.
 fn do_status<R, O>(rt: &R, status: &StatusTask<'_>, output: &mut O) -> Outcome<u8, Global>
+where
+    R: Files<File = File> + Clock + Eprint + AllocGlobal + Clone + Drop,
+    O: Output,
+    ensures status { IfOk result.answer (λ status. status ≡ 0) }
+    ensures writes { OnOk result.answer
+        (WritesStatus status.now.is_json (O.written output.old) (O.written output.new)) }
+    ensures no_other { IfErr result.answer IsQueueFault }
+{
+    let alloc = rt.alloc();
+    match status_remark(alloc, status) {
+        Ok(lack) if lack.is_empty() => (),
+        lack => return bad_usage(alloc, lack),
+    }
+    match status.peer {
+        Some(peer) => do_spool_status(rt, status, peer, output),
+        None => do_folder_status(rt, status, output),
+    }
+}
+
+/// Shows the status of a folder.
+fn do_folder_status<R, O>(rt: &R, status: &StatusTask<'_>, output: &mut O) -> Outcome<u8, Global>
 where
     R: Files<File = File> + Clock + AllocGlobal + Clone + Drop,
     O: Output,
@@ -105,6 +128,28 @@ where
     match status_run(alloc, rt, status, output) {
         Ok(()) => Outcome::of(alloc, Ok(0)),
         Err(fault) => gave_up(rt, status.dir, fault),
+    }
+}
+
+/// Shows the status of the part of a spool that is this system's.
+fn do_spool_status<R, O>(
+    rt: &R,
+    status: &StatusTask<'_>,
+    peer: &str,
+    output: &mut O,
+) -> Outcome<u8, Global>
+where
+    R: Files<File = File> + Clock + Eprint + AllocGlobal + Clone + Drop,
+    O: Output,
+    ensures status { IfOk result.answer (λ status. status ≡ 0) }
+    ensures writes { OnOk result.answer
+        (WritesStatus status.now.is_json (O.written output.old) (O.written output.new)) }
+    ensures no_other { IfErr result.answer IsQueueFault }
+{
+    let alloc = rt.alloc();
+    match spool_status_run(alloc, rt, status, peer, output) {
+        Ok(()) => Outcome::of(alloc, Ok(0)),
+        Err(fault) => Outcome::of(alloc, Err(fault)),
     }
 }
 

@@ -30,7 +30,7 @@ pub struct LastSession<'a> {
 }
 
 /// Returns the last session in a log, if there is one.
-pub(crate) fn last_session(log: &[u8]) -> Option<LastSession<'_>>
+pub fn last_in(log: &[u8]) -> Option<LastSession<'_>>
     ensures { option_map shown_last result ≡ last_in log.now }
 {
     let mut last = None;

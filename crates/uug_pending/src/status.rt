@@ -7,7 +7,7 @@ ghost use Rattle.uug_pending.specs.Status.{IsStatus, WritesStatus, job_of, statu
 
 use crate::failed_job::{FailedJob, failed_jobs};
 use crate::json::status_json;
-use crate::last_session::{LastSession, last_session};
+use crate::last_session::{LastSession, last_in};
 use crate::lines::status_text;
 use crate::pending_job::PendingJob;
 use std::alloc::{AllocError, Allocator};
@@ -25,12 +25,18 @@ use uug_stream::{Output, write_all};
 /// The words of a person who asks for the status of a folder.
 #[derive(Clone, Copy, Debug, PartialEq, Eq)]
 pub struct StatusTask<'a> {
-    /// The folder of the end.
+    /// The folder of the end, or a spool.
     pub dir: &'a str,
     /// The log of the end, if it is read.
     pub log: Option<&'a str>,
     /// Set if it is printed as JSON.
     pub is_json: bool,
+    /// Set if `dir` is a spool.
+    pub is_spool: bool,
+    /// The system of the spool.
+    pub peer: Option<&'a str>,
+    /// The folder of the lock files, of which a session over the spool has one.
+    pub locks: &'a str,
 }
 
 impl<'a> StatusTask<'a> {
@@ -61,14 +67,14 @@ where
     ensures no_other { IfErr result IsQueueFault }
 {
     let log = log_at(alloc, rt, task.log)?;
-    let last = last_session(log.as_slice());
+    let last = last_in(log.as_slice());
     let text = status_at(alloc, rt, task.end_dir(), task.is_json, &last)?;
     write_all(output, text.as_bytes())?;
     Ok(())
 }
 
 /// Returns the last bytes of the log at a path, or none if no log is read.
-fn log_at<A: Allocator + Copy, R: Files<File = File>>(
+pub fn log_at<A: Allocator + Copy, R: Files<File = File>>(
     alloc: A,
     rt: &R,
     path: Option<&str>,
@@ -114,8 +120,8 @@ where
     Ok(text)
 }
 
-/// Returns the status of an end's folder, as JSON or in lines.
-fn status_as<A: Allocator>(
+/// Returns the status of an end's folder, or of a system's part of a spool, as JSON or in lines.
+pub fn status_as<A: Allocator>(
     alloc: A,
     is_json: bool,
     session: &Option<SeenFile>,

@@ -4,3 +4,4 @@ pub mod ReportedLemmas
 pub mod WhyLemmas
 mod PublicNameFacts
 mod GradeFacts
+mod SpoolStatusFacts

@@ -3,4 +3,6 @@ pub mod Budgets
 pub mod GivenData
 pub mod PublicNames
 pub mod Reported
+pub mod SystemLogs
+pub mod Waiting
 pub mod Works

@@ -1,4 +1,5 @@
-//! One end over a spool of Taylor UUCP, at its line: what waits for a system, the session, and what is told of it.
+//! One end over a spool of Taylor UUCP, at its line: what waits for a system, the session, and what is told of it. Also the status
+//! of a system's part of a spool.
 #![tactic(auto)]
 
 mod arrivals;
@@ -10,6 +11,8 @@ mod resumed;
 mod session;
 mod spool_call;
 mod spool_end;
+mod spool_status;
+mod system_log;
 mod telling;
 mod work;
 
@@ -17,4 +20,5 @@ pub use large_files::tell_large;
 pub use resumed::hold_left;
 pub use session::talk_over_spool;
 pub use spool_call::SpoolCall;
+pub use spool_status::spool_status_run;
 pub use telling::{tell_fault, tell_no_line};

@@ -260,6 +260,27 @@ status_is_taken : takes uucpair status_words ≡ true
 unfolding clap_on_literals
 status_is_taken = refl
 
+-- ---- uucpair status dir --spool --peer b
+
+abbrev spool_words : List Text
+spool_words = codes "uucpair" ∷ codes "status" ∷ codes "dir" ∷ codes "--spool" ∷ codes "--peer" ∷ codes "b" ∷ []
+
+spool_is_given : is_given (entries_of spool_words) (codes "spool") ≡ true
+unfolding clap_on_literals
+spool_is_given = refl
+
+spool_has_peer : first_of (codes "peer") (entries_of spool_words) ≡ Some (codes "b")
+unfolding clap_on_literals
+spool_has_peer = refl
+
+spool_has_locks : text_in (entries_of spool_words) (codes "locks") ≡ codes "/var/lock"
+unfolding clap_on_literals
+spool_has_locks = refl
+
+spool_is_taken : takes uucpair spool_words ≡ true
+unfolding clap_on_literals
+spool_is_taken = refl
+
 -- ---- uucpair --version
 
 version_is_no_tool : takes uucpair (codes "uucpair" ∷ codes "--version" ∷ []) ≡ false

@@ -3,7 +3,7 @@ use Rattle.std.proofs.Common.{◌≡◌, [], ◌∷◌, ◌++◌, codes, false, 
 use Rattle.std.specs.Fmt.{digits}
 use Rattle.std.specs.Path.{rsplit_once}
 use Rattle.uug_words.specs.OrderWords.{full_remark, order_words}
-use Rattle.uug_words.specs.UsageWords.{line_words, name_words, pair_words, peer_words, range_words}
+use Rattle.uug_words.specs.UsageWords.{line_words, name_words, pair_words, peer_words, place_words, range_words, status_words, system_words}
 
 record AreSaid : Type 0 where
   range : range_words (codes "window") (Some 8) (codes "1 to 7") ≡ codes "window 8 is not 1 to 7"
@@ -13,6 +13,11 @@ record AreSaid : Type 0 where
   port : line_words (codes "tcp:h:x") ≡ codes "tcp:h:x has no port of 0 to 65535: give tcp:HOST:PORT, the port as a number"
   alone : line_words (codes "tcp:h") ≡ codes "tcp:h has no port of 0 to 65535: give tcp:HOST:PORT, the port as a number"
   host : line_words (codes "tcp::5") ≡ codes "tcp::5 has no host"
+  system : system_words (codes "a.b") ≡ []
+  no_system : system_words (codes "a b") ≡ peer_words (codes "a b")
+  no_place : system_words (codes "../a") ≡ place_words (codes "../a")
+  folder : status_words false None ≡ []
+  lacks : status_words true None ≡ codes "the name of the other end is missing: --peer"
   path : line_words (codes "unix:") ≡ codes "unix: has no path"
   empty : line_words [] ≡ codes "the line has no name"
   lost : pair_words (Some 1) (Some 1) ≡ codes "drop-every 1 is not 2 to 1000000"
@@ -25,4 +30,4 @@ record AreSaid : Type 0 where
 
 said : AreSaid
 unfolding digits rsplit_once
-said = record { range = refl; name = refl; no_peer = refl; peer = refl; port = refl; alone = refl; host = refl; path = refl; empty = refl; lost = refl; no_file = refl; ordered = refl; no_order = refl; no_dir = refl; full = refl; changed = refl }
+said = record { range = refl; name = refl; no_peer = refl; peer = refl; port = refl; alone = refl; host = refl; system = refl; no_system = refl; no_place = refl; folder = refl; lacks = refl; path = refl; empty = refl; lost = refl; no_file = refl; ordered = refl; no_order = refl; no_dir = refl; full = refl; changed = refl }

@@ -203,6 +203,9 @@ pub record IsStatusIn (entries : Entries) (task : StatusTask) : Type 0 where
   pub dir : task.dir.now ≡ text_in entries (codes "DIR")
   pub log : IsWordIn entries (codes "log") task.log
   pub is_json : task.is_json ≡ is_given entries (codes "json")
+  pub is_spool : task.is_spool ≡ is_given entries (codes "spool")
+  pub peer : IsWordIn entries (codes "peer") task.peer
+  pub locks : task.locks.now ≡ text_in entries (codes "locks")
 
 pub record AsksForStatus (tool : Text) (entries : Entries) (task : StatusTask) : Type 0 where
   pub shows : tool ≡ codes "status"

@@ -137,7 +137,9 @@ queue_tool = tool (codes "queue")
     ∷ word_rule (codes "user") ∷ word_rule (codes "cancel") ∷ [])
 
 abbrev pub status_tool : Shape
-status_tool = tool (codes "status") (path_rule (codes "DIR") ∷ word_rule (codes "log") ∷ flag_rule (codes "json") ∷ [])
+status_tool = tool (codes "status")
+    (path_rule (codes "DIR") ∷ word_rule (codes "log") ∷ flag_rule (codes "json")
+    ∷ flag_rule (codes "spool") ∷ word_rule (codes "peer") ∷ folder_rule (codes "locks") (codes "/var/lock") ∷ [])
 
 abbrev pub tools : List Shape
 tools = scan_tool ∷ play_tool ∷ pair_tool ∷ call_tool ∷ answer_tool ∷ queue_tool ∷ status_tool ∷ []

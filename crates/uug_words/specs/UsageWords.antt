@@ -1,6 +1,7 @@
 -- What is wrong with the usage, in words (this project's profile).
+use Rattle.std.specs.Borrow.{Bor}
 use Rattle.std.specs.Fmt.{decimal}
-use Rattle.std.specs.Prelude.{◌≡◌, ◌==◌, ℕ, Bool, true, false, List, [], ◌∷◌, ◌++◌, codes, is_some, length, nat_eq, Option, Some, None, MatchOption, if◌then◌else◌}
+use Rattle.std.specs.Prelude.{◌≡◌, ◌==◌, ℕ, Bool, true, false, List, [], ◌∷◌, ◌++◌, codes, is_some, length, nat_eq, Option, Some, None, Result, Ok, Err, MatchOption, if◌then◌else◌}
 use Rattle.std.specs.List.{starts_with}
 use Rattle.std.specs.Option.{option_map}
 use Rattle.std.specs.Path.{rsplit_once}
@@ -8,7 +9,9 @@ use Rattle.uug_words.specs.Parts.{IsFirstWrong}
 use Rattle.uug_words.specs.declared.part.Part.{Part}
 use Rattle.uug_words.specs.declared.part.Part.TheVariants.{Seconds, Speed, Wait, Sessions, Window, Size, Most, FileLimit, KeepDays, Line, Me, Peer, Place, Turns}
 use Rattle.uug_scan.specs.Detailed.{escaped}
-use Rattle.uug_task.specs.Tasks.{IsTask}
+use Rattle.uug_talk.specs.Name.{name_read}
+use Rattle.uug_talk.specs.declared.error.BadText.{BadText}
+use Rattle.uug_task.specs.Tasks.{IsTask, has_place}
 use Rattle.uug_task.specs.declared.task.CallTask.{CallTask}
 use Rattle.uug_transfer.specs.FaultInjection.{is_in_range}
 use Rattle.uug_transfer.specs.LineNames.{colon, port_of}
@@ -28,6 +31,21 @@ peer_words name = if length name == 0 then codes "the name of the other end is m
 -- of a name that is no folder's of a spool
 abbrev pub place_words : List ℕ → List ℕ
 place_words name = codes "\"" ++ (escaped name ++ codes "\" is no name of a system in a spool: it has no slash, and no dot in front")
+
+-- of the name of a system in a spool, as it is read
+abbrev pub system_words_by : Result (List ℕ) BadText → (name : List ℕ) → List ℕ
+system_words_by (Ok system) name = if has_place true system then [] else place_words name
+system_words_by (Err fault) name = peer_words name
+
+abbrev pub system_words : List ℕ → List ℕ
+system_words name = system_words_by (name_read name) name
+
+-- of a status, where a spool goes with a system in it
+abbrev pub status_words : (is_spool : Bool) → (peer : Option (Bor (List ℕ))) → List ℕ
+status_words false None = []
+status_words false (Some peer) = codes "--peer names a system of a spool: add --spool"
+status_words true None = peer_words []
+status_words true (Some peer) = system_words peer.now
 
 -- what stands behind the last colon is a port
 abbrev pub is_port_behind : Option (List ℕ × List ℕ) → Bool

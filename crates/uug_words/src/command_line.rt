@@ -51,7 +51,7 @@ pub enum Task<'a> {
     Queue(QueueTask<'a>),
     /// A job that is cancelled.
     Cancel(CancelTask<'a>),
-    /// The status of a folder.
+    /// The status of a folder, or of a system's part of a spool.
     Status(StatusTask<'a>),
 }
 
@@ -232,6 +232,9 @@ fn status_task<'a>(matches: &ArgMatches<'a>) -> StatusTask<'a>
         dir: text(matches, "DIR"),
         log: word(matches, "log"),
         is_json: is_given(matches, "json"),
+        is_spool: is_given(matches, "spool"),
+        peer: word(matches, "peer"),
+        locks: text(matches, "locks"),
     }
 }
 

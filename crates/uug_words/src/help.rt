@@ -159,7 +159,8 @@ pub const STATUS: &str =
                     what has come of a file that was cut off
   failed JOB: WHY   a job that was given up
 What can't be seen is \\xNN. With --json the same is one object, with null for what is not
-known, and ages in seconds.
+known, and ages in seconds. With --spool the jobs are the lines of the C. files for
+--peer; those that failed are not there, as their users have mail.
 
 Status: 0 done, 2 bad usage or bad jobs, 3 a device fault, 4 out of memory
 
@@ -171,6 +172,14 @@ prints
   pending send x y me: 6 bytes, 0 s old";
 
 pub const LOG_OF: &str = "The log of the end, of which the last session is shown";
+
+pub const SPOOL_OF: &str =
+    "DIR is a spool of Taylor UUCP, of which the part of the system --peer is shown";
+
+pub const PEER_OF: &str = "With --spool: the name of the system";
+
+pub const LOCKS_OF: &str =
+    "With --spool: the folder of the lock files, among which is the mark of a session";
 
 pub const WHY: &str = "Says why it gave up, where it did";
 

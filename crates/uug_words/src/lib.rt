@@ -15,5 +15,5 @@ pub use hint::hint_words;
 pub use order::{full_remark, order_remark};
 pub use part::{Part, wrong_part};
 pub use tools::VERSION;
-pub use usage::{pair_remark, usage_remark};
+pub use usage::{pair_remark, status_remark, usage_remark};
 pub use waiting::{has_no_host, has_no_port, waiting_words};

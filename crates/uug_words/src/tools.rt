@@ -290,7 +290,7 @@ fn queue_command<'a>(alloc: Global) -> Result<Command<'a>, AllocError>
     .arg(named(alloc, "cancel", "JOB", help::CANCEL))
 }
 
-/// Returns the tool that shows the status of a folder.
+/// Returns the tool that shows the status of a folder, or of a system's part of a spool.
 fn status_command<'a>(alloc: Global) -> Result<Command<'a>, AllocError>
     ensures { IfOk result (IsTool status_tool) }
 {
@@ -300,9 +300,12 @@ fn status_command<'a>(alloc: Global) -> Result<Command<'a>, AllocError>
         "Shows the jobs that wait in the folder of an end, what is held of files, and what has failed",
         help::STATUS,
     )
-    .arg(path(alloc, "DIR", "The folder of the end"))?
+    .arg(path(alloc, "DIR", "The folder of the end, or a spool"))?
     .arg(named(alloc, "log", "FILE", help::LOG_OF))?
-    .arg(flag(alloc, "json", "Prints one object of JSON"))
+    .arg(flag(alloc, "json", "Prints one object of JSON"))?
+    .arg(flag(alloc, "spool", help::SPOOL_OF))?
+    .arg(named(alloc, "peer", "NAME", help::PEER_OF))?
+    .arg(folder(alloc, "locks", help::LOCKS_OF, LOCKS))
 }
 
 /// Returns the argument for the file that is read, if there is one.

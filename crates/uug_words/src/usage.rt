@@ -1,13 +1,15 @@
 //! The words for what is wrong with the usage.
 ghost use Rattle.std.specs.Prelude.{◌≡◌, ◌++◌, IfOk, OnOk, is_some, string_bytes};
-ghost use Rattle.uug_words.specs.UsageWords.{IsUsageOf, is_port, lack_words, line_words, name_words, pair_words, part_words, peer_words, place_words, range_words};
+ghost use Rattle.uug_words.specs.UsageWords.{IsUsageOf, is_port, lack_words, line_words, name_words, pair_words, part_words, peer_words, place_words, range_words, status_words, system_words};
 ghost use Rattle.uug_transfer.specs.FaultInjection.{is_in_range};
 ghost use Rattle.uug_transfer.specs.LineNames.{port_of};
 
 use crate::part::{Part, wrong_part};
 use std::alloc::{AllocError, Allocator};
+use uug_pending::StatusTask;
 use uug_reason::add_escaped;
-use uug_task::CallTask;
+use uug_talk::Name;
+use uug_task::{CallTask, has_place};
 use uug_transfer::{EVERY_MAX, EVERY_MIN};
 
 /// Returns what is wrong with the task of one end that may not be run.
@@ -35,6 +37,42 @@ pub fn pair_remark<A: Allocator>(
     let mut remark = String::new(alloc);
     add_every(&mut remark, drop_every, flip_every)?;
     Ok(remark)
+}
+
+/// Returns what is wrong with the words of a person who asks for a status: a spool goes with a system in it. The text is
+/// empty if nothing is.
+pub fn status_remark<A: Allocator>(alloc: A, task: &StatusTask<'_>) -> Result<String<A>, AllocError>
+    ensures { IfOk result (λ remark. string_bytes remark
+        ≡ status_words task.now.is_spool task.now.peer) }
+{
+    let mut remark = String::new(alloc);
+    add_status(&mut remark, task)?;
+    Ok(remark)
+}
+
+/// Appends what is wrong with the spool and the system of a status.
+fn add_status<A: Allocator>(text: &mut String<A>, task: &StatusTask<'_>) -> Result<(), AllocError>
+    ensures { OnOk result (string_bytes text.new
+        ≡ string_bytes text.old ++ status_words task.now.is_spool task.now.peer) }
+{
+    match (task.is_spool, task.peer) {
+        (false, None) => Ok(()),
+        (false, Some(_)) => text.push_str("--peer names a system of a spool: add --spool"),
+        (true, None) => add_peer(text, ""),
+        (true, Some(peer)) => add_system(text, peer),
+    }
+}
+
+/// Appends what is wrong with this as the name of a system in a spool.
+fn add_system<A: Allocator>(text: &mut String<A>, name: &str) -> Result<(), AllocError>
+    ensures { OnOk result
+        (string_bytes text.new ≡ string_bytes text.old ++ system_words name.now) }
+{
+    match Name::new(name.as_bytes()) {
+        Ok(system) if has_place(true, &system) => Ok(()),
+        Ok(_) => add_place(text, name),
+        Err(_) => add_peer(text, name),
+    }
 }
 
 /// Appends what is wrong with the first of the two.

@@ -6,4 +6,7 @@ pub returns : goal.returns
 returns c =
     let dir = adds c.tool.ensures c.in_ok-arg.ensures c.path.ensures in
     let log = adds dir c.in_ok-arg-2.ensures c.named.ensures in
-    IfOk-weaker c.arg-3.result _ _ (λ made step. adds log step c.flag.ensures) c.arg-3.ensures
+    let json = adds log c.in_ok-arg-3.ensures c.flag.ensures in
+    let spool = adds json c.in_ok-arg-4.ensures c.flag-2.ensures in
+    let peer = adds spool c.in_ok-arg-5.ensures c.named-2.ensures in
+    IfOk-weaker c.arg-6.result _ _ (λ made step. adds peer step c.folder.ensures) c.arg-6.ensures

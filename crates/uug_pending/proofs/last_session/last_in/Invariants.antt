@@ -2,7 +2,7 @@ use Rattle.std.proofs.Common.{◌≡◌, length}
 use Rattle.std.specs.Option.{option_map}
 use Rattle.uug_talk.specs.Lines.{lines}
 use Rattle.uug_pending.specs.LastSession.{last_from, last_in, shown_last}
-use Rattle.uug_pending.proofs.last_session.last_session.Given as goal
+use Rattle.uug_pending.proofs.last_session.last_in.Given as goal
 
 abbrev pub invariant-loop-line : goal.invariant-loop-line
 invariant-loop-line l = last_from (option_map shown_last l.last) (lines l.rest) ≡ last_in l.log
