@@ -827,6 +827,17 @@ misspoken "a timeout that is no whole number" call unix:s a --me alpha --peer be
     "error: invalid value '0.5' for '--timeout <SECONDS>': invalid digit found in string"
 misspoken "an option in front of its command" -v call unix:s a --me alpha --peer beta -- "error: unexpected argument '-v' found" \
     "uucpair: options go behind the command: uucpair call .. -v"
+for option in "--public pub" "--stats Stats" "--grade A" "--grade=-" "--port-name ttyS0" --no-give --no-take; do
+    first=${option%%[ =]*}
+    needs_spool="${usage}$first is for a spool: give --spool too, or leave it out"
+    # shellcheck disable=SC2086  # an option and its word
+    call_of unix:none a $option
+    mistake "$option of a call without --spool" 2 "$needs_spool" "${call[@]}"
+    # shellcheck disable=SC2086
+    mistake "$option of an answer without --spool" 2 "$needs_spool" answer tcp:4000 a --me alpha --peer beta $option
+done
+mistake "an option of a spool, and another mistake" 2 "${usage}timeout 601 is not 1 to 600" \
+    call unix:none a --me alpha --peer beta --stats Stats --timeout 601
 call_of unix:s a --window 8
 mistake "a window of 8" 2 "${usage}window 8 is not 1 to 7" "${call[@]}"
 call_of unix:s a --size 65

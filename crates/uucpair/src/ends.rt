@@ -24,7 +24,7 @@ use uug_stop::{LOG, REPORT, STATS, is_refused_lock};
 use uug_stream::{Output, ToolFault};
 use uug_sys::{SystemObserver, call_run, line_held_remark, log_fault};
 use uug_task::{CallTask, ReportPlace, System};
-use uug_words::PairTask;
+use uug_words::{PairTask, lacks_spool};
 
 /// Runs both ends over one socket.
 pub fn do_pair<R, O>(rt: &R, pair: &PairTask<'_>, output: &mut O) -> Outcome<u8, Global>
@@ -65,7 +65,8 @@ fn either_jobs_remark<R: Files + AllocGlobal>(
 }
 
 /// Runs one end, and reports its state on standard error if that is asked for. Its report goes to the file that is
-/// named, else to the output, or to standard error if the standard streams are its line.
+/// named, else to the output, or to standard error if the standard streams are its line. An option of a spool without one
+/// is bad usage.
 pub fn do_call<R, O>(
     rt: &R,
     call: &CallTask<'_>,
@@ -78,6 +79,9 @@ where
     ensures status { IfOk result.answer (λ status. status ≤ 1) }
     ensures no_other { IfErr result.answer IsRunFault }
 {
+    if lacks_spool(call) {
+        return Outcome::of(rt.alloc(), Err(RunFault::Tool(ToolFault::Usage)));
+    }
     if let Err(fault) = see_outputs(rt, call) {
         return Outcome::of(rt.alloc(), Err(fault));
     }

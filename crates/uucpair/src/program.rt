@@ -29,7 +29,7 @@ use uug_stop::{Stop, end_of, with_reason};
 use uug_stream::{Output, ToolFault, write_all};
 use uug_task::{CallTask, System};
 use uug_words::{
-    Task, VERSION, has_no_host, has_no_port, hint_words, order_remark, status_remark, task_of,
+    Task, VERSION, has_no_host, has_no_port, hint_words, order_remark, status_remark, task_of, lacks_spool,
     waiting_words,
 };
 
@@ -237,7 +237,7 @@ fn greet<R: Eprint + AllocGlobal>(rt: &R, task: Task<'_>, console: Console) {
 
 /// Says at which line an end waits to be called, if it may be run and its line is not the terminal's own.
 fn say_waiting<R: Eprint + AllocGlobal>(rt: &R, call: &CallTask<'_>) -> Result<(), AllocError> {
-    if call.line == "-" || !call.may_run() {
+    if call.line == "-" || !call.may_run() || lacks_spool(call) {
         return Ok(());
     }
     let line = waiting_words(rt.alloc(), call.line)?;

@@ -3,6 +3,7 @@ use Rattle.std.proofs.Common.{◌≡◌, [], ◌∷◌, ◌++◌, codes, false, 
 use Rattle.std.specs.Fmt.{digits}
 use Rattle.std.specs.Path.{rsplit_once}
 use Rattle.uug_words.specs.OrderWords.{full_remark, order_words}
+use Rattle.uug_words.specs.SpoolOptions.{public_option}
 use Rattle.uug_words.specs.UsageWords.{line_words, name_words, pair_words, peer_words, place_words, range_words, status_words, system_words}
 
 record AreSaid : Type 0 where
@@ -26,8 +27,11 @@ record AreSaid : Type 0 where
   no_order : order_words (codes "a") (codes "get") false ≡ codes "\"get\" is neither send nor request: uucpair queue DIR send FILE, or uucpair queue DIR request FILE"
   no_dir : order_words (codes "send") (codes "a") true ≡ codes "DIR goes first: uucpair queue DIR send FILE"
   full : full_remark (codes "a") ≡ codes "uucpair: a/jobs: 1024 jobs wait, the most that may: call, or cancel one" ++ 10 ∷ []
+  no_give : public_option false false ≡ codes "--no-give"
+  no_take : public_option true false ≡ codes "--no-take"
+  open_folder : public_option true true ≡ []
   changed : pair_words None (Some 1) ≡ codes "flip-every 1 is not 2 to 1000000"
 
 said : AreSaid
 unfolding digits rsplit_once
-said = record { range = refl; name = refl; no_peer = refl; peer = refl; port = refl; alone = refl; host = refl; system = refl; no_system = refl; no_place = refl; folder = refl; lacks = refl; path = refl; empty = refl; lost = refl; no_file = refl; ordered = refl; no_order = refl; no_dir = refl; full = refl; changed = refl }
+said = record { range = refl; name = refl; no_peer = refl; peer = refl; port = refl; alone = refl; host = refl; system = refl; no_system = refl; no_place = refl; folder = refl; lacks = refl; path = refl; empty = refl; lost = refl; no_file = refl; ordered = refl; no_order = refl; no_dir = refl; full = refl; changed = refl; no_give = refl; no_take = refl; open_folder = refl }

@@ -6,6 +6,7 @@ use Rattle.std.specs.List.{starts_with}
 use Rattle.std.specs.Option.{option_map}
 use Rattle.std.specs.Path.{rsplit_once}
 use Rattle.uug_words.specs.Parts.{IsFirstWrong}
+use Rattle.uug_words.specs.SpoolOptions.{lacks_spool, spool_option}
 use Rattle.uug_words.specs.declared.part.Part.{Part}
 use Rattle.uug_words.specs.declared.part.Part.TheVariants.{Seconds, Speed, Wait, Sessions, Window, Size, Most, FileLimit, KeepDays, Line, Me, Peer, Place, Turns}
 use Rattle.uug_scan.specs.Detailed.{escaped}
@@ -81,11 +82,16 @@ part_words task Peer = peer_words task.peer.now
 part_words task Place = place_words task.peer.now
 part_words task Turns = range_words (codes "sessions") (Some task.sessions) (codes "1: only at a socket there may be more")
 
--- nothing is said of a task that may be run, and of another what is wrong first
+-- the option that lacks a spool, where one does
+abbrev pub spool_words : CallTask → List ℕ
+spool_words task =
+    if lacks_spool task then spool_option task ++ codes " is for a spool: give --spool too, or leave it out" else []
+
+-- Of a task that may be run no more is said than that an option lacks a spool, and of another what is wrong first.
 pub record IsUsageOf (task : CallTask) (remark : List ℕ) : Type 0 where
   pub wrong : Option Part
   pub found : MatchOption wrong (IsTask task) (IsFirstWrong task)
-  pub words : MatchOption wrong (remark ≡ []) (λ part. remark ≡ part_words task part)
+  pub words : MatchOption wrong (remark ≡ spool_words task) (λ part. remark ≡ part_words task part)
 
 -- of the N of every Nth packet that is lost, and of that which is changed, the first that is not in its range
 abbrev pub pair_words : (drop_every flip_every : Option ℕ) → List ℕ

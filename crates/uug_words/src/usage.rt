@@ -1,10 +1,11 @@
 //! The words for what is wrong with the usage.
 ghost use Rattle.std.specs.Prelude.{◌≡◌, ◌++◌, IfOk, OnOk, is_some, string_bytes};
-ghost use Rattle.uug_words.specs.UsageWords.{IsUsageOf, is_port, lack_words, line_words, name_words, pair_words, part_words, peer_words, place_words, range_words, status_words, system_words};
+ghost use Rattle.uug_words.specs.UsageWords.{IsUsageOf, is_port, lack_words, line_words, name_words, pair_words, part_words, peer_words, place_words, range_words, spool_words, status_words, system_words};
 ghost use Rattle.uug_transfer.specs.FaultInjection.{is_in_range};
 ghost use Rattle.uug_transfer.specs.LineNames.{port_of};
 
 use crate::part::{Part, wrong_part};
+use crate::spool_options::{lacks_spool, spool_option};
 use std::alloc::{AllocError, Allocator};
 use uug_pending::StatusTask;
 use uug_reason::add_escaped;
@@ -12,7 +13,8 @@ use uug_talk::Name;
 use uug_task::{CallTask, has_place};
 use uug_transfer::{EVERY_MAX, EVERY_MIN};
 
-/// Returns what is wrong with the task of one end that may not be run.
+/// Returns what is wrong with the task of one end that may not be run. Of one that may be run it says which option lacks
+/// a spool, if one does.
 pub fn usage_remark<A: Allocator>(alloc: A, task: &CallTask<'_>) -> Result<String<A>, AllocError>
     ensures { IfOk result (λ remark. IsUsageOf task.now (string_bytes remark)) }
 {
@@ -22,7 +24,27 @@ pub fn usage_remark<A: Allocator>(alloc: A, task: &CallTask<'_>) -> Result<Strin
             add_part(&mut remark, task, part)?;
             Ok(remark)
         }
-        None => Ok(String::new(alloc)),
+        None => {
+            let mut remark = String::new(alloc);
+            add_spool_lack(&mut remark, task)?;
+            Ok(remark)
+        }
+    }
+}
+
+/// Appends which option of a task lacks a spool, if one does.
+fn add_spool_lack<A: Allocator>(text: &mut String<A>, task: &CallTask<'_>) -> Result<(), AllocError>
+    ensures { OnOk result
+        (string_bytes text.new ≡ string_bytes text.old ++ spool_words task.now) }
+{
+    if lacks_spool(task) {
+        let option = spool_option(task);
+        write!(
+            text,
+            "{option} is for a spool: give --spool too, or leave it out"
+        )
+    } else {
+        Ok(())
     }
 }
 
