@@ -135,6 +135,10 @@ call_of "unix:$long" a
 mistake "a socket's path that is too long" 3 "${fault}unix:$long: $too_long" "${call[@]}"
 mistake "the same of an end that waits" 3 "${fault}unix:$long: $too_long" answer "unix:$long" a --me alpha --peer beta
 mistake "the same of both ends" 3 "${fault}$long: $too_long" pair "$long" a b -v
+one_folder="${usage}DIR_A and DIR_B are one folder: give each end its own"
+mistake "one folder for both ends" 2 "$one_folder" pair s a a
+mistake "one folder of two names for both ends" 2 "$one_folder" pair s a ./a/ -v
+mistake "one folder for both ends, and each packet lost" 2 "${usage}drop-every 1 is not 2 to 1000000" pair s a a --drop-every 1
 call_of - a
 mistake "standard input that is no line" 3 "${fault}-: standard input or output is no socket, pipe or terminal" "${call[@]}"
 : >"$work/device"

@@ -8,10 +8,11 @@ use crate::bad_jobs::jobs_remark;
 use crate::console::Console;
 use std::alloc::{AllocError, Global};
 use std::fs::File;
-use std::io;
 use std::net::Net;
+use std::os::unix::fs::MetadataExt;
 use std::rt::{Env, Files};
 use std::time::Clock;
+use std::{fs, io};
 use uug_conversation::Side;
 use uug_disk::is_named_pipe;
 use uug_failure::{Cause, Outcome, Resource, RunFault, SystemFailure};
@@ -26,7 +27,7 @@ use uug_sys::{SystemObserver, call_run, line_held_remark, log_fault};
 use uug_task::{CallTask, ReportPlace, System};
 use uug_words::{PairTask, lacks_spool};
 
-/// Runs both ends over one socket.
+/// Runs both ends over one socket. One folder for both is bad usage.
 pub fn do_pair<R, O>(rt: &R, pair: &PairTask<'_>, output: &mut O) -> Outcome<u8, Global>
 where
     R: Files<File = File> + Net + AllocGlobal + Clone + Drop,
@@ -34,6 +35,9 @@ where
     ensures status { IfOk result.answer (λ status. status ≤ 1) }
     ensures no_other { IfErr result.answer IsRunFault }
 {
+    if is_one_folder(rt, pair.dir_a, pair.dir_b) {
+        return Outcome::of(rt.alloc(), Err(RunFault::Tool(ToolFault::Usage)));
+    }
     let run = PairRun {
         socket: pair.socket,
         dir_a: pair.dir_a,
@@ -49,6 +53,14 @@ where
     Outcome {
         answer,
         remark: remark.unwrap_or(String::new(rt.alloc())),
+    }
+}
+
+/// Returns whether two paths are of one folder.
+fn is_one_folder<R: Files>(rt: &R, path: &str, other: &str) -> bool {
+    match (fs::metadata(rt, path), fs::metadata(rt, other)) {
+        (Ok(one), Ok(other)) => one.dev() == other.dev() && one.ino() == other.ino(),
+        _ => false,
     }
 }
 

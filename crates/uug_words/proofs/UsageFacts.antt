@@ -27,6 +27,7 @@ record AreSaid : Type 0 where
   no_order : order_words (codes "a") (codes "get") false ≡ codes "\"get\" is neither send nor request: uucpair queue DIR send FILE, or uucpair queue DIR request FILE"
   no_dir : order_words (codes "send") (codes "a") true ≡ codes "DIR goes first: uucpair queue DIR send FILE"
   full : full_remark (codes "a") ≡ codes "uucpair: a/jobs: 1024 jobs wait, the most that may: call, or cancel one" ++ 10 ∷ []
+  one_folder : pair_words None None ≡ codes "DIR_A and DIR_B are one folder: give each end its own"
   no_give : public_option false false ≡ codes "--no-give"
   no_take : public_option true false ≡ codes "--no-take"
   open_folder : public_option true true ≡ []
@@ -34,4 +35,4 @@ record AreSaid : Type 0 where
 
 said : AreSaid
 unfolding digits rsplit_once
-said = record { range = refl; name = refl; no_peer = refl; peer = refl; port = refl; alone = refl; host = refl; system = refl; no_system = refl; no_place = refl; folder = refl; lacks = refl; path = refl; empty = refl; lost = refl; no_file = refl; ordered = refl; no_order = refl; no_dir = refl; full = refl; changed = refl; no_give = refl; no_take = refl; open_folder = refl }
+said = record { range = refl; name = refl; no_peer = refl; peer = refl; port = refl; alone = refl; host = refl; system = refl; no_system = refl; no_place = refl; folder = refl; lacks = refl; path = refl; empty = refl; lost = refl; no_file = refl; ordered = refl; no_order = refl; no_dir = refl; full = refl; changed = refl; no_give = refl; no_take = refl; open_folder = refl; one_folder = refl }

@@ -93,9 +93,10 @@ pub record IsUsageOf (task : CallTask) (remark : List ℕ) : Type 0 where
   pub found : MatchOption wrong (IsTask task) (IsFirstWrong task)
   pub words : MatchOption wrong (remark ≡ spool_words task) (λ part. remark ≡ part_words task part)
 
--- of the N of every Nth packet that is lost, and of that which is changed, the first that is not in its range
+-- Of the N of every Nth packet that is lost, and of that which is changed, the first that is not in its range. Where both are, the
+-- folders are one.
 abbrev pub pair_words : (drop_every flip_every : Option ℕ) → List ℕ
 pair_words drop_every flip_every =
     if is_in_range drop_every
-    then (if is_in_range flip_every then [] else range_words (codes "flip-every") flip_every (codes "2 to 1000000"))
+    then (if is_in_range flip_every then codes "DIR_A and DIR_B are one folder: give each end its own" else range_words (codes "flip-every") flip_every (codes "2 to 1000000"))
     else range_words (codes "drop-every") drop_every (codes "2 to 1000000")

@@ -48,7 +48,8 @@ fn add_spool_lack<A: Allocator>(text: &mut String<A>, task: &CallTask<'_>) -> Re
     }
 }
 
-/// Returns what is wrong with the N of every Nth packet that is lost, or is changed.
+/// Returns what is wrong with the N of every Nth packet that is lost, or is changed. If neither is wrong, the folders are
+/// one.
 pub fn pair_remark<A: Allocator>(
     alloc: A,
     drop_every: Option<u32>,
@@ -97,7 +98,7 @@ fn add_system<A: Allocator>(text: &mut String<A>, name: &str) -> Result<(), Allo
     }
 }
 
-/// Appends what is wrong with the first of the two.
+/// Appends what is wrong with the first of the two, or with the folders.
 fn add_every<A: Allocator>(
     text: &mut String<A>,
     drop_every: Option<u32>,
@@ -111,7 +112,7 @@ fn add_every<A: Allocator>(
     } else if !is_in_range(flip_every) {
         add_range(text, "flip-every", flip_every, "2 to 1000000")
     } else {
-        Ok(())
+        text.push_str("DIR_A and DIR_B are one folder: give each end its own")
     }
 }
 
