@@ -815,6 +815,26 @@ else
     echo "a second job with the same target: said $(cat "$work/said")"
 fi
 
+# remarked NAME SAID WORD..: the job is queued, and this is said of it.
+remarked() {
+    local name=$1 said=$2 ended=0
+    folders
+    (cd "$work" && "${as_user[@]}" "$program" queue a "${@:3}" --user me) >"$work/printed" 2>"$work/said" </dev/null || ended=$?
+    if [ "$ended" -eq 0 ] && [ "$(cat "$work/said")" = "${said:+uucpair: $said}" ] && [ "$(wc -l <"$work/a/jobs")" -eq 1 ]; then
+        passed=$((passed + 1))
+    else
+        failed=$((failed + 1))
+        echo "$name: ended with $ended, said $(cat "$work/said") and printed $(cat "$work/printed")"
+    fi
+}
+
+refuses="has a dot in front: uucpair at the other end refuses such a target, Taylor UUCP takes it"
+remarked "a target with a dot in front" ".y $refuses" send a/send/x .y
+remarked "a target with a dot in front in the public folder" "~/.y $refuses" send a/send/x "~/.y"
+remarked "a target here with a dot in front" ".y has a dot in front: no such target is taken here, so the job will be given up" \
+    request y .y
+remarked "a target with a dot in its middle" "" send a/send/x x.y
+
 # ---- the words of the command line
 
 folders

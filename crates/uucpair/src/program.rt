@@ -27,10 +27,10 @@ use uug_port::{SystemInput, SystemOutput};
 use uug_spool_call::spool_status_run;
 use uug_stop::{Stop, end_of, with_reason};
 use uug_stream::{Output, ToolFault, write_all};
+use uug_talk::Name;
 use uug_task::{CallTask, System};
 use uug_words::{
-    Task, VERSION, has_no_host, has_no_port, hint_words, order_remark, status_remark, task_of, lacks_spool,
-    waiting_words,
+    Task, VERSION, has_no_host, has_no_port, hint_words, order_remark, status_remark, task_of, lacks_spool, waiting_words, target_remark,
 };
 
 /// The remark on an order beside a job to cancel.
@@ -47,7 +47,8 @@ fn show_version<O: Output>(alloc: Global, output: &mut O) -> Result<u8, RunFault
     Ok(0)
 }
 
-/// Lists the jobs that wait, or queues one more, and remarks on another job that sends to its target.
+/// Lists the jobs that wait, or queues one more, and remarks on a target that an end won't take, and on another job that
+/// sends there.
 fn do_queue<R, O>(rt: &R, queue: &QueueTask<'_>, output: &mut O) -> Outcome<u8, Global>
 where
     R: Files<File = File> + Env + AllocGlobal + Clone + Drop,
@@ -61,15 +62,25 @@ where
         lack => return bad_usage(alloc, lack),
     }
     match queue_run(alloc, rt, queue, output) {
-        Ok(Some(target)) => Outcome {
+        Ok(rival) => Outcome {
             answer: Ok(0),
-            // A remark for which there is no memory is left out.
-            remark: rival_remark(alloc, &target).unwrap_or(String::new(alloc)),
+            remark: queued_remark(alloc, queue, rival),
         },
-        Ok(None) => Outcome::of(alloc, Ok(0)),
         Err(QueueFault::Order(order)) => bad_usage(alloc, format!(in alloc; "{order}")),
         Err(QueueFault::Run(fault)) => gave_up(rt, queue.dir, fault),
     }
+}
+
+/// Returns the remarks on a job that was queued. `rival` is its target, if another job sends there. A remark for which
+/// there is no memory is left out.
+fn queued_remark(alloc: Global, queue: &QueueTask<'_>, rival: Option<Name>) -> String {
+    let mut remark = target_remark(alloc, queue).unwrap_or(String::new(alloc));
+    if let Some(target) = rival {
+        if let Ok(line) = rival_remark(alloc, &target) {
+            let _ = remark.push_str(line.as_str());
+        }
+    }
+    remark
 }
 
 /// Cancels a job, and returns the program's status.

@@ -2,6 +2,7 @@ pub mod Asked
 pub mod Tools
 pub mod Parts
 pub mod SpoolOptions
+pub mod TargetWords
 pub mod UsageWords
 pub mod OrderWords
 pub mod Hints
