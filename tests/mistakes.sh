@@ -157,6 +157,9 @@ mistake "a device without its folder" 3 \
 call_of beta.example:4000 a
 mistake "a host and a port without tcp:" 3 \
     "${fault}beta.example:4000: no such file or directory $lines: give tcp:beta.example:4000)" "${call[@]}"
+call_of TCP:h:1 a
+mistake "a line whose front is in capitals" 3 \
+    "${fault}TCP:h:1: no such file or directory $lines: give tcp:h:1)" "${call[@]}"
 call_of beta.example a
 mistake "a host without a port" 3 "${fault}beta.example: no such file or directory $forms" "${call[@]}"
 call_of b a
@@ -830,7 +833,8 @@ remarked() {
 
 refuses="has a dot in front: uucpair at the other end refuses such a target, Taylor UUCP takes it"
 remarked "a target with a dot in front" ".y $refuses" send a/send/x .y
-remarked "a target with a dot in front in the public folder" "~/.y $refuses" send a/send/x "~/.y"
+public='~'
+remarked "a target with a dot in front in the public folder" "$public/.y $refuses" send a/send/x "$public/.y"
 remarked "a target here with a dot in front" ".y has a dot in front: no such target is taken here, so the job will be given up" \
     request y .y
 remarked "a target with a dot in its middle" "" send a/send/x x.y
@@ -851,6 +855,12 @@ misspoken "a timeout that is no whole number" call unix:s a --me alpha --peer be
     "error: invalid value '0.5' for '--timeout <SECONDS>': invalid digit found in string"
 misspoken "an option in front of its command" -v call unix:s a --me alpha --peer beta -- "error: unexpected argument '-v' found" \
     "uucpair: options go behind the command: uucpair call .. -v"
+misspoken "an option of answer behind call" call unix:s a --me alpha --peer beta --wait 60 -- "error: unexpected argument '--wait' found" \
+    "uucpair: --wait is for answer: a call waits as long as --timeout says"
+misspoken "sessions of a call" call unix:s a --me alpha --peer beta --sessions=2 -- "error: unexpected argument '--sessions' found" \
+    "uucpair: --sessions is for answer: a call has one session"
+misspoken "an option of call behind answer" answer unix:s a --me alpha --peer beta --fail-status -- \
+    "error: unexpected argument '--fail-status' found" "uucpair: --fail-status is for call"
 for option in "--public pub" "--stats Stats" "--grade A" "--grade=-" "--port-name ttyS0" --no-give --no-take; do
     first=${option%%[ =]*}
     needs_spool="${usage}$first is for a spool: give --spool too, or leave it out"

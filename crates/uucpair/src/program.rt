@@ -259,8 +259,12 @@ fn say_waiting<R: Eprint + AllocGlobal>(rt: &R, call: &CallTask<'_>) -> Result<(
 
 /// Says what to do about the first of the words that is often mistaken for one of the program's.
 fn say_hint<R: Eprint, S: AsStr>(rt: &R, words: &[S]) {
+    let tool = match words.get(1) {
+        Some(tool) => tool.as_str(),
+        None => "",
+    };
     for (place, word) in words.iter().enumerate() {
-        let hint = hint_words(place == 1, word.as_str().as_bytes());
+        let hint = hint_words(tool.as_bytes(), place == 1, word.as_str().as_bytes());
         if !hint.is_empty() {
             let _ = eprint!(rt; "uucpair: {hint}\n");
             return;

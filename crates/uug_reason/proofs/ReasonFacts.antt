@@ -26,6 +26,9 @@ device_places = places [] (codes "ttyS0") [] []
 abbrev pub host_places : Places
 host_places = places [] (codes "h:540") [] []
 
+abbrev pub capital_places : Places
+capital_places = places [] (codes "TCP:h:1") [] []
+
 abbrev pub word_places : Places
 word_places = places [] (codes "h") [] []
 
@@ -61,6 +64,7 @@ record AreSaid : Type 0 where
   plain : reason_line end_places (record { end = 0; resource = on.Line; cause = causes.NoTerminal }) ≡ codes "uucpair: tcp:127.0.0.1:5999: not a terminal (LINE is a terminal device, tcp:HOST:PORT, unix:PATH or -)" ++ 10 ∷ []
   device : reason_line device_places (record { end = 0; resource = on.Line; cause = causes.Refused kinds.NotFound (Some (pos 2)) }) ≡ codes "uucpair: ttyS0: no such file or directory (LINE is a terminal device, tcp:HOST:PORT, unix:PATH or -: give /dev/ttyS0)" ++ 10 ∷ []
   named : reason_line host_places (record { end = 0; resource = on.Line; cause = causes.Refused kinds.NotFound (Some (pos 2)) }) ≡ codes "uucpair: h:540: no such file or directory (LINE is a terminal device, tcp:HOST:PORT, unix:PATH or -: give tcp:h:540)" ++ 10 ∷ []
+  capital : reason_line capital_places (record { end = 0; resource = on.Line; cause = causes.Refused kinds.NotFound (Some (pos 2)) }) ≡ codes "uucpair: TCP:h:1: no such file or directory (LINE is a terminal device, tcp:HOST:PORT, unix:PATH or -: give tcp:h:1)" ++ 10 ∷ []
   bare : reason_line word_places (record { end = 0; resource = on.Line; cause = causes.Refused kinds.NotFound (Some (pos 2)) }) ≡ codes "uucpair: h: no such file or directory (LINE is a terminal device, tcp:HOST:PORT, unix:PATH or -)" ++ 10 ∷ []
   long : reason_line long_places (record { end = 0; resource = on.Line; cause = causes.Refused kinds.InvalidInput None }) ≡ codes "uucpair: " ++ (replicate 108 115 ++ (codes ": invalid argument (the path of a socket has at most 107 bytes)" ++ 10 ∷ []))
   bracketed : reason_line bracketed_places (record { end = 0; resource = on.Line; cause = causes.Refused kinds.Uncategorized None }) ≡ codes "uucpair: tcp:[::1]:5: unknown host (an IPv6 address has no brackets: tcp:::1:540)" ++ 10 ∷ []
@@ -75,4 +79,4 @@ record AreSaid : Type 0 where
 
 said : AreSaid
 unfolding digits
-said = record { line = refl; host = refl; numbered = refl; escaped = refl; given = refl; got = refl; files = refl; spool = refl; exchanged = refl; shared = refl; lacks = refl; plain = refl; device = refl; named = refl; bare = refl; long = refl; bracketed = refl; zero = refl; bare_socket = refl; port = refl; locks = refl; socket = refl; pipe = refl; told = refl; output = refl }
+said = record { line = refl; host = refl; numbered = refl; escaped = refl; given = refl; got = refl; files = refl; spool = refl; exchanged = refl; shared = refl; lacks = refl; plain = refl; device = refl; named = refl; capital = refl; bare = refl; long = refl; bracketed = refl; zero = refl; bare_socket = refl; port = refl; locks = refl; socket = refl; pipe = refl; told = refl; output = refl }

@@ -1,5 +1,5 @@
 -- What to do about a call of the system that a known mistake makes fail (this project's profile).
-use Rattle.std.specs.Prelude.{◌==◌, ◌&&◌, ◌||◌, ℕ, Bool, not, List, [], ◌++◌, codes, eqb, is_some, length, nat_eq, nat_le, Some, None, if◌then◌else◌}
+use Rattle.std.specs.Prelude.{◌==◌, ◌&&◌, ◌||◌, ℕ, Bool, not, List, [], ◌++◌, codes, drop, eqb, is_some, length, nat_eq, nat_le, Some, None, if◌then◌else◌}
 use Rattle.std.specs.List.{ends_with, list_any, starts_with}
 use Rattle.std.specs.Str.{bytes_eq}
 use Rattle.std.specs.declared.io.ErrorKind.{ErrorKind}
@@ -41,9 +41,18 @@ has_byte word byte = list_any (λ b. eqb b byte) word
 abbrev pub is_bare : (word : List ℕ) → Bool
 is_bare word = not (names_line word) && not (has_byte word 47)
 
+-- a word without the front of a port in capitals
+abbrev pub address_of : (word : List ℕ) → List ℕ
+address_of word =
+    if starts_with nat_eq word (codes "TCP:") then drop 4 word else
+    (if starts_with nat_eq word (codes "Tcp:") then drop 4 word else word)
+
+abbrev pub port_words : (address : List ℕ) → List ℕ
+port_words address = codes ": give tcp:" ++ escaped address
+
 -- the port of a host, between which a colon (58) stands
 abbrev pub port_guess : (line : List ℕ) → List ℕ
-port_guess line = if has_byte line 58 then codes ": give tcp:" ++ escaped line else []
+port_guess line = if has_byte line 58 then port_words (address_of line) else []
 
 -- the line that is probably meant by a bare word: a device, or a port of a host
 abbrev pub guess_words : (line : List ℕ) → List ℕ

@@ -1,7 +1,7 @@
 //! Hints about what to do after a call of the system that a known mistake makes fail.
 ghost use Rattle.std.specs.Prelude.{◌≡◌, ◌++◌, OnOk, string_bytes};
-ghost use Rattle.uug_reason.specs.ReasonHints.{absent_hint, are_exchanged, exchanged_hint, forms_words, got_hint, guess_words, has_byte, hint_words};
-ghost use Rattle.uug_reason.specs.ReasonHints.{host_hint, is_bare, line_hint, long_hint, names_line, port_guess, right_hint, send_hint, socket_hint, zero_hint};
+ghost use Rattle.uug_reason.specs.ReasonHints.{absent_hint, address_of, are_exchanged, exchanged_hint, forms_words, got_hint, guess_words, has_byte, hint_words};
+ghost use Rattle.uug_reason.specs.ReasonHints.{host_hint, is_bare, line_hint, long_hint, names_line, port_guess, port_words, right_hint, send_hint, socket_hint, zero_hint};
 
 use crate::escape::add_escaped;
 use crate::kind::kind_words;
@@ -153,10 +153,30 @@ fn add_port_guess<A: Allocator>(text: &mut String<A>, line: &str) -> Result<(), 
         (string_bytes text.new ≡ string_bytes text.old ++ port_guess line.now) }
 {
     if has_byte(line.as_bytes(), b':') {
-        text.push_str(": give tcp:")?;
-        add_escaped(text, line.as_bytes())
+        add_port(text, address_of(line.as_bytes()))
     } else {
         Ok(())
+    }
+}
+
+/// Appends the port of this address.
+fn add_port<A: Allocator>(text: &mut String<A>, address: &[u8]) -> Result<(), AllocError>
+    ensures { OnOk result (string_bytes text.new ≡ string_bytes text.old ++ port_words address.now) }
+{
+    text.push_str(": give tcp:")?;
+    add_escaped(text, address)
+}
+
+/// Returns a word without the front of a port in capitals.
+fn address_of(word: &[u8]) -> &[u8]
+    ensures { result.now ≡ address_of word.now }
+{
+    if word.starts_with(b"TCP:") {
+        &word[4..]
+    } else if word.starts_with(b"Tcp:") {
+        &word[4..]
+    } else {
+        word
     }
 }
 

@@ -2,6 +2,7 @@
 use Rattle.std.proofs.Common.{◌≡◌, [], ◌∷◌, ◌++◌, codes, false, true, Some, None, refl}
 use Rattle.std.specs.Fmt.{digits}
 use Rattle.std.specs.Path.{rsplit_once}
+use Rattle.uug_words.specs.Hints.{hint_words}
 use Rattle.uug_words.specs.OrderWords.{full_remark, order_words}
 use Rattle.uug_words.specs.SpoolOptions.{public_option}
 use Rattle.uug_words.specs.TargetWords.{dotted_remark}
@@ -35,8 +36,10 @@ record AreSaid : Type 0 where
   dotted : dotted_remark (codes "send") (codes "~/.y") ≡ codes "uucpair: ~/.y has a dot in front: uucpair at the other end refuses such a target, Taylor UUCP takes it" ++ 10 ∷ []
   dotted_here : dotted_remark (codes "request") (codes ".y") ≡ codes "uucpair: .y has a dot in front: no such target is taken here, so the job will be given up" ++ 10 ∷ []
   undotted : dotted_remark (codes "send") (codes "y.z") ≡ []
+  called_wait : hint_words (codes "call") false (codes "--wait=5") ≡ codes "--wait is for answer: a call waits as long as --timeout says"
+  waits : hint_words (codes "answer") false (codes "--wait") ≡ []
   changed : pair_words None (Some 1) ≡ codes "flip-every 1 is not 2 to 1000000"
 
 said : AreSaid
 unfolding digits rsplit_once
-said = record { range = refl; name = refl; no_peer = refl; peer = refl; port = refl; alone = refl; host = refl; system = refl; no_system = refl; no_place = refl; folder = refl; lacks = refl; path = refl; empty = refl; lost = refl; no_file = refl; ordered = refl; no_order = refl; no_dir = refl; full = refl; changed = refl; no_give = refl; no_take = refl; open_folder = refl; one_folder = refl; dotted = refl; dotted_here = refl; undotted = refl }
+said = record { range = refl; name = refl; no_peer = refl; peer = refl; port = refl; alone = refl; host = refl; system = refl; no_system = refl; no_place = refl; folder = refl; lacks = refl; path = refl; empty = refl; lost = refl; no_file = refl; ordered = refl; no_order = refl; no_dir = refl; full = refl; changed = refl; no_give = refl; no_take = refl; open_folder = refl; one_folder = refl; dotted = refl; dotted_here = refl; undotted = refl; called_wait = refl; waits = refl }

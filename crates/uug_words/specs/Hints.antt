@@ -1,10 +1,18 @@
 -- Defines the hints for words that are often mistaken for those of the program (this project's profile).
-use Rattle.std.specs.Prelude.{ℕ, ◌&&◌, Bool, List, [], codes, if◌then◌else◌}
+use Rattle.std.specs.Prelude.{ℕ, ◌&&◌, Bool, List, [], codes, nat_eq, if◌then◌else◌}
+use Rattle.std.specs.List.{starts_with}
 use Rattle.std.specs.Str.{bytes_eq}
 
-abbrev pub hint_words : (is_first : Bool) → (word : List ℕ) → List ℕ
-hint_words is_first word =
+-- of an option that only the other end has
+abbrev pub option_hint : (tool word : List ℕ) → List ℕ
+option_hint tool word =
+    if bytes_eq tool (codes "call") && starts_with nat_eq word (codes "--wait") then codes "--wait is for answer: a call waits as long as --timeout says" else
+    (if bytes_eq tool (codes "call") && starts_with nat_eq word (codes "--sessions") then codes "--sessions is for answer: a call has one session" else
+    (if bytes_eq tool (codes "answer") && bytes_eq word (codes "--fail-status") then codes "--fail-status is for call" else []))
+
+abbrev pub hint_words : (tool : List ℕ) → (is_first : Bool) → (word : List ℕ) → List ℕ
+hint_words tool is_first word =
     if bytes_eq word (codes "--baud") then codes "set the speed of a device by stty; --speed is for the timers" else
     (if bytes_eq word (codes "--port") then codes "the port is part of LINE: tcp:HOST:PORT" else
     (if bytes_eq word (codes "send") then codes "queue a file by: uucpair queue DIR send FILE" else
-    (if is_first && bytes_eq word (codes "-v") then codes "options go behind the command: uucpair call .. -v" else [])))
+    (if is_first && bytes_eq word (codes "-v") then codes "options go behind the command: uucpair call .. -v" else option_hint tool word)))

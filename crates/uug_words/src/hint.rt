@@ -1,11 +1,11 @@
 //! Hints about words that are often mistaken for those of the program.
 ghost use Rattle.std.specs.Prelude.{◌≡◌};
-ghost use Rattle.uug_words.specs.Hints.{hint_words};
+ghost use Rattle.uug_words.specs.Hints.{hint_words, option_hint};
 
 /// Returns what to do about this word, if it is often mistaken for one of the program's, else an empty text.
-/// `is_first` says whether it is the first word behind the program's name.
-pub fn hint_words(is_first: bool, word: &[u8]) -> &'static str
-    ensures { result.now ≡ hint_words is_first word.now }
+/// `is_first` says whether it is the first word behind the program's name, which is `tool`.
+pub fn hint_words(tool: &[u8], is_first: bool, word: &[u8]) -> &'static str
+    ensures { result.now ≡ hint_words tool.now is_first word.now }
 {
     if word == b"--baud".as_slice() {
         "set the speed of a device by stty; --speed is for the timers"
@@ -15,6 +15,21 @@ pub fn hint_words(is_first: bool, word: &[u8]) -> &'static str
         "queue a file by: uucpair queue DIR send FILE"
     } else if is_first && word == b"-v".as_slice() {
         "options go behind the command: uucpair call .. -v"
+    } else {
+        option_hint(tool, word)
+    }
+}
+
+/// Returns what to do about an option that only the other end has.
+fn option_hint(tool: &[u8], word: &[u8]) -> &'static str
+    ensures { result.now ≡ option_hint tool.now word.now }
+{
+    if tool == b"call".as_slice() && word.starts_with(b"--wait") {
+        "--wait is for answer: a call waits as long as --timeout says"
+    } else if tool == b"call".as_slice() && word.starts_with(b"--sessions") {
+        "--sessions is for answer: a call has one session"
+    } else if tool == b"answer".as_slice() && word == b"--fail-status".as_slice() {
+        "--fail-status is for call"
     } else {
         ""
     }
