@@ -60,6 +60,7 @@ uucpair far - Receiving y (7 bytes)
 uucpair far - ERROR: request none none: refused
 uucpair far - ERROR: 2 jobs were given up
 uucpair far - Call complete (0 seconds 22 bytes 0 bps)
+uucpair far - ERROR: request none none me: not given by the other end: no such file in its send, or one that may not go; or not to be put in its place here
 uucpair far - ERROR: send none ~/n me: no file near/send/none" "$fault"
 logged "a called end" far.log "uucpair - - Incoming call (login - port unix:line)
 uucpair near - Receiving ~/x (15 bytes)
@@ -81,6 +82,28 @@ fault=
 [ "$(uulog -I "$work/config" -s far)" = "$(cat near.log)" ] || fault="$fault of far: $(uulog -I "$work/config" -s far);"
 [ -z "$(uulog -I "$work/config" -s near)" ] || fault="$fault of near: $(uulog -I "$work/config" -s near)"
 report "uulog" "$fault"
+
+# Jobs for which there is no room in the session.
+folders "send x ~/x me" "send large ~/large me" "send x ~/y me"
+head -c 1048576 /dev/zero >near/send/large
+answer_at
+call_at --log near.log --most 1048576
+end_of "$answerer" 20
+fault=
+[ "$(cat near.err)" = "uucpair: 2 jobs wait for the next session" ] || fault="the caller said $(cat near.err);"
+grep -q " ERROR: 2 jobs wait for the next session$" near.log || fault="$fault the log has $(cat near.log)"
+report "jobs that wait" "$fault"
+
+# A job that the other end refuses.
+folders "send x ~/.x me"
+answer_at
+call_at --log near.log
+end_of "$answerer" 20
+fault=
+refused="send x ~/.x me: refused by the other end: in a folder a target is a name, NAME or ~/NAME, without a dot in front"
+[ "$(cat near.err)" = "uucpair: $refused" ] || fault="the caller said $(cat near.err);"
+grep -qF " ERROR: $refused" near.log || fault="$fault the log has $(cat near.log)"
+report "why a job was refused" "$fault"
 
 # It is appended to, -v says what it says beside it, and each session of several is in it.
 folders "send x ~/x me"

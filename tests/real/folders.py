@@ -41,12 +41,13 @@ CALLER_LOG = [
     "Calling system beta (port {line})", "Sending x (9 bytes)", "Sending empty (0 bytes)", "Receiving r2 (14 bytes)",
     "ERROR: request gone g: refused", "Sending long (9000 bytes)", "Receiving /y (5000 bytes)", "Sending asked (15 bytes)",
     "ERROR: send y .hidden: refused", "ERROR: 2 jobs were given up", "Call complete (14038 bytes)",
-    "ERROR: send none n me: no file alpha/send/none",
+    "ERROR: send none n me: no file alpha/send/none", f"ERROR: request gone g you: {NOT_GIVEN}",
 ]
 CALLED_LOG = [
     "Incoming call (login - port {line})", "Receiving ~/x (9 bytes)", "Receiving empty (0 bytes)", "Sending r (14 bytes)",
     "ERROR: request gone g: refused", "Receiving long (9000 bytes)", "Sending y (5000 bytes)", "Receiving asked (15 bytes)",
     "ERROR: send y .hidden: refused", "ERROR: 1 job was given up", "Call complete (14038 bytes)",
+    f"ERROR: send y .hidden me: {PATH}",
 ]
 
 

@@ -30,7 +30,8 @@ use uug_stream::{Output, ToolFault, write_all};
 use uug_talk::Name;
 use uug_task::{CallTask, System};
 use uug_words::{
-    Task, VERSION, has_no_host, has_no_port, hint_words, order_remark, status_remark, task_of, lacks_spool, waiting_words, target_remark,
+    Task, VERSION, has_no_host, has_no_port, hint_words, lacks_spool, order_remark, status_remark,
+    target_remark, task_of, waiting_words,
 };
 
 /// The remark on an order beside a job to cancel.

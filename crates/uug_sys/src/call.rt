@@ -9,7 +9,7 @@ ghost use Rattle.uug_task.specs.Tasks.{IsTask};
 use crate::answer::answer_at;
 use crate::end_run::EndRun;
 use crate::failing_line::{FailingLine, failure_remark};
-use crate::fault_log::{log_failure, log_fault, log_unoffered};
+use crate::fault_log::{log_failed, log_failure, log_fault};
 use crate::folder_kind::see_no_spool;
 use crate::hailed_line::HailedLine;
 use crate::job_remark::{failed_remark, put_off_remark};
@@ -541,7 +541,7 @@ where
     let failed = node.queue().failed();
     let large = large_files(alloc, rt, task, failed).unwrap_or(Vec::new(alloc));
     let remark = remark_on(run, numbers, large.as_slice(), node);
-    log_unoffered(alloc, rt, task, large.as_slice(), node.spool(), failed);
+    log_failed(alloc, rt, task, large.as_slice(), node.spool(), failed);
     if let Some(partials) = node.spool().partials() {
         hold_left_in(alloc, rt, task.dir, partials.over(), node.left());
     }

@@ -1,12 +1,12 @@
 //! The lines of an end's log about faults, beside those that its observer writes.
 
-use crate::job_remark::failed_line;
+use crate::job_remark::{failed_line, size_sent};
 use std::alloc::Allocator;
 use std::fs::File;
 use std::rt::{Env, Files};
 use std::time::Clock;
 use uug_failure::SystemFailure;
-use uug_folder::{WhyFailed, why_failed};
+use uug_folder::why_failed;
 use uug_log::{LogFile, SessionLog, words_of};
 use uug_reason::reason_line;
 use uug_session::{Job, Spool};
@@ -28,9 +28,9 @@ where
     }
 }
 
-/// Appends why each of these jobs was given up that was not offered over the line: what became of the others is in the
-/// log. `large` are the names of the files in `send` that are too large to be sent.
-pub(crate) fn log_unoffered<A, R, S>(
+/// Appends why each of these jobs was given up, as it is said on standard error. `large` are the names of the files in
+/// `send` that are too large to be sent.
+pub(crate) fn log_failed<A, R, S>(
     alloc: A,
     rt: &R,
     task: &CallTask<'_>,
@@ -44,12 +44,25 @@ where
     S: Spool,
 {
     for job in jobs {
-        let why = why_failed(spool, job);
-        if let WhyFailed::NoFile | WhyFailed::NotTaken = why {
-            if let Ok(line) = failed_line(alloc, task.dir, large, job, why, 0) {
-                log_fault(alloc, rt, task, words_of(line.as_str()));
-            }
+        let (why, size) = (why_failed(spool, job), size_sent(spool, job));
+        if let Ok(line) = failed_line(alloc, task.dir, large, job, why, size) {
+            log_fault(alloc, rt, task, words_of(line.as_str()));
         }
+    }
+}
+
+/// Appends how many jobs of an end wait for its next session, if any does.
+pub(crate) fn log_waiting<A, R>(alloc: A, rt: &R, task: &CallTask<'_>, count: usize)
+where
+    A: Allocator + Copy,
+    R: Files<File = File> + Env + Clock + AllocGlobal,
+{
+    if count == 0 {
+        return;
+    }
+    let words = if count == 1 { "job waits" } else { "jobs wait" };
+    if let Ok(text) = format!(in alloc; "{count} {words} for the next session") {
+        log_fault(alloc, rt, task, text.as_str());
     }
 }
 

@@ -223,7 +223,7 @@ fn path_lack<A: Allocator + Copy>(
 }
 
 /// Returns the number of bytes of the file that a job sends, which is 0 if it sends none.
-fn size_sent<S: Spool>(spool: &S, job: &Job) -> usize
+pub(crate) fn size_sent<S: Spool>(spool: &S, job: &Job) -> usize
     ensures { result ≡ size_sent (S.holdings spool.now) job.now }
 {
     match job {

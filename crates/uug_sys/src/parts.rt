@@ -5,13 +5,13 @@ ghost use Rattle.uug_failure.specs.Faults.{IsFolderFault, IsReadingFault};
 ghost use Rattle.uug_folder.specs.JobsText.{IsFrontOf};
 ghost use Rattle.uug_task.specs.Tasks.{IsTask};
 
+use crate::fault_log::log_waiting;
 use crate::numbers::Numbers;
 use crate::resumed::{partial_path, read_held};
 use std::alloc::{AllocError, Allocator};
 use std::fs;
 use std::fs::File;
 use std::rt::Files;
-use std::time::Clock;
 use uug_disk::{
     DirLock, Given, OpenJobs, PartialNotes, SystemFolder, SystemJobs, SystemNumber, SystemText,
     open_jobs, read_given, see_jobs,
@@ -21,7 +21,7 @@ use uug_folder::{FolderSpool, JobsFile, LocalNames, first_jobs};
 use uug_session::{Job, Place, Side, Spool, Stored};
 use uug_stream::ToolFault;
 use uug_talk::Name;
-use uug_task::{CallTask, EndParts};
+use uug_task::{CallTask, EndParts, System};
 use uug_transfer::TransferEnd;
 
 /// The files of an end in a folder of the system.
@@ -67,7 +67,7 @@ pub(crate) fn read_parts<'a, A, R>(
 ) -> Result<SystemParts<'a, R, A>, RunFault>
 where
     A: Allocator + Copy,
-    R: Files<File = File> + Clock + Eprint + Alloc + Clone + Drop,
+    R: System,
     ensures jobs_calm { IfOk result (λ parts. parts.jobs.file.file.faults.count ≡ 0) }
     ensures number_calm { IfOk result (λ parts. parts.number.file.faults.count ≡ 0) }
     ensures place { IfOk result (λ parts.
@@ -86,6 +86,8 @@ where
             return Err(fault);
         }
     };
+    let waiting = jobs.queue.pending().len().saturating_sub(given.offered);
+    log_waiting(alloc, rt, task, waiting);
     let partials = match read_held(alloc, rt, task) {
         Ok(partials) => partials,
         Err(AllocError) => {
