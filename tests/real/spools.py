@@ -921,7 +921,8 @@ def jobs_that_cant_be_taken_away(one):
     os.chmod(folder, 0o555)
     called = nodes.answer("beta", peer="alpha", own=False)
     caller = nodes.call("alpha", own=False)
-    called.end()
+    # whom nobody has called waits on
+    called.stop()
     one.row("call", (caller.status, caller.err), (3, said("device fault", f"{nodes.at('alpha', 'spool')}: permission denied")))
     one.row("the job stays", sorted(nodes.there("alpha")), ["beta/C./C.N0003", "beta/D./D.0003"])
     os.chmod(folder, 0o755)
@@ -945,7 +946,7 @@ def a_spool_that_cant_be_written(one):
     spool = nodes.at("alpha", "spool")
     for what, folder in (("C. files", "beta/C."), ("data", "beta/D."), ("what is written anew", ".Temp/beta")):
         os.chown(f"{spool}/{folder}", 0, 0)
-        called = nodes.answer("beta", "--wait", "10", peer="alpha", own=False)
+        called = nodes.answer("beta", "--wait", "4", peer="alpha", own=False)
         caller = nodes.call("alpha", own=False)
         called = called.end()
         one.row(f"a folder of {what}: who calls", caller.all(), (3, "", said("device fault", f"{spool}: permission denied")))
