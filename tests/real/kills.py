@@ -40,6 +40,14 @@ def calls_of(one, which):
     return counts
 
 
+def end_called(called, place):
+    """Waits for the end that is called. Where its caller was killed before it was let in it listens still, and would wait on."""
+    if wait_until(lambda: called.process.poll() is not None or not listens_at(place), 0.5):
+        called.end()
+    else:
+        called.stop()
+
+
 def killed(one, end, which, when):
     """Kills this end at such a call of a session. Returns what is wrong then, and when all is done."""
     ends = load(one)
@@ -47,7 +55,7 @@ def killed(one, end, which, when):
     called = ends.answer(one.line, "--timeout", "10", "--wait", "3", **({"front": front} if end == "beta" else {}))
     if listens_at(one.line[5:]):
         ends.call(one.line, "--timeout", "10", **({"front": front} if end == "alpha" else {}))
-    called.end()
+    end_called(called, one.line[5:])
     return [f"behind the kill: {fault}" for fault in wrong(ends)] + [f"in the end: {fault}" for fault in finish(ends)]
 
 
