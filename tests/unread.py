@@ -6,6 +6,7 @@
 The caller here speaks the greeting and the start of the link itself, and sends one command. A line says what was not as it ought
 to be; the last line counts them, and the status is 1 where one was not. PROGRAM is crates/uucpair/out/uucpair where none is named.
 """
+import concurrent.futures
 import os
 import sys
 import tempfile
@@ -70,21 +71,28 @@ ROWS = [
 ]
 
 
+def faults_of(program, row, report, said):
+    """Runs a row. Returns what was printed and said where that is not as it ought to be."""
+    with tempfile.TemporaryDirectory() as work:
+        held = Held(program, work, "--strict", "--timeout", "2", "--wait", "3", "--report", os.path.join(work, "report"))
+        row(held)
+        heard = held.end(60)
+        with open(os.path.join(work, "report")) as file:
+            printed = file.read()
+    lines = (heard or "").splitlines()
+    well = printed == report and (f"uucpair: {said}" in lines if said else not lines)
+    return None if well else f"printed {printed!r} and said {heard!r}"
+
+
 def main():
     program = program_named()
-    failed = 0
-    for number, (row, report, said) in enumerate(ROWS):
-        with tempfile.TemporaryDirectory() as work:
-            held = Held(program, work, "--strict", "--timeout", "2", "--wait", "3", "--report", os.path.join(work, "report"))
-            row(held)
-            heard = held.end(60)
-            with open(os.path.join(work, "report")) as file:
-                printed = file.read()
-        lines = (heard or "").splitlines()
-        well = printed == report and (f"uucpair: {said}" in lines if said else not lines)
-        if not well:
-            failed += 1
-            print(f"row {number}: printed {printed!r} and said {heard!r}")
+    # A row waits most of its time, so all run side by side.
+    with concurrent.futures.ThreadPoolExecutor(len(ROWS)) as pool:
+        faults = list(pool.map(lambda row: faults_of(program, *row), ROWS))
+    for number, fault in enumerate(faults):
+        if fault:
+            print(f"row {number}: {fault}")
+    failed = sum(fault is not None for fault in faults)
     print(f"{len(ROWS) - failed} passed, {failed} failed")
     return failed > 0
 
