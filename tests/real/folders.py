@@ -224,7 +224,7 @@ def large_files(one):
     """Files of more than a MiB go both ways; one over the limit of its taker is refused before it comes, and one over that of its giver
     is not sent."""
     ends = Ends(one)
-    text = filler("large", 5_000_000)
+    text = filler("large", 1_200_000)
     for end in ("alpha", "beta"):
         ends.give(end, large=text)
         ends.jobs(end, "send large large me")
@@ -232,16 +232,16 @@ def large_files(one):
     one.row("both ways", (caller.all(), called.all()), ((0, report("caller", struck=1), ""), (0, report("called", struck=1), "")))
     one.row("they are whole", [text_of(ends.at(end, "got/large")) == text for end in ("alpha", "beta")], [True, True])
     job = "send large other me"
-    for who, limits, why, before in (("taker", {"answer": ["--file-limit", "4999999"]}, refused_of(5_000_000), []),
-                                     ("giver", {"call": ["--file-limit", "4999999"]}, "alpha/send/large is larger than --file-limit",
-                                      [too_large("alpha/send/large", 5_000_000, 4_999_999)])):
+    for who, limits, why, before in (("taker", {"answer": ["--file-limit", "1199999"]}, refused_of(1_200_000), []),
+                                     ("giver", {"call": ["--file-limit", "1199999"]}, "alpha/send/large is larger than --file-limit",
+                                      [too_large("alpha/send/large", 1_200_000, 1_199_999)])):
         ends.jobs("alpha", job)
         caller, called = ends.talk(**limits)
         one.row(f"over the limit of its {who}", (caller.all(), called.status),
                 ((0, report("caller", failed=[job]), said(*before, f"{job}: {why}")), 0))
     one.row("none of them came", names_in(ends.at("beta", "got")), ["large"])
     ends.jobs("alpha", job)
-    limit = ["--file-limit", "5000000"]
+    limit = ["--file-limit", "1200000"]
     caller, called = ends.talk(call=limit, answer=limit)
     one.row("just as large as it may be", (caller.all(), called.status, text_of(ends.at("beta", "got/other")) == text),
             ((0, report("caller", struck=1), ""), 0, True))
@@ -250,13 +250,15 @@ def large_files(one):
 @scene()
 def files_about_as_large_as_they_may_be(one):
     """Around each limit: what one end may give, and what the other may take."""
-    for limit in (1, 100, 1_048_576, 5_000_000):
+    for limit in (1, 100, 1_048_576, 1_200_000):
         ends = Ends(one)
         sizes = {"less": limit - 1, "just": limit, "more": limit + 1}
         ends.give("alpha", **{name: filler(name, size) for name, size in sizes.items()})
         for who in ("call", "answer"):
             ends.jobs("alpha", *(f"send {name} {name} me" for name in sizes))
-            caller, called = ends.talk(**{who: ["--file-limit", str(limit)]})
+            words = {end: ["--size", "1024"] for end in ("call", "answer")}
+            words[who] += ["--file-limit", str(limit)]
+            caller, called = ends.talk(**words)
             why = "alpha/send/more is larger than --file-limit" if who == "call" else refused_of(limit + 1)
             before = [too_large("alpha/send/more", limit + 1, limit)] if who == "call" else []
             job = "send more more me"
