@@ -262,9 +262,11 @@ class Build:
         """Whether who began the build was killed."""
         return os.getppid() != self.launcher
 
-    def pause(self):
-        """Waits for a moment, and ends the build where nobody waits for it any longer."""
-        time.sleep(0.5)
+    def pause(self, *processes):
+        """Waits for a moment, or until one of these has ended, and ends the build where nobody waits for it any longer."""
+        until = time.monotonic() + 0.5
+        while time.monotonic() < until and all(process.poll() is None for process in processes):
+            time.sleep(0.02)
         if self.is_alone():
             sys.exit(1)
 
@@ -316,7 +318,7 @@ class Build:
             while self.waiting != [PROGRAM] or self.lanes:
                 self.begin_lanes()
                 self.show({crate: (lane.jobs, lane.seconds()) for crate, lane in self.lanes.items()})
-                self.pause()
+                self.pause(*(lane.process for lane in self.lanes.values()))
                 if not self.end_lanes():
                     return False
             return True
@@ -336,7 +338,7 @@ class Build:
         try:
             while process.poll() is None:
                 self.show({PROGRAM: (jobs, time.monotonic() - begun)})
-                self.pause()
+                self.pause(process)
         finally:
             stop(process)
         self.count(PROGRAM, jobs, time.monotonic() - begun)
