@@ -11,7 +11,8 @@ NEVER = 60_000
 
 
 def traced(one, *more):
-    return ("strace", "-f", "-qq", "-o", one.path("trace"), *more)
+    """A command's front that notes these calls. The system stops the program at no others, where it can filter them."""
+    return ("strace", "-f", "--seccomp-bpf", "-qq", "-o", one.path("trace"), *more)
 
 
 def count_of(one):
