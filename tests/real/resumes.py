@@ -348,14 +348,14 @@ def kill_at(one, ends, giver, who, most):
 @scene()
 def ends_that_are_killed(one):
     """What comes is written down as it comes: behind a kill the next session goes on there, but for a little."""
-    text = filler("killed", 1_000_000)
+    text = filler("killed", 600_000)
     for giver in ("alpha", "beta"):
         for who in ("giver", "taker"):
             ends = ends_with(one, giver, killed=text)
             passed = sessions = 0
             while text_of(ends.at(giver, "jobs")) and sessions < 12:
                 passed, sessions = passed + kill_at(one, ends, giver, who, 300_000), sessions + 1
-            one.holds(f"{giver} gives, the {who} is killed: its bytes pass 1.2 times at most", passed <= 1_200_000, (passed, sessions))
+            one.holds(f"{giver} gives, the {who} is killed: its bytes pass 1.2 times at most", passed <= 720_000, (passed, sessions))
             one.row(f"{giver} gives, the {who} is killed: it comes", (text_of(ends.at(taker_of(giver), "got/killed")) == text,
                     held(ends, taker_of(giver)), text_of(ends.at(giver, "jobs"))), (True, {}, ""))
             os.remove(ends.at(taker_of(giver), "got/killed"))
