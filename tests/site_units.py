@@ -433,6 +433,7 @@ def rows_of_lines(folder: Path) -> Iterator[Row]:
     lines.drop_lock(lock)
     yield "another's lock stays", lock.exists(), True
     yield "a folder that there is not", type(fault(lambda: lines.take_lock(folder / "none/LCK"))), Unavailable
+    yield "a file in the folder's place", type(fault(lambda: lines.take_lock(lock / "LCK"))), Unavailable
     for port, path in (
         (Port("p", "direct", "/dev/ttyS5"), "/l/LCK..ttyS5"),
         (Port("ttyS6", "modem"), "/l/LCK..ttyS6"),

@@ -125,7 +125,8 @@ def make_lock(path: Path) -> bool:
     except OSError as fault:
         raise Unavailable(str(path), fault.strerror or "can't be made", "let the user uucp write there") from fault
     finally:
-        part.unlink(missing_ok=True)
+        with contextlib.suppress(OSError):
+            part.unlink()
     return True
 
 
