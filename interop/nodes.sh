@@ -1,11 +1,13 @@
 # Two nodes of Debian's `uucp`, alpha and beta, each with its own settings, spool and stand-in for `rmail`, and sessions between
 # them over a slow line; or a hub, beta, whom others call. Needs `work`, `root` and `program`; `rate` is the bytes of a second.
 # What is started is in `started`. The program has the words of `options` besides, and runs under the command `front`; `status` is
-# the one with which it has ended a session, which has `patience` tenths of a second, at least.
+# the one with which it has ended a session, which has `patience` tenths of a second, at least. Where SITE is set the program is run
+# by a copy of packaging/uucico, `site`, which reads the node's settings; `options` are not heard then.
 # shellcheck shell=bash disable=SC2034,SC2154
 options=()
 front=()
 patience=600
+site=
 
 # begin_nodes PROGRAM: `work` is a folder of this run, which goes when the script ends, unless KEEP is set, with a copy of the
 # program that anybody may run
@@ -17,7 +19,16 @@ begin_nodes() {
     cp "$1" "$work/program"
     chmod 755 "$work/program"
     program=$work/program
+    [ -z "${SITE:-}" ] || copy_site
     bad=0
+}
+
+# copy_site: `site` is a copy of packaging/uucico that runs the program
+copy_site() {
+    cp -r "$root/packaging/uucico" "$root/packaging/uucp_site" "$work"
+    sed -i "s|^UUCPAIR = .*|UUCPAIR = \"$program\"|; s|^ERRORS = .*|ERRORS = \"$work/errors\"|" "$work/uucp_site/paths.py"
+    chmod -R a+rX "$work/uucico" "$work/uucp_site"
+    site=$work/uucico
 }
 
 end_nodes() {
@@ -63,6 +74,7 @@ remote-send ~
 remote-receive ~
 local-send /
 END
+    [ -z "$site" ] || echo "protocol-parameter g timeout 5" >>"$here/sys"
     printf '#!/bin/sh\n/bin/cat >>%s/mails\n' "$here" >"$here/bin/rmail"
     chmod 755 "$here/bin/rmail"
     : >"$here/mails"
@@ -102,6 +114,7 @@ new_hub() {
 
 # start_hub COUNT: the program answers at beta, so many sessions, and lets in whom it has a folder of
 start_hub() {
+    [ -z "$site" ] || { start_site_hub; return; }
     runuser -u uucp -- "$program" answer "unix:$work/near" "$work/beta/spool" --spool --me beta \
         --public "$work/beta/pub" --locks "$work/beta/lock" --log "$work/beta/log/Log" --timeout 5 --sessions "$1" --wait 60 \
         >"$work/beta.out" 2>>"$work/beta.err" &
@@ -109,6 +122,27 @@ start_hub() {
     started+=("$hub")
     wait_for "$work/near"
     chmod 666 "$work/near"
+}
+
+start_site_hub() {
+    (cd / && exec socat "UNIX-LISTEN:$work/near,mode=666,fork" "EXEC:runuser -u uucp -- $site -q -I $work/beta/config") \
+        2>>"$work/socat.err" &
+    hub=$!
+    started+=("$hub")
+    wait_for "$work/near"
+}
+
+# end_hub: it has ended its sessions
+end_hub() {
+    local i
+    [ -n "$site" ] || { wait "$hub"; return; }
+    for ((i = 0; i < patience; i++)); do
+        [ -n "$(pgrep -P "$hub")" ] || break
+        sleep 0.1
+    done
+    # shellcheck disable=SC2046
+    end_all $(tree "$hub")
+    keep_said
 }
 
 # call_hub NAME: uucico calls it
@@ -135,9 +169,30 @@ run_uuxqt() {
 
 # ours CALL|ANSWER NODE LINE: the program's words at a node
 ours() {
+    [ -z "$site" ] || by_site "$@"
     exec runuser -u uucp -- "${front[@]}" "$program" "$1" "$3" "$work/$2/spool" --spool --me "$2" --peer "$(other "$2")" \
         --public "$work/$2/pub" --locks "$work/$2/lock" --log "$work/$2/log/Log" --stats "$work/$2/log/Stats" \
         --size 1024 --timeout 5 "${options[@]}" >>"$work/$2.out" 2>>"$work/$2.err"
+}
+
+# by_site CALL|ANSWER NODE LINE: the same as uucico is called; its line is the socket `far` where it answers, else the node's port
+by_site() {
+    cd / || exit 1
+    [ "$1" = call ] &&
+        exec runuser -u uucp -- "${front[@]}" "$site" -q -D -f -I "$work/$2/config" -S "$(other "$2")" 2>>"$work/$2.err"
+    printf '#!/bin/sh\nexec %s\n' "runuser -u uucp -- ${front[*]} $site -q -I $work/$2/config 2>>$work/$2.err" >"$work/called"
+    chmod 755 "$work/called"
+    exec socat "UNIX-LISTEN:${3#unix:},mode=666" "EXEC:$work/called" 2>>"$work/socat.err"
+}
+
+# keep_said: what `packaging/uucico` has had the program say is where the program's own words are
+keep_said() {
+    local node
+    for node in ${site:+alpha beta}; do
+        [ -e "$work/$node/log/Debug" ] || continue
+        tee -a "$work/$node.out" <"$work/$node/log/Debug" >>"$work/$node.err"
+        rm "$work/$node/log/Debug"
+    done
 }
 
 # listen_taylor NODE: uucico answers at the socket far
@@ -203,25 +258,38 @@ mount_disk() {
     mount -o loop,commit=300,noauto_da_alloc "$work/disk" "$work/beta/spool"
 }
 
-# cut_power PID..: that of the program: its disk is from now on as it stands at this moment
-cut_power() {
-    kill -STOP "$@" 2>/dev/null || return
-    cp --sparse=always "$work/disk" "$work/disk.cut"
-    kill -9 "$@" 2>/dev/null && cuts=$((cuts + 1))
+# freeze PID: stops it, and then those that it started: who is stopped starts no more. Says which they are.
+freeze() {
+    local child
+    kill -STOP "$1" 2>/dev/null || return
+    echo "$1"
+    for child in $(pgrep -P "$1"); do
+        freeze "$child"
+    done
 }
 
-# cut WHO: at a random moment the line goes (`line`), or the end that calls or is called is killed (`caller`, `called`), or the
-# power of the program (`power`)
+# cut_power PID: that of the program: its disk is from now on as it stands at this moment
+cut_power() {
+    local frozen
+    frozen=$(freeze "$1")
+    [ -n "$frozen" ] || return
+    cp --sparse=always "$work/disk" "$work/disk.cut"
+    # shellcheck disable=SC2086
+    kill -9 $frozen 2>/dev/null && cuts=$((cuts + 1))
+}
+
+# cut WHO: at a random moment the line goes (`line`), or the end that calls or is called is killed (`caller`, `called`), or
+# packaging/uucico alone, and not what it runs (`site`), or the power of the program (`power`)
 cut() {
     local victim
     sleep "$((RANDOM % 6)).$((RANDOM % 10))"
     case $1 in
     power)
-        # shellcheck disable=SC2046
-        cut_power $(tree "$of_program")
+        cut_power "$of_program"
         return
         ;;
     line) victim=$(tree "$relay") ;;
+    site) victim=$(pgrep -fx "/usr/bin/python3 -I $site .*") ;;
     caller) victim=$(tree "$caller") ;;
     called) victim=$(tree "$answerer") ;;
     esac
@@ -265,6 +333,7 @@ session() {
         mv "$work/disk.cut" "$work/disk"
         mount_disk
     fi
+    keep_said
     sessions=$((sessions + 1))
 }
 
