@@ -7,6 +7,7 @@ from suite import part
 
 ROOT = os.path.dirname(os.path.dirname(os.path.dirname(os.path.abspath(__file__))))
 TAYLOR = ("root", "uucico", "uux", "socat")
+SITE = (*TAYLOR, "uuchk", "python3-serial", "python3-pexpect")
 
 
 def script(one, path, **settings):
@@ -32,6 +33,9 @@ for name, needs, path, settings in (
     ("with_uucico_later_over_a_spool", (*TAYLOR, "strace"), "interop/spool.sh", {"PARTS": "later"}),
     ("with_uucico_put_off", TAYLOR, "interop/spool.sh", {"PARTS": "unread full"}),
     ("with_uucico_killed", TAYLOR, "interop/spool.sh", {"PARTS": "we-call we-answer", "MAILS": "5", "KILLS": "3", "RATE": "12000"}),
+    ("in_uucicos_place_a_hub", SITE, "interop/spool.sh", {"SITE": "1", "PARTS": "hub asked"}),
+    ("in_uucicos_place_killed", SITE, "interop/spool.sh",
+     {"SITE": "1", "PARTS": "we-call we-answer", "MAILS": "5", "KILLS": "3", "RATE": "12000"}),
     ("with_uucico_places", TAYLOR, "interop/spool_faults.sh", {"PARTS": "targets hubfault preserve"}),
     ("with_uucico_words", TAYLOR, "interop/spool_faults.sh", {"PARTS": "words"}),
     ("digests", (), "tests/digests.py", {}),
