@@ -422,7 +422,8 @@ def rows_of_lines(folder: Path) -> Iterator[Row]:
     dead = subprocess.Popen(["true"])
     dead.wait()
     gone = dead.pid
-    for text, taken in ((f"{gone:10d}\n", True), ("garbage\n", False), ("         1\n", False)):
+    # the last is of an earlier process that had the number of this one
+    for text, taken in ((f"{gone:10d}\n", True), ("garbage\n", False), ("         1\n", False), (f"{os.getpid():10d}\n", True)):
         lock.write_text(text)
         yield f"a lock file with {text.strip()}", (lines.take_lock(lock), sorted(path.name for path in folder.glob("LCK*"))), (
             taken,

@@ -24,6 +24,8 @@ CONNECT_SECONDS = 60
 # A command that is a line gets so long to end once its line is closed.
 END_SECONDS = 5
 UUCP_PORT = 540
+# The lock files that this process has taken.
+TAKEN: set[Path] = set()
 
 
 @contextlib.contextmanager
@@ -131,13 +133,15 @@ def make_lock(path: Path) -> bool:
 
 
 def take_lock(path: Path) -> bool:
-    """Returns whether the lock was taken. That of a process that is gone is taken over, by one at a time."""
+    """Returns whether the lock was taken. That of a process that is gone is taken over, by one at a time; so is that of an earlier
+    process which had the number of this one, as in a container that is started again."""
     if make_lock(path):
         return True
     folder = os.open(path.parent, os.O_RDONLY | os.O_DIRECTORY)
     try:
         fcntl.flock(folder, fcntl.LOCK_EX)
-        if holder_of(path) is not None:
+        holder = holder_of(path)
+        if holder is not None and (holder != os.getpid() or path in TAKEN):
             return False
         path.unlink(missing_ok=True)
         return make_lock(path)
@@ -155,9 +159,11 @@ def locked(path: Path, what: str) -> Iterator[None]:
     """Holds the lock file of `what`; it is a fault where another process does."""
     if not take_lock(path):
         raise Busy(what, f"is locked by {path} of process {holder_of(path)}")
+    TAKEN.add(path)
     try:
         yield
     finally:
+        TAKEN.discard(path)
         drop_lock(path)
 
 
