@@ -70,6 +70,22 @@ def a_port_scan_before_the_caller(one):
 
 
 @scene()
+def callers_who_say_nothing(one):
+    """Each is heard for one read only while others wait, so who calls behind three of them is let in."""
+    ends = Ends(one)
+    called = ends.answer(one.line, "--timeout", "2")
+    silent = [socket.socket(socket.AF_UNIX) for _ in range(3)]
+    for stream in silent:
+        stream.connect(one.path(one.line[5:]))
+    caller, ended = send(ends, one.line, "x", "--timeout", "2"), called.end()
+    for stream in silent:
+        stream.close()
+    one.row("who calls behind them", caller.all(), (0, report("caller", struck=1), ""))
+    one.row("who is called", (ended.status, ended.out), (0, report("called")))
+    one.row("the file", text_of(ends.at("beta", "got/x")), "x\n")
+
+
+@scene()
 def who_is_called_by_nobody(one):
     ends = Ends(one)
     ended = one.run(ends.words("answer", one.line, "--wait", "1", "--log", "log"), 20)

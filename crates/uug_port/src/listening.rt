@@ -2,6 +2,7 @@
 
 use crate::deadline::Deadline;
 use crate::timed_stream::TimedStream;
+use crate::waiters::Waiters;
 use mio::unix::SourceFd;
 use mio::{Events, Interest, Poll, Token};
 use std::alloc::Allocator;
@@ -97,6 +98,15 @@ where
             self.poll.poll(&mut self.events, Some(left))?;
         }
         Ok(None)
+    }
+}
+
+impl<T: Listener, R: Net, A: Allocator + Copy> Listening<'_, '_, T, R, A> {
+    /// Returns a look at those who call from now on, or wait already. There is none if the socket listens no more, or
+    /// the system refuses it.
+    pub fn waiters(&self, alloc: A) -> Option<Waiters<A>> {
+        let listener = self.listener.as_ref()?;
+        Waiters::at(alloc, self.rt, listener).ok()
     }
 }
 

@@ -6,14 +6,19 @@ ghost use Rattle.uug_sys.specs.HubFaults.{is_in_folder, is_of_folder, is_of_sess
 
 use crate::bad_jobs::jobs_remark_at;
 use crate::call::{stream_line, talk_over};
+use crate::door_line::DoorLine;
 use crate::doorkeeper::Doorkeeper;
 use crate::end_run::EndRun;
 use crate::held_output::HeldOutput;
 use std::alloc::Allocator;
 use std::io;
+use std::os::fd::AsRawFd;
 use std::rt::Files;
 use uug_failure::{Cause, Outcome, Resource, RunFault, SystemFailure};
-use uug_port::{Deadline, Listener, Listening, SilentLine, SystemLine};
+use uug_port::{
+    Deadline, Listener, Listening, PolledStream, SilentLine, StreamLine, SystemLine, TimedStream,
+    Waiters,
+};
 use uug_reason::reason_line;
 use uug_stream::{Output, ToolFault, write_all};
 use uug_task::{CallTask, Station, System};
@@ -289,7 +294,7 @@ where
             Ok(None) => break,
             Err(error) => return (broken(run.alloc, &error), doorkeeper),
         };
-        let line = stream_line(run.alloc, run.rt, Ok(stream));
+        let line = door_line(run, stream, doorkeeper.waiters(run.alloc));
         let (served, keeper) = serve(run, line, doorkeeper);
         doorkeeper = keeper;
         if doorkeeper.has_let_in() || served.outcome.answer.is_err() {
@@ -299,6 +304,26 @@ where
     }
     doorkeeper.close();
     serve(run, Ok(SilentLine), doorkeeper)
+}
+
+/// Returns the line of a caller at the door, behind whom others may wait.
+fn door_line<A, R, T>(
+    run: &EndRun<'_, A, R>,
+    stream: T,
+    waiters: Option<Waiters<A>>,
+) -> Result<DoorLine<StreamLine<PolledStream<T, A>>, A>, Cause>
+where
+    A: Allocator + Copy,
+    R: System,
+    T: TimedStream + AsRawFd + Drop,
+{
+    match stream_line(run.alloc, run.rt, Ok(stream)) {
+        Ok(line) => Ok(DoorLine::new(line, run.station.time(), waiters)),
+        Err(cause) => {
+            drop(waiters);
+            Err(cause)
+        }
+    }
 }
 
 /// Runs the session at a line, and holds its report back. Returns the doorkeeper too.

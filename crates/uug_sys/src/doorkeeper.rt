@@ -7,7 +7,7 @@ use std::io;
 use std::net::Net;
 use std::rt::Files;
 use std::time::{Clock, Duration};
-use uug_port::{Deadline, Listener, Listening, TimedStream};
+use uug_port::{Deadline, Listener, Listening, TimedStream, Waiters};
 use uug_session::Phase;
 use uug_transfer::{ReadOutcome, SessionObserver, SessionStatus};
 
@@ -99,6 +99,11 @@ impl<W, T: Listener + Drop, R: Files + Net + Clock, A: Allocator + Copy> Doorkee
         };
         stream.set_time(time)?;
         Ok(Some(stream))
+    }
+
+    /// Returns a look at those who wait behind the caller at the door, if the system allows it.
+    pub(crate) fn waiters(&self, alloc: A) -> Option<Waiters<A>> {
+        self.listening.waiters(alloc)
     }
 }
 

@@ -4,6 +4,7 @@
 mod answer;
 mod bad_jobs;
 mod call;
+mod door_line;
 mod doorkeeper;
 mod end_run;
 mod failing_line;
