@@ -272,7 +272,7 @@ row "a call that never waits" 2 "${usage}timeout 0 is not 1 to 600$line_feed" ""
 row "a call over a line without a speed" 2 "${usage}speed 0 is not 300 to 10000000$line_feed" "" call l a --me a --peer b --speed 0 </dev/null
 row "a call over a line that is too slow" 2 "${usage}speed 299 is not 300 to 10000000$line_feed" "" call l a --me a --peer b --speed 299 </dev/null
 row "a call over a line that is too fast" 2 "${usage}speed 10000001 is not 300 to 10000000$line_feed" "" call l a --me a --peer b --speed 10000001 </dev/null
-begins=yes row "a call that waits to be called" 2 "error: " "" call l a --me a --peer b --wait 5 </dev/null
+begins=yes row "a call that waits to be called" 2 "uucpair: --wait is for answer: " "" call l a --me a --peer b --wait 5 </dev/null
 row "an answer that doesn't wait" 2 "${usage}wait 0 is not 1 to 1000000000$line_feed" "" answer l a --me a --peer b --wait 0 </dev/null
 row "an answer that waits too long" 2 "${usage}wait 1000000001 is not 1 to 1000000000$line_feed" "" answer l a --me a --peer b --wait 1000000001 </dev/null
 row "a call to a port that is none" 2 "${usage}tcp:h:x has no port of 0 to 65535: give tcp:HOST:PORT, the port as a number$line_feed" "" call tcp:h:x a --me a --peer b </dev/null

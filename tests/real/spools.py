@@ -662,7 +662,8 @@ def a_file_that_cant_be_looked_at_for_a_moment(one):
     nodes.known("beta", "alpha")
     write(f"{beta}/.Temp/alpha/well", "well\n")
     write(f"{beta}/.Received/alpha/well", "well")
-    refused = ("-P", f"{beta}/.Temp/alpha/well", "-e", "inject=statx,newfstatat,lstat:error=EIO")
+    looks = "statx,newfstatat,lstat"
+    refused = ("-P", f"{beta}/.Temp/alpha/well", "-e", f"trace={looks}", "-e", f"inject={looks}:error=EIO")
     called = nodes.answer("beta", peer="alpha", front=traced(one, *refused))
     nodes.call("alpha", own=False)
     one.row("a fault", called.end().all(), (3, "", said("device fault", f"{beta}: error 5")))

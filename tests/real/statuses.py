@@ -288,14 +288,15 @@ def the_last_session_in_a_log(one):
     ends.talk(**logs)
     one.row("a session that is done: the log", [line.split("(TIME) ")[1] for line in masked(ends.at("alpha", "log"))],
             [f"Calling system beta (port {one.line})", "Sending x (2 bytes)", "ERROR: request none none: refused", "ERROR: 1 job was given up",
-            "Call complete (2 bytes)"])
-    log_rows(one, ends, "a session that is done", 0, 2, 3, 4)
+            "Call complete (2 bytes)", "ERROR: request none none me: not given by the other end: no such file in its send, or one that may not go; "
+            "or not to be put in its place here"])
+    log_rows(one, ends, "a session that is done", 0, 2, 3, 4, 5)
     log_rows(one, ends, "at the other end", 0, 2, 3, end="beta")
     one.row("without a log", [line for line in status(one).out.splitlines() if line.startswith("session")], [])
     called = ends.answer(one.line, *logs["answer"])
     one.run(["call", one.line, "alpha", "--me", "other", "--peer", "beta", *logs["call"]])
     called.stop()
-    log_rows(one, ends, "a stranger", 5, 6, 7)
+    log_rows(one, ends, "a stranger", 6, 7, 8)
     write(ends.at("alpha", "log"), b"no line\nuucpair \xff - (d t 1) Calling system \xff \\\nuucpair b - (d t 1) ERROR: \xc3\xa9 \"q\"\n"
             b"uucpair b - (d t 2) ERROR: another's\nuucpair b - (d t 1) Call complete x")
     one.row("bytes that are no text", status(one, "--log", "alpha/log").out.splitlines()[1:-1],
