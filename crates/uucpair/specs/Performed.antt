@@ -1,5 +1,5 @@
 -- What the program does for each task: its answer, what it read, and what it wrote (this project's profile).
-use Rattle.std.specs.Prelude.{◌≡◌, ◌≤◌, ◌⊎◌, ℕ, Bool, List, Result, Err, IfOk, IfErr, OnOk, codes, true}
+use Rattle.std.specs.Prelude.{◌≡◌, ◌≢◌, ◌≤◌, ◌⊎◌, ℕ, Bool, List, Some, None, Result, Err, IfOk, IfErr, OnOk, codes, true}
 use Rattle.uug_scan.specs.Listing.{ended}
 use Rattle.uug_stream.specs.Streams.{Appends}
 use Rattle.uug_stream.specs.declared.fault.ToolFault.TheVariants as faults
@@ -10,7 +10,11 @@ use Rattle.uug_words.specs.Asked.{Asks}
 use Rattle.uug_words.specs.Tools.{uucpair}
 use Rattle.uug_words.specs.declared.command_line.Task.{Task}
 use Rattle.uug_words.specs.declared.command_line.Task.TheVariants.{Version, Scan, ScanVerbose, Play, PlayVerbose, PlaySettled, PlayDrawn, Pair, Call, Queue, Cancel, Status}
+use Rattle.uug_conversation.specs.declared.side.Side.TheVariants.{Caller}
 use Rattle.uug_pending.specs.Status.{WritesStatus}
+use Rattle.uug_sys.specs.Calls.{HasCalled}
+use Rattle.uug_task.specs.declared.task.CallTask.{CallTask}
+use Rattle.uug_transfer.specs.LineNames.{line_of, standard}
 use Rattle.uug_input.specs.Inputs.{DoesOn, StaysUnread, StaysUnwritten, Streams}
 use Rattle.uug_input.specs.declared.input_task.InputTask.TheVariants as over
 use Rattle.uug_stop.specs.Refused.{IsNoTask}
@@ -27,13 +31,27 @@ pub record ShowsVersion (s : Streams) (answer : Result ℕ RunFault) : Type 0 wh
   pub status : IfOk answer (λ status. status ≡ 0)
   pub writes : OnOk answer (Appends version_line s.before s.after)
 
--- `pair`, `call` and `answer`: nothing was read of the input, and of a device fault it is known which call it was
+-- `pair`: nothing was read of the input, and of a device fault it is known which call it was
 pub record Pairs (s : Streams) (answer : Result ℕ RunFault) : Type 0 where
   pub status : IfOk answer (λ status. status ≤ 1)
   pub reads : StaysUnread s
   pub no_other : IfErr answer IsRunFault
 
--- `queue`: the same
+-- its report goes to standard output, which is not its line
+pub record PrintsReport (task : CallTask) : Type 0 where
+  pub calls : task.side ≡ Caller
+  pub no_file : task.report ≡ None
+  pub apart : line_of task.line.now ≢ Some standard
+
+-- `call` and `answer`: the same. Where a caller prints its report, that is the report of an end that has run its session to its
+-- end, and the status is that of this session; or another run talks with that system, and nothing is printed.
+pub record Calls (task : CallTask) (s : Streams) (answer : Result ℕ RunFault) : Type 0 where
+  pub status : IfOk answer (λ status. status ≤ 1)
+  pub reads : StaysUnread s
+  pub no_other : IfErr answer IsRunFault
+  pub reported : PrintsReport task → IfOk answer (λ status. HasCalled status s.before s.after)
+
+-- `queue`: the same as `pair`
 pub record Queues (s : Streams) (answer : Result ℕ RunFault) : Type 0 where
   pub status : IfOk answer (λ status. status ≡ 0)
   pub reads : StaysUnread s
@@ -63,7 +81,7 @@ Does (PlayVerbose file) s remark answer = DoesOn over.PlayVerbose file s remark 
 Does (PlaySettled file) s remark answer = DoesOn over.PlaySettled file s remark answer
 Does (PlayDrawn file) s remark answer = DoesOn over.PlayDrawn file s remark answer
 Does (Pair pair) s remark answer = Pairs s answer
-Does (Call call) s remark answer = Pairs s answer
+Does (Call call) s remark answer = Calls call s answer
 Does (Queue queue) s remark answer = Queues s answer
 Does (Cancel cancel) s remark answer = Cancels s answer
 Does (Status task) s remark answer = ShowsStatus task.is_json s answer

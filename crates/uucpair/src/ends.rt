@@ -3,6 +3,8 @@ ghost use Rattle.std.specs.Prelude.{◌≡◌, ◌≤◌, IfErr, IfOk};
 ghost use Rattle.uug_failure.specs.Faults.{IsFolderFault, IsRunFault};
 ghost use Rattle.uug_stop.specs.declared.of_end.TheConstants.{LOG};
 ghost use Rattle.uug_stream.specs.Streams.{CountsFault};
+ghost use Rattle.uug_sys.specs.Calls.{HasCalled};
+ghost use Rattle.uucpair.specs.Performed.{PrintsReport};
 
 use crate::bad_jobs::jobs_remark;
 use crate::console::Console;
@@ -90,6 +92,8 @@ where
     O: Output,
     ensures status { IfOk result.answer (λ status. status ≤ 1) }
     ensures no_other { IfErr result.answer IsRunFault }
+    ensures reported { PrintsReport call.now → IfOk result.answer (λ status.
+        HasCalled status (O.written output.old) (O.written output.new)) }
 {
     if lacks_spool(call) {
         return Outcome::of(rt.alloc(), Err(RunFault::Tool(ToolFault::Usage)));
@@ -188,6 +192,8 @@ where
     ensures write { result.answer ≡ Err (RunFault.Tool ToolFault.Write)
         → CountsFault (O.fault_count output.old) (O.fault_count output.new) }
     ensures no_other { IfErr result.answer IsRunFault }
+    ensures reported { call.now.side ≡ Side.Caller → IfOk result.answer (λ status.
+        HasCalled status (O.written output.old) (O.written output.new)) }
 {
     let observer = match observer_of(rt, call, console) {
         Ok(observer) => observer,

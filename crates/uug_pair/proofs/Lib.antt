@@ -6,7 +6,6 @@ mod HonestLemmas
 mod Joins
 mod MovedLemmas
 mod PairLemmas
-mod RunLemmas
 mod StandsLemmas
 mod StepJoins
 mod TwoCoursesLaw

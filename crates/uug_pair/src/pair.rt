@@ -11,7 +11,8 @@ ghost use Rattle.uug_pair.specs.Answers.{IsRunAnswer};
 ghost use Rattle.uug_pair.specs.GoneJobs.{GoneJobsWereDone, beginnings_of, kept_by, nodes_of};
 ghost use Rattle.uug_task.specs.Places.{IsPlaceInPair};
 ghost use Rattle.uug_task.specs.Tasks.{beginning_of};
-ghost use Rattle.uug_transfer.specs.BufferedNodes.{IsLed, node_in, spool_in};
+ghost use Rattle.uug_transfer.specs.BufferedNodes.{node_in, spool_in};
+ghost use Rattle.uug_transfer.specs.Moments.{IsLed, end_now};
 ghost use Rattle.uug_transfer.specs.EndOver.{IsEndFault};
 
 use crate::promises::the_file_of_a_job_that_is_gone_was_kept;
@@ -273,17 +274,15 @@ fn run_ends<'a, A: Allocator + Copy, R: Files<File = File> + Net + Alloc + Clone
     requires caller_calm { caller.old.jobs.file.faults.count ≡ 0 }
     requires called_calm { called.old.jobs.file.faults.count ≡ 0 }
     ensures caller_led { IsLed
-        (⟦<SystemSpool<'a, R, A> as Spool>⟧.holdings (spool_in caller.old.buffered))
-        (⟦<SystemSpool<'a, R, A> as Spool>⟧.holdings (spool_in caller.new.buffered))
-        (⟦<SystemSpool<'a, R, A> as Spool>⟧.kept (spool_in caller.old.buffered))
-        (⟦<SystemSpool<'a, R, A> as Spool>⟧.kept (spool_in caller.new.buffered))
-        (node_in caller.old.buffered) (node_in caller.new.buffered) }
+        (end_now ⟦<SystemSpool<'a, R, A> as Spool>⟧.holdings
+        ⟦<SystemSpool<'a, R, A> as Spool>⟧.kept caller.old.buffered)
+        (end_now ⟦<SystemSpool<'a, R, A> as Spool>⟧.holdings
+        ⟦<SystemSpool<'a, R, A> as Spool>⟧.kept caller.new.buffered) }
     ensures called_led { IsLed
-        (⟦<SystemSpool<'a, R, A> as Spool>⟧.holdings (spool_in called.old.buffered))
-        (⟦<SystemSpool<'a, R, A> as Spool>⟧.holdings (spool_in called.new.buffered))
-        (⟦<SystemSpool<'a, R, A> as Spool>⟧.kept (spool_in called.old.buffered))
-        (⟦<SystemSpool<'a, R, A> as Spool>⟧.kept (spool_in called.new.buffered))
-        (node_in called.old.buffered) (node_in called.new.buffered) }
+        (end_now ⟦<SystemSpool<'a, R, A> as Spool>⟧.holdings
+        ⟦<SystemSpool<'a, R, A> as Spool>⟧.kept called.old.buffered)
+        (end_now ⟦<SystemSpool<'a, R, A> as Spool>⟧.holdings
+        ⟦<SystemSpool<'a, R, A> as Spool>⟧.kept called.new.buffered) }
     ensures status { IfOk result (λ status. status ≤ 1) }
     ensures write { result ≡ Err (RunFault.Tool ToolFault.Write)
         → CountsFault (O.fault_count output.old) (O.fault_count output.new) }

@@ -1,6 +1,5 @@
 pub mod PathLemmas
 pub mod PublicFileLemmas
-pub mod ReportedLemmas
 pub mod WhyLemmas
 mod PublicNameFacts
 mod GradeFacts

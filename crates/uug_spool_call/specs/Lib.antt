@@ -2,7 +2,7 @@ pub mod Arrivals
 pub mod Budgets
 pub mod GivenData
 pub mod PublicNames
-pub mod Reported
+pub mod Stores
 pub mod SystemLogs
 pub mod Waiting
 pub mod Works

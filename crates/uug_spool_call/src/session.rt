@@ -1,17 +1,16 @@
 //! The session of an end over a spool.
-ghost use Rattle.std.specs.Prelude.{◌≡◌, ◌≢◌, ◌<◌, ◌≤◌, Some, IfErr, IfOk, IsErr, OnOk, is_some, string_bytes};
+ghost use Rattle.std.specs.Prelude.{◌≡◌, ◌≢◌, ◌<◌, ◌≤◌, IfErr, IfOk, IsErr, OnOk, is_some, string_bytes};
 ghost use Rattle.uug_failure.specs.Faults.{IsFaultAtLine, IsFolderFault};
-ghost use Rattle.uug_mailbox.specs.OpenLines.{jobs_of};
-ghost use Rattle.uug_mailbox.specs.WorkStores.{lines_of};
 ghost use Rattle.uug_session.specs.Engine.{HasFailed, IsEnded};
 ghost use Rattle.uug_session.specs.Node.{node_of};
-ghost use Rattle.uug_spool_call.specs.Reported.{HasRunSoundly, IsReported, status_with};
+ghost use Rattle.uug_transfer.specs.Reported.{HasRunSoundly, IsReported, status_with};
+ghost use Rattle.uug_spool_call.specs.Stores.{store_now};
 ghost use Rattle.uug_stream.specs.Fault.{StopsWriting};
 ghost use Rattle.uug_stream.specs.Streams.{Appends, CountsFault};
-ghost use Rattle.uug_transfer.specs.BufferedNodes.{IsLed, KeepsJobs, node_in, spool_in};
+ghost use Rattle.uug_transfer.specs.BufferedNodes.{node_in, spool_in};
 ghost use Rattle.uug_transfer.specs.Ends.{phase_of_end, report_of, status_of_phase};
-ghost use Rattle.uug_transfer.specs.SessionFaults.{UnlessUnsettled};
-ghost use Rattle.uug_transfer.specs.Settling.{LosesNoJob, StaysInStore};
+ghost use Rattle.uug_transfer.specs.LineSessions.{SettlesJobs};
+ghost use Rattle.uug_transfer.specs.Moments.{IsLed, end_now};
 
 use crate::arrivals::{Arrivals, finish_arrivals};
 use crate::notices::mail_failed;
@@ -112,27 +111,19 @@ where
     A: Allocator + Copy,
     R: Files<File = File>,
     L: EndLine,
-    // Events led the end on, beside files that it gives and accepts as before; and what it had kept stays.
     ensures led { IsLed
-        (⟦<SpoolFiles<'a, 'p, R, A> as Spool>⟧.holdings (spool_in end.old.buffered))
-        (⟦<SpoolFiles<'a, 'p, R, A> as Spool>⟧.holdings (spool_in end.new.buffered))
-        (⟦<SpoolFiles<'a, 'p, R, A> as Spool>⟧.kept (spool_in end.old.buffered))
-        (⟦<SpoolFiles<'a, 'p, R, A> as Spool>⟧.kept (spool_in end.new.buffered))
-        (node_in end.old.buffered) (node_in end.new.buffered) }
-    ensures kept { KeepsJobs
-        (⟦<SpoolFiles<'a, 'p, R, A> as Spool>⟧.holdings (spool_in end.old.buffered))
-        (⟦<SpoolFiles<'a, 'p, R, A> as Spool>⟧.holdings (spool_in end.new.buffered))
-        (⟦<SpoolFiles<'a, 'p, R, A> as Spool>⟧.kept (spool_in end.old.buffered))
-        (⟦<SpoolFiles<'a, 'p, R, A> as Spool>⟧.kept (spool_in end.new.buffered))
-        (node_in end.old.buffered) (node_in end.new.buffered) }
+        (end_now ⟦<SpoolFiles<'a, 'p, R, A> as Spool>⟧.holdings
+        ⟦<SpoolFiles<'a, 'p, R, A> as Spool>⟧.kept end.old.buffered)
+        (end_now ⟦<SpoolFiles<'a, 'p, R, A> as Spool>⟧.holdings
+        ⟦<SpoolFiles<'a, 'p, R, A> as Spool>⟧.kept end.new.buffered) }
     ensures over { IsEnded (node_in end.new.buffered).engine.stage }
     // A job that is over is taken out of its C. files, and nothing else is.
-    ensures stays { UnlessUnsettled result (StaysInStore (Some (jobs_of (lines_of end.old.store)))
-        (Some (jobs_of (lines_of end.new.store))) (node_in end.old.buffered) (node_in end.new.buffered)) }
-    ensures none_lost { LosesNoJob (Some (jobs_of (lines_of end.old.store)))
-        (Some (jobs_of (lines_of end.new.store))) (node_in end.old.buffered) (node_in end.new.buffered) }
-    ensures jobs { result ≡ Err SessionFault.Jobs → HasFailed u64.MAX
-        end.old.store.disk.faults.count end.new.store.disk.faults.count }
+    ensures settles { SettlesJobs result
+        (end_now ⟦<SpoolFiles<'a, 'p, R, A> as Spool>⟧.holdings
+        ⟦<SpoolFiles<'a, 'p, R, A> as Spool>⟧.kept end.old.buffered)
+        (end_now ⟦<SpoolFiles<'a, 'p, R, A> as Spool>⟧.holdings
+        ⟦<SpoolFiles<'a, 'p, R, A> as Spool>⟧.kept end.new.buffered)
+        (store_now end.old.store) (store_now end.new.store) }
     ensures no_number { result ≢ Err SessionFault.Number }
     ensures line { result ≡ Err SessionFault.Line
         → HasFailed u64.MAX (L.fault_count line.old) (L.fault_count line.new) }

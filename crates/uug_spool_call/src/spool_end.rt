@@ -9,7 +9,7 @@ ghost use Rattle.uug_mailbox.specs.Places.{shown_public};
 ghost use Rattle.uug_mailbox.specs.Placing.{came_of, marks_of, no_marks};
 ghost use Rattle.uug_mailbox.specs.Rewriting.{shown_text};
 ghost use Rattle.uug_mailbox.specs.WorkStores.{files_of, lines_of};
-ghost use Rattle.uug_spool_call.specs.Reported.{HasRunSoundly};
+ghost use Rattle.uug_transfer.specs.Reported.{HasRunSoundly};
 ghost use Rattle.uug_task.specs.Tasks.{HasBegunAt};
 ghost use Rattle.uug_transfer.specs.BufferedNodes.{node_in, spool_in};
 

@@ -1,4 +1,5 @@
 pub mod Callers
+pub mod Calls
 pub mod EndAnswers
 pub mod HeldLines
 pub mod HubFaults

@@ -4,7 +4,9 @@ ghost use Rattle.uug_failure.specs.Faults.{IsFaultAtLine, IsFolderFault, IsReadi
 ghost use Rattle.uug_stream.specs.Streams.{CountsFault};
 ghost use Rattle.uug_sys.specs.EndAnswers.{answer_with, failure_to_tell, status_of};
 ghost use Rattle.uug_sys.specs.JobRemarks.{has_failed};
+ghost use Rattle.uug_sys.specs.Calls.{HasCalled};
 ghost use Rattle.uug_task.specs.Tasks.{IsTask};
+ghost use Rattle.uug_transfer.specs.Reported.{IsReported};
 
 use crate::answer::answer_at;
 use crate::end_run::EndRun;
@@ -69,6 +71,10 @@ where
     ensures write { result.answer ≡ Err (RunFault.Tool ToolFault.Write)
         → CountsFault (O.fault_count output.old) (O.fault_count output.new) }
     ensures usage { (result.answer ≡ Err (RunFault.Tool ToolFault.Usage)) ↔ (IsTask task.now → ⊥) }
+    // A caller's report is printed, of an end that has run its session to its end, with its status. Else another run
+    // talks with that system over its spool: then nothing is printed, and the status is 1.
+    ensures reported { task.now.side ≡ Side.Caller → IfOk result.answer (λ status.
+        HasCalled status (O.written output.old) (O.written output.new)) }
     // A call of the system that failed is named.
     ensures no_other { IfErr result.answer IsRunFault }
 {
@@ -105,6 +111,8 @@ where
     ensures write { result.answer ≡ Err (RunFault.Tool ToolFault.Write)
         → CountsFault (O.fault_count output.old) (O.fault_count output.new) }
     ensures no_other { IfErr result.answer IsSessionFault }
+    ensures reported { run.now.task.now.side ≡ Side.Caller → IfOk result.answer (λ status.
+        IsReported Side.Caller status (O.written output.old) (O.written output.new)) }
 {
     let lock = match lock_and_look(run.alloc, run.rt, run.task) {
         Ok(lock) => lock,
@@ -198,6 +206,9 @@ where
     ensures write { result.answer ≡ Err (RunFault.Tool ToolFault.Write)
         → CountsFault (O.fault_count output.old) (O.fault_count output.new) }
     ensures no_other { IfErr result.answer IsSessionFault }
+    // A caller has one session, of which the report is printed.
+    ensures reported { run.now.task.now.side ≡ Side.Caller → IfOk result.answer (λ status.
+        IsReported Side.Caller status (O.written output.old) (O.written output.new)) }
 {
     let (alloc, rt, time) = (run.alloc, run.rt, run.station.time());
     match (line, run.task.side) {
@@ -281,6 +292,8 @@ where
     ensures write { result.answer ≡ Err (RunFault.Tool ToolFault.Write)
         → CountsFault (O.fault_count output.old) (O.fault_count output.new) }
     ensures no_other { IfErr result.answer IsSessionFault }
+    ensures reported { IfOk result.answer (λ status. IsReported run.now.task.now.side status
+        (O.written output.old) (O.written output.new)) }
 {
     let lock = match lock_device(run.alloc, run.rt, run.task.locks, path) {
         Ok(lock) => lock,
@@ -320,6 +333,8 @@ where
     ensures write { result.answer ≡ Err (RunFault.Tool ToolFault.Write)
         → CountsFault (O.fault_count output.old) (O.fault_count output.new) }
     ensures no_other { IfErr result.answer IsSessionFault }
+    ensures reported { IfOk result.answer (λ status. IsReported run.now.task.now.side status
+        (O.written output.old) (O.written output.new)) }
 {
     let side = run.task.side;
     match called(line, run.station.wait_at_device(side)) {
@@ -378,6 +393,8 @@ where
     ensures write { result.answer ≡ Err (RunFault.Tool ToolFault.Write)
         → CountsFault (O.fault_count output.old) (O.fault_count output.new) }
     ensures no_other { IfErr result.answer IsSessionFault }
+    ensures reported { IfOk result.answer (λ status. IsReported run.now.task.now.side status
+        (O.written output.old) (O.written output.new)) }
 {
     let (outcome, observer) = talk_over(run, held, line, observer, output);
     drop(observer);
@@ -402,6 +419,8 @@ where
     ensures write { result.0.answer ≡ Err (RunFault.Tool ToolFault.Write)
         → CountsFault (O.fault_count output.old) (O.fault_count output.new) }
     ensures no_other { IfErr result.0.answer IsSessionFault }
+    ensures reported { IfOk result.0.answer (λ status. IsReported run.now.task.now.side status
+        (O.written output.old) (O.written output.new)) }
 {
     let line = match line {
         Ok(line) => line,
@@ -475,6 +494,8 @@ where
     ensures write { result.answer ≡ Err (RunFault.Tool ToolFault.Write)
         → CountsFault (O.fault_count output.old) (O.fault_count output.new) }
     ensures no_other { IfErr result.answer IsFaultAtLine }
+    ensures reported { IfOk result.answer (λ ended. IsReported run.now.task.now.side ended.status
+        (O.written output.old) (O.written output.new)) }
     ensures line { result.answer ≡ Err (RunFault.Tool ToolFault.Device)
         → 0 < L.fault_count line.new.line }
 {
@@ -522,6 +543,9 @@ where
     ensures write { result.answer ≡ Err (RunFault.Tool ToolFault.Write)
         → CountsFault (O.fault_count output.old) (O.fault_count output.new) }
     ensures no_other { IfErr result.answer IsFaultAtLine }
+    // The report is printed of an end that has run its session to its end, and the status is that of the session.
+    ensures reported { IfOk result.answer (λ ended. IsReported run.now.task.now.side ended.status
+        (O.written output.old) (O.written output.new)) }
     // Unless the line has failed, the call on the folder that did is named.
     ensures line { result.answer ≡ Err (RunFault.Tool ToolFault.Device)
         → 0 < L.fault_count line.new.line }

@@ -2,9 +2,10 @@
 ghost use Rattle.std.specs.Prelude.{◌≡◌, ◌≢◌, ◌<◌, ◌≤◌, Err, IfErr, IfOk, OnErr, codes, false, string_bytes, true};
 ghost use Rattle.uug_failure.specs.Faults.{IsFaultAtLine, IsFolderFault, IsSessionFault};
 ghost use Rattle.uug_spool.specs.SpoolNames.{is_system_name};
-ghost use Rattle.uug_spool_call.specs.Reported.{IsReported};
+ghost use Rattle.uug_transfer.specs.Reported.{IsReported};
 ghost use Rattle.uug_stream.specs.Streams.{CountsFault};
 ghost use Rattle.uug_sys.specs.Callers.{other_than};
+ghost use Rattle.uug_sys.specs.Calls.{HasCalled};
 ghost use Rattle.uug_sys.specs.SpoolCalls.{IsCallOf, line_fault, port_of};
 ghost use Rattle.uug_sys.specs.SpoolLocks.{CallsLater, Says, is_locked, lock_words};
 ghost use Rattle.uug_transfer.specs.Writing.{TakesFront};
@@ -57,6 +58,8 @@ where
     ensures write { result.answer ≡ Err (RunFault.Tool ToolFault.Write)
         → CountsFault (O.fault_count output.old) (O.fault_count output.new) }
     ensures no_other { IfErr result.answer IsSessionFault }
+    ensures reported { run.now.task.now.side ≡ Side.Caller → IfOk result.answer (λ status.
+        HasCalled status (O.written output.old) (O.written output.new)) }
 {
     if let Err(fault) = see_spool(run.alloc, run.rt, run.task) {
         drop(observer);
@@ -89,6 +92,8 @@ where
     ensures write { result.answer ≡ Err (RunFault.Tool ToolFault.Write)
         → CountsFault (O.fault_count output.old) (O.fault_count output.new) }
     ensures no_other { IfErr result.answer IsSessionFault }
+    ensures reported { run.now.task.now.side ≡ Side.Caller → IfOk result.answer (λ status.
+        HasCalled status (O.written output.old) (O.written output.new)) }
     ensures calls_later { IfErr lock (λ fault. is_locked fault ≡ true
         → CallsLater run.now.task.now result.answer (string_bytes result.remark)) }
     ensures gives_up { IfErr lock (λ fault. is_locked fault ≡ false → result.answer ≡ Err fault) }
@@ -130,6 +135,7 @@ fn call_later<A: Allocator + Copy, R: System>(
     ensures status { IfOk result.answer (λ status. status ≤ 1) }
     ensures no_write { result.answer ≢ Err (RunFault.Tool ToolFault.Write) }
     ensures no_other { IfErr result.answer IsSessionFault }
+    ensures later { IfOk result.answer (λ status. status ≡ 1) }
     ensures calls_later { is_locked fault ≡ true
         → CallsLater run.now.task.now result.answer (string_bytes result.remark) }
     ensures gives_up { is_locked fault ≡ false → result.answer ≡ Err fault }

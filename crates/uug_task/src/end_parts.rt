@@ -13,6 +13,7 @@ ghost use Rattle.uug_stream.specs.Streams.{CountsFault};
 ghost use Rattle.uug_task.specs.Tasks.{HasBegunAt, beginning_at, beginning_of, identity_at};
 ghost use Rattle.uug_transfer.specs.BufferedNodes.{node_in, spool_in};
 ghost use Rattle.uug_transfer.specs.EndOver.{IsEndFault};
+ghost use Rattle.uug_transfer.specs.Reported.{IsReported};
 
 use std::alloc::{AllocError, Allocator};
 use uug_folder::{JobTexts, JobsFile, TextFile};
@@ -107,6 +108,9 @@ impl<S: Spool + Drop, J: JobTexts + Drop, N: TextFile + Drop, A: Allocator + Cop
         ensures sound { IfOk result (λ _.
             IsSoundBeginning (beginning_of S.holdings S.kept self)) }
         ensures status { IfOk result (λ finished. IfOk finished.answer (λ status. status ≤ 1)) }
+        // The report of the end is printed, and the status is that of its session.
+        ensures reported { IfOk result (λ finished. IfOk finished.answer (λ status.
+            IsReported side status (O.written output.old) (O.written output.new))) }
         ensures write { IfOk result (λ finished. finished.answer ≡ Err ToolFault.Write
             → CountsFault (O.fault_count output.old) (O.fault_count output.new)) }
         ensures no_other { IfOk result (λ finished. IfErr finished.answer IsEndFault) }

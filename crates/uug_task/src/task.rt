@@ -121,6 +121,8 @@ impl<'a> CallTask<'a> {
         ensures file { IfSome self.now.report (λ path. result ≡ ReportPlace.File path) }
         ensures apart { line_of self.now.line.now ≡ Some standard → result ≢ ReportPlace.Output }
         ensures output { line_of self.now.line.now ≢ Some standard → result ≢ ReportPlace.Errors }
+        ensures printed { self.now.report ≡ None → line_of self.now.line.now ≢ Some standard
+            → result ≡ ReportPlace.Output }
     {
         match (self.report, read_line_name(self.line)) {
             (Some(path), _) => ReportPlace::File(path),

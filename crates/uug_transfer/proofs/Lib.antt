@@ -1,6 +1,5 @@
 pub mod BudgetLemmas
 pub mod EndLemmas
-pub mod KeepingLemmas
 pub mod LedLemmas
 pub mod LineNameFacts
 pub mod LineNameLemmas
@@ -9,7 +8,9 @@ pub mod NumberLemmas
 pub mod OutgoingLemmas
 pub mod ReceivedLemmas
 pub mod ReportLemmas
+pub mod ReportedLemmas
 pub mod RoomLemmas
+pub mod SessionLemmas
 pub mod SettlingLemmas
 pub mod ThinningFacts
 pub mod ThinningLemmas

@@ -2,11 +2,8 @@
 use Rattle.std.specs.Prelude.{◌≡◌, ◌++◌, ℕ, List, []}
 use Rattle.uug_session.specs.Engine.{Does, EngineState, bare, stage_late, with_outbox}
 use Rattle.uug_conversation.specs.Holdings.{Holdings, Kept}
-use Rattle.uug_session.specs.Node.{NodeState, node_of, struck_jobs}
+use Rattle.uug_session.specs.Node.{NodeState, node_of}
 use Rattle.uug_session.specs.NodeArriving.{TakesAll}
-use Rattle.uug_session.specs.NodeRuns.{IsLedByEvents}
-use Rattle.uug_conversation.specs.OwnRequests.{KeepsWhatItAskedFor}
-use Rattle.uug_conversation.specs.Sharing.{HaveSameJobs}
 use Rattle.uug_conversation.specs.DialogueValue.{dialogue_has_parted}
 use Rattle.uug_transfer.specs.Outgoing.{count_behind, outgoing_from}
 use Rattle.uug_transfer.specs.Thinning.{thinned}
@@ -28,19 +25,6 @@ injector_in buffered = buffered.injector
 -- its files
 abbrev pub spool_in : {S A : Type 0} → BufferedNode S A → S
 spool_in buffered = buffered.node.spool
-
--- Whatever happened: its spool gives and accepts what it did; its three lists have the same jobs together, each as often; what
--- it had kept and what it had struck stays in front; and each Request job that it struck since has an entry of its own in what
--- it kept since.
-pub record KeepsJobs (h h_after : Holdings) (kept kept_after : List Kept) (before after : NodeState) : Type 0 where
-  pub stays : h_after ≡ h
-  pub same : HaveSameJobs before.engine.dialogue.machine.lists after.engine.dialogue.machine.lists
-  pub requests : KeepsWhatItAskedFor h (struck_jobs before) (struck_jobs after) kept kept_after
-
--- Whatever happened: some events led it there, beside a spool that gives and accepts what it did.
-pub record IsLed (h h_after : Holdings) (kept kept_after : List Kept) (before after : NodeState) : Type 0 where
-  pub same : h_after ≡ h
-  pub led : IsLedByEvents h kept kept_after before after
 
 -- ---- what goes out
 

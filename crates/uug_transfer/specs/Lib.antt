@@ -3,13 +3,16 @@ pub mod EndOver
 pub mod Ends
 pub mod FaultInjection
 pub mod LineNames
+pub mod LineSessions
 pub mod Listening
+pub mod Moments
 pub mod Outgoing
 pub mod Patience
 pub mod ReadBudgets
 pub mod ReadOutcomes
 pub mod Received
 pub mod SessionFaults
+pub mod Reported
 pub mod Settling
 pub mod Thinning
 pub mod Timers

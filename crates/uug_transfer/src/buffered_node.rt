@@ -4,8 +4,8 @@ ghost use Rattle.uug_session.specs.Engine.{HasFailed, IsEnded, hung_up, with_out
 ghost use Rattle.uug_session.specs.Node.{node_of};
 ghost use Rattle.uug_session.specs.NumberStanding.{KeepsNumber};
 ghost use Rattle.uug_transfer.specs.Ends.{status_of};
-ghost use Rattle.uug_session.specs.NodeRuns.{IsLedByEvents};
-ghost use Rattle.uug_transfer.specs.BufferedNodes.{injector_in, node_in, spool_in, to_write, Hears, IsLate, IsLed, KeepsJobs, SendsOut, Waits};
+ghost use Rattle.uug_transfer.specs.Moments.{IsLed, end_now, node_now};
+ghost use Rattle.uug_transfer.specs.BufferedNodes.{injector_in, node_in, spool_in, to_write, Hears, IsLate, SendsOut, Waits};
 
 use crate::fault_injector::FaultInjector;
 use crate::outgoing::add_outgoing;
@@ -29,12 +29,8 @@ impl<S: Spool + Drop, A: Allocator + Copy> BufferedNode<S, A> {
     /// Creates a buffer for what this node emits, through this injector. What the node has emitted already is queued
     /// for writing.
     pub fn new(alloc: A, node: Node<S, A>, injector: FaultInjector) -> Result<Self, AllocError>
-        ensures jobs { IfOk result (λ buffered. KeepsJobs (S.holdings node.spool)
-            (S.holdings (spool_in buffered))
-            (S.kept node.spool) (S.kept (spool_in buffered))
-            (node_of node) (node_in buffered)) }
-        ensures led { IfOk result (λ buffered. IsLedByEvents (S.holdings node.spool)
-            (S.kept node.spool) (S.kept (spool_in buffered)) (node_of node) (node_in buffered)) }
+        ensures led { IfOk result (λ buffered.
+            IsLed (node_now S.holdings S.kept node) (end_now S.holdings S.kept buffered)) }
         ensures sends { IfOk result (λ buffered.
             SendsOut injector (injector_in buffered) [] (to_write buffered) (node_of node) (node_in buffered)) }
         ensures spool { IfOk result (λ buffered. spool_in buffered ≡ node.spool) }
@@ -72,14 +68,8 @@ impl<S: Spool + Drop, A: Allocator + Copy> BufferedNode<S, A> {
 
     /// Passes the node the bytes of a read.
     pub fn arrive(&mut self, piece: &[u8]) -> Result<(), AllocError>
-        ensures jobs { KeepsJobs (S.holdings (spool_in self.old))
-            (S.holdings (spool_in self.new))
-            (S.kept (spool_in self.old)) (S.kept (spool_in self.new))
-            (node_in self.old) (node_in self.new) }
-        ensures led { IsLed (S.holdings (spool_in self.old))
-            (S.holdings (spool_in self.new))
-            (S.kept (spool_in self.old)) (S.kept (spool_in self.new))
-            (node_in self.old) (node_in self.new) }
+        ensures led { IsLed (end_now S.holdings S.kept self.old)
+            (end_now S.holdings S.kept self.new) }
         ensures number { OnOk result
             (KeepsNumber (node_in self.old).engine (node_in self.new).engine) }
         ensures hears { OnOk result
@@ -99,14 +89,8 @@ impl<S: Spool + Drop, A: Allocator + Copy> BufferedNode<S, A> {
 
     /// Passes the node a timeout.
     pub fn time_out(&mut self) -> Result<(), AllocError>
-        ensures jobs { KeepsJobs (S.holdings (spool_in self.old))
-            (S.holdings (spool_in self.new))
-            (S.kept (spool_in self.old)) (S.kept (spool_in self.new))
-            (node_in self.old) (node_in self.new) }
-        ensures led { IsLed (S.holdings (spool_in self.old))
-            (S.holdings (spool_in self.new))
-            (S.kept (spool_in self.old)) (S.kept (spool_in self.new))
-            (node_in self.old) (node_in self.new) }
+        ensures led { IsLed (end_now S.holdings S.kept self.old)
+            (end_now S.holdings S.kept self.new) }
         ensures waits { OnOk result
             (Waits (injector_in self.old) (injector_in self.new) (to_write self.old) (to_write self.new)
             (node_in self.old) (node_in self.new)) }
@@ -122,14 +106,8 @@ impl<S: Spool + Drop, A: Allocator + Copy> BufferedNode<S, A> {
 
     /// Ends the session: nothing can be written or read any more.
     pub fn hang_up(&mut self)
-        ensures jobs { KeepsJobs (S.holdings (spool_in self.old))
-            (S.holdings (spool_in self.new))
-            (S.kept (spool_in self.old)) (S.kept (spool_in self.new))
-            (node_in self.old) (node_in self.new) }
-        ensures led { IsLed (S.holdings (spool_in self.old))
-            (S.holdings (spool_in self.new))
-            (S.kept (spool_in self.old)) (S.kept (spool_in self.new))
-            (node_in self.old) (node_in self.new) }
+        ensures led { IsLed (end_now S.holdings S.kept self.old)
+            (end_now S.holdings S.kept self.new) }
         ensures lost { (node_in self.new).engine
             ≡ with_stage (hung_up (dialogue_has_parted (node_in self.old).engine.dialogue)
             (node_in self.old).engine.stage) (node_in self.old).engine }

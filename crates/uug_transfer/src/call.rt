@@ -1,20 +1,14 @@
 //! One end at its line, from its first turn to the report.
 ghost use Rattle.std.specs.Prelude.{◌≡◌, ◌≤◌, ◌⊎◌, [], IfErr, IfOk, OnErr, OnOk, string_bytes};
-ghost use Rattle.uug_session.specs.Engine.{HasFailed, IsEnded};
+ghost use Rattle.uug_session.specs.Engine.{HasFailed};
 ghost use Rattle.uug_session.specs.Node.{node_of};
-ghost use Rattle.uug_session.specs.NumberStanding.{KeepsNumber};
 ghost use Rattle.uug_stream.specs.Fault.{StopsWriting};
 ghost use Rattle.uug_stream.specs.Streams.{Appends, AppendsFront, CountsFault};
-ghost use Rattle.uug_folder.specs.OpenJobs.{open_in};
-ghost use Rattle.uug_transfer.specs.BufferedNodes.{injector_in, node_in, spool_in, to_write, IsLed, KeepsJobs};
-ghost use Rattle.uug_transfer.specs.EndOver.{HasFault, IfWritten, IsEndFault, IsPrinted, fault_behind_line, files_of, UnlessMemory};
-ghost use Rattle.uug_transfer.specs.Ends.{number_of_end, phase_of_end, report_of, status_of_phase};
-ghost use Rattle.uug_transfer.specs.Listening.{HearsLine};
-ghost use Rattle.uug_transfer.specs.Received.{ReadsWithin};
-ghost use Rattle.uug_transfer.specs.Settling.{IsNumberNow, IsSomeNumber, LosesNoJob, StaysInStore, TellsFailed};
-ghost use Rattle.uug_transfer.specs.WriteSilences.{WritesWithin};
-ghost use Rattle.uug_transfer.specs.Writing.{TalksAtLine};
-ghost use Rattle.uug_transfer.specs.declared.read_budget.TheConstants.{SILENCES_MAX, STALLS_MAX};
+ghost use Rattle.uug_transfer.specs.BufferedNodes.{node_in};
+ghost use Rattle.uug_transfer.specs.EndOver.{HasFault, IsEndFault, IsPrinted, fault_behind_line, files_of};
+ghost use Rattle.uug_transfer.specs.Ends.{phase_of_end, report_of, status_of_phase};
+ghost use Rattle.uug_transfer.specs.LineSessions.{IsCall};
+ghost use Rattle.uug_transfer.specs.Moments.{disk_of, end_now, line_now, unsent};
 
 use crate::end_line::EndLine;
 use crate::end_report::report;
@@ -49,55 +43,13 @@ where
     N: TextFile,
     O: Output,
     A: Allocator + Copy,
-    ensures kept { KeepsJobs (S.holdings (spool_in end.old.buffered))
-        (S.holdings (spool_in end.new.buffered))
-        (S.kept (spool_in end.old.buffered))
-        (S.kept (spool_in end.new.buffered))
-        (node_in end.old.buffered) (node_in end.new.buffered) }
-    ensures led { IsLed (S.holdings (spool_in end.old.buffered))
-        (S.holdings (spool_in end.new.buffered))
-        (S.kept (spool_in end.old.buffered)) (S.kept (spool_in end.new.buffered))
-        (node_in end.old.buffered) (node_in end.new.buffered) }
-    // What its line has brought, if the line exposes that, led it there, and nothing else did.
-    ensures heard { UnlessMemory result (HearsLine (S.holdings (spool_in end.old.buffered))
-        (S.kept (spool_in end.old.buffered)) (S.kept (spool_in end.new.buffered))
-        (L.received line.old) (L.received line.new)
-        (node_in end.old.buffered) (node_in end.new.buffered)) }
-    // If the line exposes what it has taken, this is the first bytes of what there was to write: what was to be written
-    // before, and then what goes out of what the end has emitted by what its line brought.
-    ensures talked { (node_in end.old.buffered).engine.outbox.entries ≡ [] → UnlessMemory result
-        (TalksAtLine (S.holdings (spool_in end.old.buffered))
-        (S.kept (spool_in end.old.buffered)) (S.kept (spool_in end.new.buffered))
-        (L.received line.old) (L.received line.new)
-        (injector_in end.old.buffered) (to_write end.old.buffered)
-        (L.taken line.old) (L.taken line.new)
-        (node_in end.old.buffered) (node_in end.new.buffered)) }
-    ensures over { IsEnded (node_in end.new.buffered).engine.stage }
-    ensures within { ReadsWithin most SILENCES_MAX (L.received line.old) (L.received line.new) }
-    ensures writes_within { WritesWithin STALLS_MAX (L.writes line.old) (L.writes line.new) }
-    // If its pending jobs, and no others, were in its file, they are so again, unless memory ran out or the file has
-    // failed. No pending job is lost from it, whatever happens.
-    ensures stays { IfWritten result
-        (StaysInStore (open_in (J.text end.old.jobs.file)) (open_in (J.text end.new.jobs.file))
-        (node_in end.old.buffered) (node_in end.new.buffered)) }
-    ensures stays_unless { UnlessMemory result
-        (StaysInStore (open_in (J.text end.old.jobs.file)) (open_in (J.text end.new.jobs.file))
-        (node_in end.old.buffered) (node_in end.new.buffered)
-        ⊎ HasFailed u64.MAX (J.fault_count end.old.jobs.file) (J.fault_count end.new.jobs.file)) }
-    ensures none_lost { LosesNoJob (open_in (J.text end.old.jobs.file))
-        (open_in (J.text end.new.jobs.file))
-        (node_in end.old.buffered) (node_in end.new.buffered) }
-    // Each job that has failed gets a notice with its line.
-    ensures told { IfWritten result (TellsFailed (S.holdings (spool_in end.old.buffered))
-        (J.told end.old.jobs.file) (J.told end.new.jobs.file)
-        (node_in end.old.buffered) (node_in end.new.buffered)) }
-    // The file of the number has it, if the end keeps one.
-    ensures number { IfWritten result (IsNumberNow (number_of_end (node_in end.old.buffered))
-        (number_of_end (node_in end.new.buffered)) (N.text end.old.number) (N.text end.new.number)) }
-    ensures number_whole { IsSomeNumber (N.text end.old.number) (N.text end.new.number) }
-    // It has risen once at most since the session began, and not if the call was refused.
-    ensures number_stands { UnlessMemory result
-        (KeepsNumber (node_in end.old.buffered).engine (node_in end.new.buffered).engine) }
+    ensures session { IsCall most result
+        (end_now S.holdings S.kept end.old.buffered) (end_now S.holdings S.kept end.new.buffered)
+        (unsent end.old.buffered)
+        (line_now L.received L.taken L.writes L.fault_count line.old)
+        (line_now L.received L.taken L.writes L.fault_count line.new)
+        (disk_of J.text J.told J.fault_count N.text N.fault_count end.old)
+        (disk_of J.text J.told J.fault_count N.text N.fault_count end.new) }
     ensures report { IsPrinted result (report_of side (node_in end.new.buffered))
         (O.written output.old) (O.written output.new)
         (O.fault_count output.old) (O.fault_count output.new)
@@ -105,13 +57,6 @@ where
         (files_of J.text J.fault_count N.text N.fault_count end.new)) }
     ensures status { IfOk result (λ status.
         status ≡ status_of_phase (phase_of_end (node_in end.new.buffered))) }
-    // If the line has failed and the session is not done, that is the fault returned, whatever fails later but memory.
-    ensures line_grows { L.fault_count line.old ≤ L.fault_count line.new }
-    ensures line_calm { result ≡ Ok 1 → L.fault_count line.new ≡ L.fault_count line.old }
-    ensures jobs_calm { IfWritten result (J.fault_count end.new.jobs.file
-        ≡ J.fault_count end.old.jobs.file) }
-    ensures number_calm { IfWritten result
-        (N.fault_count end.new.number ≡ N.fault_count end.old.number) }
     ensures device { result ≡ Err ToolFault.Device
         → HasFailed u64.MAX (L.fault_count line.old) (L.fault_count line.new)
         ⊎ HasFault (files_of J.text J.fault_count N.text N.fault_count end.old)

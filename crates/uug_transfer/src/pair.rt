@@ -3,9 +3,10 @@ ghost use Rattle.std.specs.Prelude.{◌≡◌, ◌≤◌, ◌⊎◌, IfErr, IfOk
 ghost use Rattle.uug_session.specs.Engine.{HasFailed, IsEnded};
 ghost use Rattle.uug_stream.specs.Streams.{CountsFault};
 ghost use Rattle.uug_folder.specs.JobsFile.{IsSettled, settled};
-ghost use Rattle.uug_transfer.specs.BufferedNodes.{node_in, spool_in, IsLed, KeepsJobs};
+ghost use Rattle.uug_transfer.specs.BufferedNodes.{node_in};
 ghost use Rattle.uug_transfer.specs.EndOver.{HasFault, IfWritten, IsEndFault, IsPrinted, LeaveBoth, UnlessDevice, files_of};
 ghost use Rattle.uug_transfer.specs.Ends.{jobs_of_end, phase_of_end, report_of_both, status_of_phases};
+ghost use Rattle.uug_transfer.specs.Moments.{IsLed, end_now};
 ghost use Rattle.uug_transfer.specs.Turns.{HasRoom};
 
 use crate::call::fault_behind_line;
@@ -40,24 +41,10 @@ where
     O: Output,
     A: Allocator + Copy,
     requires { HasRoom (L.unread line.old) }
-    ensures caller_kept { KeepsJobs (S.holdings (spool_in caller.old.buffered))
-        (S.holdings (spool_in caller.new.buffered))
-        (S.kept (spool_in caller.old.buffered))
-        (S.kept (spool_in caller.new.buffered))
-        (node_in caller.old.buffered) (node_in caller.new.buffered) }
-    ensures called_kept { KeepsJobs (S.holdings (spool_in called.old.buffered))
-        (S.holdings (spool_in called.new.buffered))
-        (S.kept (spool_in called.old.buffered))
-        (S.kept (spool_in called.new.buffered))
-        (node_in called.old.buffered) (node_in called.new.buffered) }
-    ensures caller_led { IsLed (S.holdings (spool_in caller.old.buffered))
-        (S.holdings (spool_in caller.new.buffered))
-        (S.kept (spool_in caller.old.buffered)) (S.kept (spool_in caller.new.buffered))
-        (node_in caller.old.buffered) (node_in caller.new.buffered) }
-    ensures called_led { IsLed (S.holdings (spool_in called.old.buffered))
-        (S.holdings (spool_in called.new.buffered))
-        (S.kept (spool_in called.old.buffered)) (S.kept (spool_in called.new.buffered))
-        (node_in called.old.buffered) (node_in called.new.buffered) }
+    ensures caller_led { IsLed (end_now S.holdings S.kept caller.old.buffered)
+        (end_now S.holdings S.kept caller.new.buffered) }
+    ensures called_led { IsLed (end_now S.holdings S.kept called.old.buffered)
+        (end_now S.holdings S.kept called.new.buffered) }
     ensures caller_over { IsEnded (node_in caller.new.buffered).engine.stage }
     ensures called_over { IsEnded (node_in called.new.buffered).engine.stage }
     // A file of jobs is as before, or has what stays of it.

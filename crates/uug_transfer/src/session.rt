@@ -3,18 +3,18 @@ ghost use Rattle.std.specs.Prelude.{◌≡◌, ◌≢◌, ◌<◌, ◌≤◌, �
 ghost use Rattle.uug_session.specs.Engine.{HasFailed, IsEnded};
 ghost use Rattle.uug_session.specs.NumberStanding.{KeepsNumber};
 ghost use Rattle.uug_folder.specs.NumberText.{holding_number};
-ghost use Rattle.uug_transfer.specs.BufferedNodes.{injector_in, node_in, spool_in, to_write, IsLed, KeepsJobs};
+ghost use Rattle.uug_transfer.specs.BufferedNodes.{injector_in, node_in, spool_in, to_write};
 ghost use Rattle.uug_transfer.specs.Ends.{number_of_end};
-ghost use Rattle.uug_transfer.specs.Listening.{HearsLine};
+ghost use Rattle.uug_transfer.specs.LineSessions.{IsSession, SettlesJobs};
+ghost use Rattle.uug_transfer.specs.Moments.{IsLed, disk_now, end_now, line_now, unsent};
 ghost use Rattle.uug_transfer.specs.Patience.{HasPatience};
 ghost use Rattle.uug_transfer.specs.ReadBudgets.{Lasts};
 ghost use Rattle.uug_transfer.specs.ReadOutcomes.{IsWithin, TakesOutcome};
-ghost use Rattle.uug_transfer.specs.Received.{ReadsWithin};
-ghost use Rattle.uug_transfer.specs.SessionFaults.{IfOnDisk, UnlessLine, UnlessNumber, UnlessRefused, UnlessUnsettled};
-ghost use Rattle.uug_transfer.specs.Settling.{IsNumberNow, IsOnDisk, IsSomeNumber, LosesNoJob, StaysInStore, TellsFailed, kept_then};
+ghost use Rattle.uug_transfer.specs.SessionFaults.{UnlessNumber, UnlessRefused};
+ghost use Rattle.uug_transfer.specs.Settling.{IsOnDisk, IsSomeNumber, kept_then};
 ghost use Rattle.uug_transfer.specs.WriteSilences.{WritesUpTo, WritesWithin};
-ghost use Rattle.uug_transfer.specs.Writing.{TakesFront, TalksAtLine, also_taken};
-ghost use Rattle.uug_transfer.specs.declared.read_budget.TheConstants.{SILENCES_MAX, STALLS_MAX};
+ghost use Rattle.uug_transfer.specs.Writing.{TakesFront, also_taken};
+ghost use Rattle.uug_transfer.specs.declared.read_budget.TheConstants.{STALLS_MAX};
 
 use crate::buffered_node::BufferedNode;
 use crate::end_line::EndLine;
@@ -50,54 +50,14 @@ where
     N: TextFile,
     L: EndLine,
     A: Allocator + Copy,
-    ensures jobs { KeepsJobs (S.holdings (spool_in buffered.old))
-        (S.holdings (spool_in buffered.new))
-        (S.kept (spool_in buffered.old)) (S.kept (spool_in buffered.new))
-        (node_in buffered.old) (node_in buffered.new) }
-    ensures led { IsLed (S.holdings (spool_in buffered.old))
-        (S.holdings (spool_in buffered.new))
-        (S.kept (spool_in buffered.old)) (S.kept (spool_in buffered.new))
-        (node_in buffered.old) (node_in buffered.new) }
-    ensures number { UnlessRefused result
-        (KeepsNumber (node_in buffered.old).engine (node_in buffered.new).engine) }
+    ensures session { IsSession most result
+        (end_now S.holdings S.kept buffered.old) (end_now S.holdings S.kept buffered.new)
+        (unsent buffered.old)
+        (line_now L.received L.taken L.writes L.fault_count line.old)
+        (line_now L.received L.taken L.writes L.fault_count line.new)
+        (disk_now J.open_jobs J.told J.fault_count N.text N.fault_count jobs.old number.old)
+        (disk_now J.open_jobs J.told J.fault_count N.text N.fault_count jobs.new number.new) }
     ensures over { IsEnded (node_in buffered.new).engine.stage }
-    ensures heard { UnlessRefused result (HearsLine (S.holdings (spool_in buffered.old))
-        (S.kept (spool_in buffered.old)) (S.kept (spool_in buffered.new))
-        (L.received line.old) (L.received line.new)
-        (node_in buffered.old) (node_in buffered.new)) }
-    ensures talked { (node_in buffered.old).engine.outbox.entries ≡ [] → UnlessRefused result
-        (TalksAtLine (S.holdings (spool_in buffered.old))
-        (S.kept (spool_in buffered.old)) (S.kept (spool_in buffered.new))
-        (L.received line.old) (L.received line.new)
-        (injector_in buffered.old) (to_write buffered.old)
-        (L.taken line.old) (L.taken line.new)
-        (node_in buffered.old) (node_in buffered.new)) }
-    // Finished jobs are removed from their store, and nothing else is. Whatever the result, no pending job is lost from
-    // it. Each job that has failed gets a notice.
-    ensures stays { UnlessUnsettled result
-        (StaysInStore (J.open_jobs jobs.old) (J.open_jobs jobs.new)
-        (node_in buffered.old) (node_in buffered.new)) }
-    ensures none_lost { LosesNoJob (J.open_jobs jobs.old) (J.open_jobs jobs.new)
-        (node_in buffered.old) (node_in buffered.new) }
-    ensures told { UnlessUnsettled result (TellsFailed (S.holdings (spool_in buffered.old))
-        (J.told jobs.old) (J.told jobs.new) (node_in buffered.old) (node_in buffered.new)) }
-    ensures number_now { IfOnDisk result (IsNumberNow (number_of_end (node_in buffered.old))
-        (number_of_end (node_in buffered.new)) (N.text number.old) (N.text number.new)) }
-    ensures number_whole { IsSomeNumber (N.text number.old) (N.text number.new) }
-    ensures jobs_calm { UnlessUnsettled result
-        (J.fault_count jobs.new ≡ J.fault_count jobs.old) }
-    ensures number_calm { UnlessRefused result (UnlessNumber result
-        (N.fault_count number.new ≡ N.fault_count number.old)) }
-    ensures jobs_fault { result ≡ Err SessionFault.Jobs
-        → HasFailed u64.MAX (J.fault_count jobs.old) (J.fault_count jobs.new) }
-    ensures number_fault { result ≡ Err SessionFault.Number
-        → HasFailed u64.MAX (N.fault_count number.old) (N.fault_count number.new) }
-    ensures within { ReadsWithin most SILENCES_MAX (L.received line.old) (L.received line.new) }
-    ensures writes_within { WritesWithin STALLS_MAX (L.writes line.old) (L.writes line.new) }
-    ensures calm { UnlessLine result (L.fault_count line.new ≡ L.fault_count line.old) }
-    ensures fault { result ≡ Err SessionFault.Line
-        → HasFailed u64.MAX (L.fault_count line.old) (L.fault_count line.new) }
-    ensures grows { L.fault_count line.old ≤ L.fault_count line.new }
 {
     let result = take_turns(alloc, buffered, jobs, number, line, most, limits);
     buffered.hang_up();
@@ -122,53 +82,13 @@ where
     N: TextFile,
     L: EndLine,
     A: Allocator + Copy,
-    ensures jobs { KeepsJobs (S.holdings (spool_in buffered.old))
-        (S.holdings (spool_in buffered.new))
-        (S.kept (spool_in buffered.old)) (S.kept (spool_in buffered.new))
-        (node_in buffered.old) (node_in buffered.new) }
-    ensures led { IsLed (S.holdings (spool_in buffered.old))
-        (S.holdings (spool_in buffered.new))
-        (S.kept (spool_in buffered.old)) (S.kept (spool_in buffered.new))
-        (node_in buffered.old) (node_in buffered.new) }
-    ensures number { UnlessRefused result
-        (KeepsNumber (node_in buffered.old).engine (node_in buffered.new).engine) }
-    ensures heard { UnlessRefused result (HearsLine (S.holdings (spool_in buffered.old))
-        (S.kept (spool_in buffered.old)) (S.kept (spool_in buffered.new))
-        (L.received line.old) (L.received line.new)
-        (node_in buffered.old) (node_in buffered.new)) }
-    ensures talked { (node_in buffered.old).engine.outbox.entries ≡ [] → UnlessRefused result
-        (TalksAtLine (S.holdings (spool_in buffered.old))
-        (S.kept (spool_in buffered.old)) (S.kept (spool_in buffered.new))
-        (L.received line.old) (L.received line.new)
-        (injector_in buffered.old) (to_write buffered.old)
-        (L.taken line.old) (L.taken line.new)
-        (node_in buffered.old) (node_in buffered.new)) }
-    // Finished jobs are removed from their store, and nothing else is. Whatever the result, no pending job is lost from
-    // it. Each job that has failed gets a notice.
-    ensures stays { UnlessUnsettled result
-        (StaysInStore (J.open_jobs jobs.old) (J.open_jobs jobs.new)
-        (node_in buffered.old) (node_in buffered.new)) }
-    ensures none_lost { LosesNoJob (J.open_jobs jobs.old) (J.open_jobs jobs.new)
-        (node_in buffered.old) (node_in buffered.new) }
-    ensures told { UnlessUnsettled result (TellsFailed (S.holdings (spool_in buffered.old))
-        (J.told jobs.old) (J.told jobs.new) (node_in buffered.old) (node_in buffered.new)) }
-    ensures number_now { IfOnDisk result (IsNumberNow (number_of_end (node_in buffered.old))
-        (number_of_end (node_in buffered.new)) (N.text number.old) (N.text number.new)) }
-    ensures number_whole { IsSomeNumber (N.text number.old) (N.text number.new) }
-    ensures jobs_calm { UnlessUnsettled result
-        (J.fault_count jobs.new ≡ J.fault_count jobs.old) }
-    ensures number_calm { UnlessRefused result (UnlessNumber result
-        (N.fault_count number.new ≡ N.fault_count number.old)) }
-    ensures jobs_fault { result ≡ Err SessionFault.Jobs
-        → HasFailed u64.MAX (J.fault_count jobs.old) (J.fault_count jobs.new) }
-    ensures number_fault { result ≡ Err SessionFault.Number
-        → HasFailed u64.MAX (N.fault_count number.old) (N.fault_count number.new) }
-    ensures within { ReadsWithin most SILENCES_MAX (L.received line.old) (L.received line.new) }
-    ensures writes_within { WritesWithin STALLS_MAX (L.writes line.old) (L.writes line.new) }
-    ensures calm { UnlessLine result (L.fault_count line.new ≡ L.fault_count line.old) }
-    ensures fault { result ≡ Err SessionFault.Line
-        → HasFailed u64.MAX (L.fault_count line.old) (L.fault_count line.new) }
-    ensures grows { L.fault_count line.old ≤ L.fault_count line.new }
+    ensures { IsSession most result
+        (end_now S.holdings S.kept buffered.old) (end_now S.holdings S.kept buffered.new)
+        (unsent buffered.old)
+        (line_now L.received L.taken L.writes L.fault_count line.old)
+        (line_now L.received L.taken L.writes L.fault_count line.new)
+        (disk_now J.open_jobs J.told J.fault_count N.text N.fault_count jobs.old number.old)
+        (disk_now J.open_jobs J.told J.fault_count N.text N.fault_count jobs.new number.new) }
 {
     let mut buffer = [0; READ_MAX];
     let mut budget = ReadBudget::new(most);
@@ -271,14 +191,8 @@ where
     requires within { IsWithin (length buffer.now) outcome }
     requires goes_on { IsEnded (node_in buffered.old).engine.stage → ⊥ }
     requires on_disk { IsOnDisk settled.old (node_in buffered.old) (N.text number.old) }
-    ensures jobs { KeepsJobs (S.holdings (spool_in buffered.old))
-        (S.holdings (spool_in buffered.new))
-        (S.kept (spool_in buffered.old)) (S.kept (spool_in buffered.new))
-        (node_in buffered.old) (node_in buffered.new) }
-    ensures led { IsLed (S.holdings (spool_in buffered.old))
-        (S.holdings (spool_in buffered.new))
-        (S.kept (spool_in buffered.old)) (S.kept (spool_in buffered.new))
-        (node_in buffered.old) (node_in buffered.new) }
+    ensures led { IsLed (end_now S.holdings S.kept buffered.old)
+        (end_now S.holdings S.kept buffered.new) }
     ensures number { UnlessRefused result
         (KeepsNumber (node_in buffered.old).engine (node_in buffered.new).engine) }
     ensures takes { UnlessRefused result
@@ -295,19 +209,12 @@ where
     ensures holds { OnOk result (N.text number.new
         ≡ holding_number settled.new.number (N.text number.old)) }
     ensures whole { IsSomeNumber (N.text number.old) (N.text number.new) }
-    ensures stays { UnlessUnsettled result
-        (StaysInStore (J.open_jobs jobs.old) (J.open_jobs jobs.new)
-        (node_in buffered.old) (node_in buffered.new)) }
-    ensures none_lost { LosesNoJob (J.open_jobs jobs.old) (J.open_jobs jobs.new)
-        (node_in buffered.old) (node_in buffered.new) }
-    ensures told { UnlessUnsettled result (TellsFailed (S.holdings (spool_in buffered.old))
-        (J.told jobs.old) (J.told jobs.new) (node_in buffered.old) (node_in buffered.new)) }
-    ensures jobs_calm { UnlessUnsettled result
-        (J.fault_count jobs.new ≡ J.fault_count jobs.old) }
+    ensures settles { SettlesJobs result
+        (end_now S.holdings S.kept buffered.old) (end_now S.holdings S.kept buffered.new)
+        (disk_now J.open_jobs J.told J.fault_count N.text N.fault_count jobs.old number.old)
+        (disk_now J.open_jobs J.told J.fault_count N.text N.fault_count jobs.new number.new) }
     ensures number_calm { UnlessRefused result (UnlessNumber result
         (N.fault_count number.new ≡ N.fault_count number.old)) }
-    ensures jobs_fault { result ≡ Err SessionFault.Jobs
-        → HasFailed u64.MAX (J.fault_count jobs.old) (J.fault_count jobs.new) }
     ensures number_fault { result ≡ Err SessionFault.Number
         → HasFailed u64.MAX (N.fault_count number.old) (N.fault_count number.new) }
     ensures no_line { result ≢ Err SessionFault.Line }
@@ -326,14 +233,8 @@ fn take_outcome<S: Spool + Drop, A: Allocator + Copy>(
 ) -> Result<(), AllocError>
     requires within { IsWithin (length buffer.now) outcome }
     requires goes_on { IsEnded (node_in buffered.old).engine.stage → ⊥ }
-    ensures jobs { KeepsJobs (S.holdings (spool_in buffered.old))
-        (S.holdings (spool_in buffered.new))
-        (S.kept (spool_in buffered.old)) (S.kept (spool_in buffered.new))
-        (node_in buffered.old) (node_in buffered.new) }
-    ensures led { IsLed (S.holdings (spool_in buffered.old))
-        (S.holdings (spool_in buffered.new))
-        (S.kept (spool_in buffered.old)) (S.kept (spool_in buffered.new))
-        (node_in buffered.old) (node_in buffered.new) }
+    ensures led { IsLed (end_now S.holdings S.kept buffered.old)
+        (end_now S.holdings S.kept buffered.new) }
     ensures number { OnOk result
         (KeepsNumber (node_in buffered.old).engine (node_in buffered.new).engine) }
     ensures takes { OnOk result

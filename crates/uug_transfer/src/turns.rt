@@ -1,7 +1,8 @@
 //! Turns of two ends at a line.
 ghost use Rattle.std.specs.Prelude.{◌≡◌, ◌<◌, ◌≤◌, ◌↔◌, length, IsTrue, OnOk};
 ghost use Rattle.uug_session.specs.Engine.{HasFailed, IsEnded};
-ghost use Rattle.uug_transfer.specs.BufferedNodes.{node_in, spool_in, to_write, IsLate, IsLed, KeepsJobs};
+ghost use Rattle.uug_transfer.specs.BufferedNodes.{node_in, spool_in, to_write, IsLate};
+ghost use Rattle.uug_transfer.specs.Moments.{IsLed, end_now};
 ghost use Rattle.uug_transfer.specs.Turns.{HasRoom, IsQuiet, UnlessLineFailed};
 
 use crate::buffered_node::BufferedNode;
@@ -21,22 +22,10 @@ pub fn run_turns<S: Spool + Drop, T: Spool + Drop, L: Line, A: Allocator + Copy>
     limit: u32,
 ) -> Result<(), TurnFault>
     requires { HasRoom (L.unread line.old) }
-    ensures caller_jobs { KeepsJobs (S.holdings (spool_in caller.old))
-        (S.holdings (spool_in caller.new))
-        (S.kept (spool_in caller.old)) (S.kept (spool_in caller.new))
-        (node_in caller.old) (node_in caller.new) }
-    ensures called_jobs { KeepsJobs (T.holdings (spool_in called.old))
-        (T.holdings (spool_in called.new))
-        (T.kept (spool_in called.old)) (T.kept (spool_in called.new))
-        (node_in called.old) (node_in called.new) }
-    ensures caller_led { IsLed (S.holdings (spool_in caller.old))
-        (S.holdings (spool_in caller.new))
-        (S.kept (spool_in caller.old)) (S.kept (spool_in caller.new))
-        (node_in caller.old) (node_in caller.new) }
-    ensures called_led { IsLed (T.holdings (spool_in called.old))
-        (T.holdings (spool_in called.new))
-        (T.kept (spool_in called.old)) (T.kept (spool_in called.new))
-        (node_in called.old) (node_in called.new) }
+    ensures caller_led { IsLed (end_now S.holdings S.kept caller.old)
+        (end_now S.holdings S.kept caller.new) }
+    ensures called_led { IsLed (end_now T.holdings T.kept called.old)
+        (end_now T.holdings T.kept called.new) }
     ensures caller_over { IsEnded (node_in caller.new).engine.stage }
     ensures called_over { IsEnded (node_in called.new).engine.stage }
     ensures calm { UnlessLineFailed result (L.fault_count line.new ≡ L.fault_count line.old) }
@@ -58,22 +47,10 @@ fn take_turns<S: Spool + Drop, T: Spool + Drop, L: Line, A: Allocator + Copy>(
     limit: u32,
 ) -> Result<(), TurnFault>
     requires { HasRoom (L.unread line.old) }
-    ensures caller_jobs { KeepsJobs (S.holdings (spool_in caller.old))
-        (S.holdings (spool_in caller.new))
-        (S.kept (spool_in caller.old)) (S.kept (spool_in caller.new))
-        (node_in caller.old) (node_in caller.new) }
-    ensures called_jobs { KeepsJobs (T.holdings (spool_in called.old))
-        (T.holdings (spool_in called.new))
-        (T.kept (spool_in called.old)) (T.kept (spool_in called.new))
-        (node_in called.old) (node_in called.new) }
-    ensures caller_led { IsLed (S.holdings (spool_in caller.old))
-        (S.holdings (spool_in caller.new))
-        (S.kept (spool_in caller.old)) (S.kept (spool_in caller.new))
-        (node_in caller.old) (node_in caller.new) }
-    ensures called_led { IsLed (T.holdings (spool_in called.old))
-        (T.holdings (spool_in called.new))
-        (T.kept (spool_in called.old)) (T.kept (spool_in called.new))
-        (node_in called.old) (node_in called.new) }
+    ensures caller_led { IsLed (end_now S.holdings S.kept caller.old)
+        (end_now S.holdings S.kept caller.new) }
+    ensures called_led { IsLed (end_now T.holdings T.kept called.old)
+        (end_now T.holdings T.kept called.new) }
     ensures calm { UnlessLineFailed result (L.fault_count line.new ≡ L.fault_count line.old) }
     ensures fault { result ≡ Err TurnFault.Line
         → HasFailed u64.MAX (L.fault_count line.old) (L.fault_count line.new) }
@@ -98,22 +75,10 @@ fn take_turn<S: Spool + Drop, T: Spool + Drop, L: Line, A: Allocator + Copy>(
 ) -> Result<(), TurnFault>
     requires room { HasRoom (L.unread line.old) }
     requires buffer { 0 < length buffer.old }
-    ensures caller_jobs { KeepsJobs (S.holdings (spool_in caller.old))
-        (S.holdings (spool_in caller.new))
-        (S.kept (spool_in caller.old)) (S.kept (spool_in caller.new))
-        (node_in caller.old) (node_in caller.new) }
-    ensures called_jobs { KeepsJobs (T.holdings (spool_in called.old))
-        (T.holdings (spool_in called.new))
-        (T.kept (spool_in called.old)) (T.kept (spool_in called.new))
-        (node_in called.old) (node_in called.new) }
-    ensures caller_led { IsLed (S.holdings (spool_in caller.old))
-        (S.holdings (spool_in caller.new))
-        (S.kept (spool_in caller.old)) (S.kept (spool_in caller.new))
-        (node_in caller.old) (node_in caller.new) }
-    ensures called_led { IsLed (T.holdings (spool_in called.old))
-        (T.holdings (spool_in called.new))
-        (T.kept (spool_in called.old)) (T.kept (spool_in called.new))
-        (node_in called.old) (node_in called.new) }
+    ensures caller_led { IsLed (end_now S.holdings S.kept caller.old)
+        (end_now S.holdings S.kept caller.new) }
+    ensures called_led { IsLed (end_now T.holdings T.kept called.old)
+        (end_now T.holdings T.kept called.new) }
     ensures caller_late { IsQuiet (L.unread line.old) (to_write caller.old) (to_write called.old)
         → OnOk result (IsLate (node_in caller.old) (node_in caller.new)) }
     ensures called_late { IsQuiet (L.unread line.old) (to_write caller.old) (to_write called.old)
@@ -140,14 +105,8 @@ fn time_out_with<S: Spool + Drop, T: Spool + Drop, A: Allocator + Copy>(
 ) -> Result<(), AllocError>
     ensures owner { node_in owner.new ≡ node_in owner.old }
     ensures owner_spool { spool_in owner.new ≡ spool_in owner.old }
-    ensures jobs { KeepsJobs (T.holdings (spool_in buffered.old))
-        (T.holdings (spool_in buffered.new))
-        (T.kept (spool_in buffered.old)) (T.kept (spool_in buffered.new))
-        (node_in buffered.old) (node_in buffered.new) }
-    ensures led { IsLed (T.holdings (spool_in buffered.old))
-        (T.holdings (spool_in buffered.new))
-        (T.kept (spool_in buffered.old)) (T.kept (spool_in buffered.new))
-        (node_in buffered.old) (node_in buffered.new) }
+    ensures led { IsLed (end_now T.holdings T.kept buffered.old)
+        (end_now T.holdings T.kept buffered.new) }
     ensures late { OnOk result (IsLate (node_in buffered.old) (node_in buffered.new)) }
 {
     owner.exchange_injectors(buffered);
@@ -168,14 +127,8 @@ fn move_end_with<S: Spool + Drop, T: Spool + Drop, L: Line, A: Allocator + Copy>
     requires buffer { 0 < length buffer.old }
     ensures owner { node_in owner.new ≡ node_in owner.old }
     ensures owner_spool { spool_in owner.new ≡ spool_in owner.old }
-    ensures jobs { KeepsJobs (T.holdings (spool_in buffered.old))
-        (T.holdings (spool_in buffered.new))
-        (T.kept (spool_in buffered.old)) (T.kept (spool_in buffered.new))
-        (node_in buffered.old) (node_in buffered.new) }
-    ensures led { IsLed (T.holdings (spool_in buffered.old))
-        (T.holdings (spool_in buffered.new))
-        (T.kept (spool_in buffered.old)) (T.kept (spool_in buffered.new))
-        (node_in buffered.old) (node_in buffered.new) }
+    ensures led { IsLed (end_now T.holdings T.kept buffered.old)
+        (end_now T.holdings T.kept buffered.new) }
     ensures room { OnOk result (HasRoom (L.unread line.new)) }
     ensures calm { UnlessLineFailed result (L.fault_count line.new ≡ L.fault_count line.old) }
     ensures fault { result ≡ Err TurnFault.Line
@@ -207,14 +160,8 @@ fn move_end<S: Spool + Drop, L: Line, A: Allocator + Copy>(
 ) -> Result<(), TurnFault>
     requires room { HasRoom (L.unread line.old) }
     requires buffer { 0 < length buffer.old }
-    ensures jobs { KeepsJobs (S.holdings (spool_in buffered.old))
-        (S.holdings (spool_in buffered.new))
-        (S.kept (spool_in buffered.old)) (S.kept (spool_in buffered.new))
-        (node_in buffered.old) (node_in buffered.new) }
-    ensures led { IsLed (S.holdings (spool_in buffered.old))
-        (S.holdings (spool_in buffered.new))
-        (S.kept (spool_in buffered.old)) (S.kept (spool_in buffered.new))
-        (node_in buffered.old) (node_in buffered.new) }
+    ensures led { IsLed (end_now S.holdings S.kept buffered.old)
+        (end_now S.holdings S.kept buffered.new) }
     ensures room { OnOk result (HasRoom (L.unread line.new)) }
     ensures calm { UnlessLineFailed result (L.fault_count line.new ≡ L.fault_count line.old) }
     ensures fault { result ≡ Err TurnFault.Line
@@ -264,14 +211,8 @@ fn take_unread<S: Spool + Drop, L: Line, A: Allocator + Copy>(
 ) -> Result<(), TurnFault>
     requires room { HasRoom (L.unread line.old) }
     requires buffer { 0 < length buffer.old }
-    ensures jobs { KeepsJobs (S.holdings (spool_in buffered.old))
-        (S.holdings (spool_in buffered.new))
-        (S.kept (spool_in buffered.old)) (S.kept (spool_in buffered.new))
-        (node_in buffered.old) (node_in buffered.new) }
-    ensures led { IsLed (S.holdings (spool_in buffered.old))
-        (S.holdings (spool_in buffered.new))
-        (S.kept (spool_in buffered.old)) (S.kept (spool_in buffered.new))
-        (node_in buffered.old) (node_in buffered.new) }
+    ensures led { IsLed (end_now S.holdings S.kept buffered.old)
+        (end_now S.holdings S.kept buffered.new) }
     ensures room { OnOk result (HasRoom (L.unread line.new)) }
     ensures all { OnOk result (L.unread line.new at ≡ 0) }
     ensures calm { UnlessLineFailed result (L.fault_count line.new ≡ L.fault_count line.old) }

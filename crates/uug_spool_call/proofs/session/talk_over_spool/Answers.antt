@@ -2,9 +2,9 @@ use Rattle.std.proofs.Common.{◌≡◌, ◌≤◌, ℕ, subst, sym}
 use Rattle.uug_failure.proofs.OutcomeLemmas.{ended_line, ended_no_other, ended_well, ended_write}
 use Rattle.uug_session.specs.Engine.{IsEnded}
 use Rattle.uug_session.specs.Node.{NodeState, node_of}
-use Rattle.uug_spool_call.proofs.ReportedLemmas.{reported_of, runs_on}
+use Rattle.uug_transfer.proofs.ReportedLemmas.{reported_of, runs_on}
 use Rattle.uug_spool_call.proofs.WhyLemmas.{device_is_known}
-use Rattle.uug_spool_call.specs.Reported.{IsReported}
+use Rattle.uug_transfer.specs.Reported.{IsReported}
 use Rattle.uug_spool_call.proofs.session.talk_over_spool.Goals as goal
 
 pub returns-clause-status : goal.returns-clause-status
@@ -15,7 +15,7 @@ returns-clause-reported g c =
     ended_well (λ (status : ℕ). IsReported c.args.call.now.side status (g.O.Output.written c.args.output.now) (g.O.Output.written c.answer_of-answer.new.output))
     _ _ _ c.of-ended.ensures
     (reported_of _ c.args.call.now.side _ _ (node_of c.node.result.now) _ _ _
-    (runs_on c.args.call.now.side _ _ _ _ _ _ _ c.in_ok-end.ensures.ran c.run_end-session.ensures.led c.node.ensures)
+    (runs_on c.args.call.now.side _ _ _ c.in_ok-end.ensures.ran c.run_end-session.ensures.led c.node.ensures)
     (subst (λ (end : NodeState). IsEnded end.engine.stage) (sym c.node.ensures) c.run_end-session.ensures.over)
     c.answer_of-answer.ensures.status c.answer_of-answer.ensures.appends)
 
@@ -31,5 +31,5 @@ returns-clause-line g c =
     (device_is_known c.answer_of-answer.result c.run_end-session.result c.failure.result
     c.in_ok-end.end.store.disk.faults.count c.run_end-session.new.end.store.disk.faults.count
     (g.L.EndLine.fault_count c.args.line.now) (g.L.EndLine.fault_count c.run_end-session.new.line)
-    c.answer_of-answer.ensures.device c.answer_of-answer.ensures.memory c.in_ok-end.ensures.calm c.run_end-session.ensures.jobs
+    c.answer_of-answer.ensures.device c.answer_of-answer.ensures.memory c.in_ok-end.ensures.calm c.run_end-session.ensures.settles.fault
     c.run_end-session.ensures.no_number c.run_end-session.ensures.line c.run_end-session.ensures.grows c.failure.ensures)

@@ -1,4 +1,5 @@
-use Rattle.std.proofs.Common.{ℕ, ap}
+use Rattle.std.proofs.Common.{ℕ, Err, ap, rules}
+use Rattle.uug_stream.specs.declared.fault.ToolFault.TheVariants as faults
 use Rattle.uug_session.specs.Node.{NodeState}
 use Rattle.uug_transfer.specs.Ends.{report_of}
 use Rattle.uug_transfer.proofs.EndLemmas.{printed_behind_device, printing_stopped}
@@ -33,3 +34,12 @@ pub returns-in-Err-printed-clause-report : goal.returns-in-Err-printed-clause-re
 returns-in-Err-printed-clause-report g c =
     printing_stopped ℕ c.in-Err-printed.fault _ _ _ _ _ _ _ (ap (λ (n : NodeState). report_of c.args.side n) c.node-in-Err-Line.ensures)
     c.in-Err-printed.ensures.begins c.in-Err-printed.ensures.fault
+
+pub returns-in-Err-Memory-clause-session : goal.returns-in-Err-Memory-clause-session
+returns-in-Err-Memory-clause-session g c = record {
+  ended = c.run_session-session.result;
+  session = c.run_session-session.ensures.session;
+  over = c.run_session-session.ensures.over;
+  printed = Err faults.Memory;
+  answered = search rules;
+}

@@ -1,24 +1,24 @@
 use Rattle.std.proofs.Common.{◌≡◌, []}
 use Rattle.uug_session.specs.NumberStanding.{KeepsNumber}
-use Rattle.uug_transfer.specs.BufferedNodes.{injector_in, node_in, spool_in, to_write, IsLed, KeepsJobs}
+use Rattle.uug_transfer.specs.BufferedNodes.{injector_in, node_in, spool_in, to_write}
 use Rattle.uug_folder.specs.NumberText.{holding_number}
 use Rattle.uug_transfer.specs.Ends.{number_of_end}
+use Rattle.uug_transfer.specs.LineSessions.{SettlesJobs}
 use Rattle.uug_transfer.specs.Listening.{HearsLine}
-use Rattle.uug_transfer.specs.Settling.{IsOnDisk, LosesNoJob, StaysInStore, TellsFailed}
-use Rattle.uug_transfer.proofs.SettlingLemmas.{FollowsNumber}
+use Rattle.uug_transfer.specs.Moments.{IsLed, disk_now, end_now}
+use Rattle.uug_transfer.specs.Settling.{IsOnDisk}
 use Rattle.uug_transfer.specs.ReadBudgets.{turns_left}
 use Rattle.uug_transfer.specs.WriteSilences.{WritesUpTo}
 use Rattle.uug_transfer.specs.declared.read_budget.TheConstants.{STALLS_MAX}
 use Rattle.uug_transfer.proofs.ListeningLemmas.{TalksOn}
 use Rattle.uug_transfer.proofs.ReceivedLemmas.{SpendsSince}
+use Rattle.uug_transfer.proofs.SessionLemmas.{goes_on}
+use Rattle.uug_transfer.proofs.SettlingLemmas.{FollowsNumber}
 use Rattle.uug_transfer.proofs.session.take_turns.Given as goal
 
 abbrev pub invariant-loop-alloc : goal.invariant-loop-alloc
 invariant-loop-alloc g l = record {
-  jobs : KeepsJobs (g.S.Spool.holdings (spool_in l.fn.buffered)) (g.S.Spool.holdings (spool_in l.buffered))
-      (g.S.Spool.kept (spool_in l.fn.buffered)) (g.S.Spool.kept (spool_in l.buffered)) (node_in l.fn.buffered) (node_in l.buffered);
-  led : IsLed (g.S.Spool.holdings (spool_in l.fn.buffered)) (g.S.Spool.holdings (spool_in l.buffered))
-      (g.S.Spool.kept (spool_in l.fn.buffered)) (g.S.Spool.kept (spool_in l.buffered)) (node_in l.fn.buffered) (node_in l.buffered);
+  led : IsLed (end_now g.S.Spool.holdings g.S.Spool.kept l.fn.buffered) (end_now g.S.Spool.holdings g.S.Spool.kept l.buffered);
   heard : HearsLine (g.S.Spool.holdings (spool_in l.fn.buffered)) (g.S.Spool.kept (spool_in l.fn.buffered))
       (g.S.Spool.kept (spool_in l.buffered)) (g.L.EndLine.received l.fn.line) (g.L.EndLine.received l.line) (node_in l.fn.buffered) (node_in l.buffered);
   talks : (node_in l.fn.buffered).engine.outbox.entries ≡ [] → TalksOn (g.S.Spool.holdings (spool_in l.fn.buffered))
@@ -31,11 +31,10 @@ invariant-loop-alloc g l = record {
   on_disk : IsOnDisk l.settled (node_in l.buffered) (g.N.TextFile.text l.number);
   follows : FollowsNumber (number_of_end (node_in l.fn.buffered)) l.settled.number (number_of_end (node_in l.buffered));
   file : g.N.TextFile.text l.number ≡ holding_number l.settled.number (g.N.TextFile.text l.fn.number);
-  stays : StaysInStore (g.J.JobStore.open_jobs l.fn.jobs) (g.J.JobStore.open_jobs l.jobs) (node_in l.fn.buffered) (node_in l.buffered);
-  none_lost : LosesNoJob (g.J.JobStore.open_jobs l.fn.jobs) (g.J.JobStore.open_jobs l.jobs) (node_in l.fn.buffered) (node_in l.buffered);
-  told : TellsFailed (g.S.Spool.holdings (spool_in l.fn.buffered)) (g.J.JobStore.told l.fn.jobs) (g.J.JobStore.told l.jobs)
-      (node_in l.fn.buffered) (node_in l.buffered);
-  jobs_calm : g.J.JobStore.fault_count l.jobs ≡ g.J.JobStore.fault_count l.fn.jobs;
+  settles : SettlesJobs goes_on (end_now g.S.Spool.holdings g.S.Spool.kept l.fn.buffered)
+      (end_now g.S.Spool.holdings g.S.Spool.kept l.buffered)
+      (disk_now g.J.JobStore.open_jobs g.J.JobStore.told g.J.JobStore.fault_count g.N.TextFile.text g.N.TextFile.fault_count l.fn.jobs l.fn.number)
+      (disk_now g.J.JobStore.open_jobs g.J.JobStore.told g.J.JobStore.fault_count g.N.TextFile.text g.N.TextFile.fault_count l.jobs l.number);
   number_calm : g.N.TextFile.fault_count l.number ≡ g.N.TextFile.fault_count l.fn.number;
   calm : g.L.EndLine.fault_count l.line ≡ g.L.EndLine.fault_count l.fn.line;
 }

@@ -3,7 +3,7 @@ use Rattle.uug_conversation.specs.MemoryHoldings.{kept_of}
 use Rattle.uug_mailbox.specs.MailHoldings.{mail_holdings}
 use Rattle.uug_mailbox.specs.Places.{shown_public}
 use Rattle.uug_mailbox.specs.declared.mail_spool.MailSpool.{MailSpool}
-use Rattle.uug_spool_call.proofs.ReportedLemmas.{began_soundly}
+use Rattle.uug_transfer.proofs.ReportedLemmas.{began_soundly}
 use Rattle.uug_spool_call.proofs.spool_end.SpoolEnd.begin.Goals as goal
 
 pub returns-in-Ok-begin_end-clause-ran : goal.returns-in-Ok-begin_end-clause-ran

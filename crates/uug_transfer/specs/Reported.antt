@@ -1,4 +1,4 @@
--- What is printed of an end over a spool, and what the program answers (this project's profile).
+-- What is printed of an end that has run its session, and what the program answers (this project's profile).
 use Rattle.std.specs.Prelude.{◌≡◌, ℕ, Bool, List, Option, if◌then◌else◌}
 use Rattle.uug_conversation.specs.Holdings.{Holdings, Kept}
 use Rattle.uug_conversation.specs.declared.side.Side.{Side}
@@ -9,11 +9,11 @@ use Rattle.uug_session.specs.Node.{NodeState}
 use Rattle.uug_stream.specs.Streams.{Appends}
 use Rattle.uug_transfer.specs.Ends.{phase_of_end, report_of, status_of_phase}
 
--- 1 where jobs were put off that could not be read, else that of the session
+-- 1 where jobs were put off or given up, where that counts, else that of the session
 abbrev pub status_with : (is_left : Bool) (status : ℕ) → ℕ
 status_with is_left status = if is_left then 1 else status
 
--- The end came soundly to its session, with a spool that gives and accepts this, and has run it up to here, where the spool has
+-- The end came soundly to its session, with files that give and accept this, and has run it up to here, where they have
 -- kept that.
 pub record HasRunSoundly (side : Side) (h : Holdings) (kept : List Kept) (end : NodeState) : Type 0 where
   pub beginning : EndBeginning

@@ -10,37 +10,39 @@ use Rattle.uug_session.specs.Engine.{IsEnded}
 use Rattle.uug_session.specs.Node.{NodeState}
 use Rattle.uug_stream.specs.Streams.{Appends}
 use Rattle.uug_stream.specs.declared.fault.ToolFault.{ToolFault}
-use Rattle.uug_transfer.specs.BufferedNodes.{IsLed}
 use Rattle.uug_transfer.specs.Ends.{phase_of_end, report_of, status_of_phase}
-use Rattle.uug_spool_call.specs.Reported.{HasRunSoundly, IsReported, status_with}
+use Rattle.uug_transfer.specs.Moments.{EndNow, IsLed}
+use Rattle.uug_transfer.specs.Reported.{HasRunSoundly, IsReported, status_with}
+
+-- a session that was run up to some state goes on from there
+pub led_run : (side : Side) (b : EndBeginning) (before after : EndNow) → before.holdings ≡ b.holdings
+    → HasRun side b before.kept before.node → IsLed before after → HasRun side b after.kept after.node
+led_run side b before after is ran led = record {
+  first = ran.first;
+  begun = ran.begun;
+  led = led_on b.holdings b.kept before.kept after.kept ran.first before.node after.node ran.led
+      (subst (λ (held : Holdings). IsLedByEvents held before.kept after.kept before.node after.node) is led.events);
+}
 
 -- an end that came so to its session has come soundly to it
 pub began_soundly : (side : Side) (b : EndBeginning) (h : Holdings) (kept : List Kept) (end : NodeState)
     → b.holdings ≡ h → IsSoundBeginning b → HasRun side b kept end → HasRunSoundly side h kept end
 began_soundly side b h kept end gives sound ran = record { beginning = b; holdings = gives; sound = sound; ran = ran }
 
-led_soundly : (side : Side) (h h_after : Holdings) (kept kept_after : List Kept) (before after : NodeState)
-    → HasRunSoundly side h kept before → IsLed h h_after kept kept_after before after
-    → HasRunSoundly side h_after kept_after after
-led_soundly side h h_after kept kept_after before after r l = record {
+led_soundly : (side : Side) (before after : EndNow) → HasRunSoundly side before.holdings before.kept before.node → IsLed before after
+    → HasRunSoundly side after.holdings after.kept after.node
+led_soundly side before after r l = record {
   beginning = r.beginning;
-  holdings = r.holdings ∙ sym l.same;
+  holdings = r.holdings ∙ sym l.stays;
   sound = r.sound;
-  ran = record {
-    first = r.ran.first;
-    begun = r.ran.begun;
-    led = led_on r.beginning.holdings r.beginning.kept kept kept_after r.ran.first before after r.ran.led
-        (subst (λ (holdings : Holdings). IsLedByEvents holdings kept kept_after before after) (sym r.holdings) l.led);
-  };
+  ran = led_run side r.beginning before after (sym r.holdings) r.ran l;
 }
 
 -- an end that has run its session up to here runs it on, to what is shown of it
-pub runs_on : (side : Side) (h h_after : Holdings) (kept kept_after : List Kept) (before after shown : NodeState)
-    → HasRunSoundly side h kept before → IsLed h h_after kept kept_after before after → shown ≡ after
-    → HasRunSoundly side h_after kept_after shown
-runs_on side h h_after kept kept_after before after shown r l is =
-    subst (λ (end : NodeState). HasRunSoundly side h_after kept_after end) (sym is)
-    (led_soundly side h h_after kept kept_after before after r l)
+pub runs_on : (side : Side) (before after : EndNow) (shown : NodeState) → HasRunSoundly side before.holdings before.kept before.node
+    → IsLed before after → shown ≡ after.node → HasRunSoundly side after.holdings after.kept shown
+runs_on side before after shown r l is =
+    subst (λ (end : NodeState). HasRunSoundly side after.holdings after.kept end) (sym is) (led_soundly side before after r l)
 
 pub reported_of : (r : Result ℕ ToolFault) (side : Side) (h : Holdings) (kept : List Kept) (end : NodeState) (is_left : Bool)
     (written written_after : Option (List ℕ)) → HasRunSoundly side h kept end → IsEnded end.engine.stage

@@ -1,0 +1,17 @@
+-- What stands on the disk of an end over a spool (this project's profile).
+use Rattle.std.specs.Prelude.{Some, None}
+use Rattle.uug_mailbox.specs.OpenLines.{jobs_of}
+use Rattle.uug_mailbox.specs.WorkStores.{lines_of}
+use Rattle.uug_mailbox.specs.declared.work_store.WorkStore.{WorkStore}
+use Rattle.uug_spool_disk.specs.declared.spool_disk.SpoolDisk.{SpoolDisk}
+use Rattle.uug_transfer.specs.Moments.{DiskNow}
+
+-- the jobs of its C. files; such an end keeps no number, and its disk does not tell what was written
+abbrev pub store_now : {R A : Type 0} → WorkStore (SpoolDisk R A) A → DiskNow
+store_now store = record {
+  jobs = Some (jobs_of (lines_of store));
+  told = None;
+  job_faults = store.disk.faults.count;
+  number = None;
+  number_faults = 0;
+}

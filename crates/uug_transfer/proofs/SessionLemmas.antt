@@ -1,0 +1,276 @@
+-- What the session of an end comes to, one call behind another.
+use Rattle.std.proofs.Common.{◌≡◌, ◌≤◌, ℕ, [], Option, Result, Ok, Err, refl, sym, ap, subst, ◌∙◌, arith}
+use Rattle.std.specs.Result.{IsErr, IsErrAnd}
+use Rattle.uug_folder.specs.NumberText.{holding_number}
+use Rattle.uug_conversation.specs.DialogueValue.{dialogue_has_parted}
+use Rattle.uug_session.specs.Engine.{HasFailed, faults_max, hung_up, with_stage}
+use Rattle.uug_session.specs.NumberStanding.{KeepsNumber}
+use Rattle.uug_transfer.proofs.ListeningLemmas.{heard_then, line_lost, talks_lost}
+use Rattle.uug_transfer.proofs.NumberLemmas.{later, unless_refused}
+use Rattle.uug_transfer.proofs.SettlingLemmas.{FollowsNumber, is_now, loses_same, loses_then, some_then, stays_same, stays_then, tells_of, tells_same, tells_then, unless_settled}
+use Rattle.uug_transfer.proofs.StallLemmas.{within_same}
+use Rattle.uug_transfer.proofs.UnsettledLemmas.{however_settled}
+use Rattle.uug_transfer.specs.Ends.{jobs_of_end, number_of_end}
+use Rattle.uug_transfer.specs.LineSessions.{IsSession, answer_to, SettlesJobs, UsesLine, WritesNumber}
+use Rattle.uug_transfer.specs.Listening.{HearsLine}
+use Rattle.uug_transfer.specs.Moments.{DiskNow, EndNow, LineNow, Unsent}
+use Rattle.uug_transfer.specs.Received.{ReadsWithin}
+use Rattle.uug_transfer.specs.SessionFaults.{IfOnDisk, UnlessJobs, UnlessLine, UnlessNumber, UnlessRefused, UnlessUnsettled}
+use Rattle.uug_transfer.specs.Settling.{IsNumberNow, IsSomeNumber, LosesNoJob}
+use Rattle.uug_transfer.specs.WriteSilences.{WritesWithin}
+use Rattle.uug_transfer.specs.Writing.{TalksAtLine}
+use Rattle.uug_transfer.specs.declared.read_budget.TheConstants.{SILENCES_MAX, STALLS_MAX}
+use Rattle.uug_transfer.specs.declared.session_fault.SessionFault.{SessionFault}
+use Rattle.uug_transfer.specs.declared.session_fault.SessionFault.TheVariants as fault
+use Rattle.uug_stream.specs.declared.fault.ToolFault.{ToolFault}
+use Rattle.uug_stream.specs.declared.fault.ToolFault.TheVariants as tool_fault
+
+-- a fault that is handed on
+pub handed_on : {T : Type 0} (r : Result T SessionFault) (f : SessionFault) → IsErr r × IsErrAnd r (λ other. other ≡ f) → r ≡ Err f
+handed_on (Ok value) f h = absurd (cc h.0)
+handed_on (Err other) f h = ap Err h.1
+
+-- ---- by what it ended with
+
+unless_line : {T : Type 0} (r : Result T SessionFault) (P : Type 0) → P → UnlessLine r P
+unless_line (Ok value) P p = p
+unless_line (Err fault.Line) P p = tt
+unless_line (Err fault.Jobs) P p = p
+unless_line (Err fault.Number) P p = p
+unless_line (Err fault.Memory) P p = p
+
+unless_number : {T : Type 0} (r : Result T SessionFault) (P : Type 0) → P → UnlessNumber r P
+unless_number (Ok value) P p = p
+unless_number (Err fault.Line) P p = p
+unless_number (Err fault.Jobs) P p = p
+unless_number (Err fault.Number) P p = tt
+unless_number (Err fault.Memory) P p = p
+
+unless_number_then : {T : Type 0} (r : Result T SessionFault) (P Q : Type 0) → UnlessNumber r P → (P → Q) → UnlessNumber r Q
+unless_number_then (Ok value) P Q p f = f p
+unless_number_then (Err fault.Line) P Q p f = f p
+unless_number_then (Err fault.Jobs) P Q p f = f p
+unless_number_then (Err fault.Number) P Q p f = tt
+unless_number_then (Err fault.Memory) P Q p f = f p
+
+if_on_disk : {T : Type 0} (r : Result T SessionFault) (P : Type 0) → P → IfOnDisk r P
+if_on_disk (Ok value) P p = p
+if_on_disk (Err fault.Line) P p = p
+if_on_disk (Err fault.Jobs) P p = tt
+if_on_disk (Err fault.Number) P p = tt
+if_on_disk (Err fault.Memory) P p = tt
+
+on_disk_then : {T : Type 0} (r : Result T SessionFault) (P Q : Type 0) → IfOnDisk r P → (P → Q) → IfOnDisk r Q
+on_disk_then (Ok value) P Q p f = f p
+on_disk_then (Err fault.Line) P Q p f = f p
+on_disk_then (Err fault.Jobs) P Q p f = tt
+on_disk_then (Err fault.Number) P Q p f = tt
+on_disk_then (Err fault.Memory) P Q p f = tt
+
+not_on_disk : (T : Type 0) (f : SessionFault) (P : Type 0) → (f ≡ fault.Line → ⊥) → IfOnDisk {T = T} (Err f) P
+not_on_disk T fault.Line P other = absurd (other refl)
+not_on_disk T fault.Jobs P other = tt
+not_on_disk T fault.Number P other = tt
+not_on_disk T fault.Memory P other = tt
+
+pub calm_unsettled : {T : Type 0} (r : Result T SessionFault) (P : Type 0) → UnlessJobs r P → UnlessUnsettled r P
+calm_unsettled (Ok value) P p = p
+calm_unsettled (Err fault.Line) P p = p
+calm_unsettled (Err fault.Jobs) P p = tt
+calm_unsettled (Err fault.Number) P p = p
+calm_unsettled (Err fault.Memory) P p = tt
+
+-- ---- the jobs
+
+-- what a session that goes on has come to so far
+abbrev pub goes_on : Result ℕ SessionFault
+goes_on = Ok 0
+
+pub settles_at_first : (a b : EndNow) (x y : DiskNow) → jobs_of_end b.node ≡ jobs_of_end a.node → y.jobs ≡ x.jobs → y.told ≡ x.told
+    → y.job_faults ≡ x.job_faults → SettlesJobs goes_on a b x y
+settles_at_first a b x y jobs stands told calm = record {
+  stays = stays_same x.jobs y.jobs a.node b.node jobs stands;
+  none_lost = loses_same x.jobs y.jobs a.node b.node jobs stands;
+  told = tells_same a.holdings x.told y.told a.node b.node jobs told;
+  calm = calm;
+  fault = λ is. absurd (cc is);
+}
+
+-- a call was done, and the session goes on
+pub settles_on : {T : Type 0} (value : T) (a b : EndNow) (x y : DiskNow) → SettlesJobs {T = T} (Ok value) a b x y → SettlesJobs goes_on a b x y
+settles_on value a b x y s = record {
+  stays = s.stays;
+  none_lost = s.none_lost;
+  told = s.told;
+  calm = s.calm;
+  fault = λ is. absurd (cc is);
+}
+
+-- whatever it ended with, but a fault of their store
+pub settles_so : {T : Type 0} (r : Result T SessionFault) (a b : EndNow) (x y : DiskNow) → (r ≡ Err fault.Jobs → ⊥)
+    → SettlesJobs goes_on a b x y → SettlesJobs r a b x y
+settles_so r a b x y other s = record {
+  stays = however_settled r _ s.stays;
+  none_lost = s.none_lost;
+  told = however_settled r _ s.told;
+  calm = however_settled r _ s.calm;
+  fault = λ is. absurd (other is);
+}
+
+pub settles_then : {T : Type 0} (r : Result T SessionFault) (a b c : EndNow) (x y z : DiskNow) → b.holdings ≡ a.holdings
+    → SettlesJobs goes_on a b x y → SettlesJobs r b c y z → SettlesJobs r a c x z
+settles_then r a b c x y z same first second = record {
+  stays = unless_settled r _ _ second.stays (λ s. stays_then x.jobs y.jobs z.jobs a.node b.node c.node first.stays s);
+  none_lost = loses_then x.jobs y.jobs z.jobs a.node b.node c.node first.none_lost second.none_lost;
+  told = unless_settled r _ _ second.told (λ t. tells_then a.holdings x.told y.told z.told a.node b.node c.node first.told
+      (tells_of b.holdings a.holdings y.told z.told b.node c.node (sym same) t));
+  calm = unless_settled r _ _ second.calm (λ e. e ∙ first.calm);
+  fault = λ is. subst (λ (n : ℕ). HasFailed faults_max n z.job_faults) first.calm (second.fault is);
+}
+
+-- the jobs of the end do not move behind that
+pub settles_behind : {T : Type 0} (r : Result T SessionFault) (a b c : EndNow) (x y : DiskNow)
+    → jobs_of_end c.node ≡ jobs_of_end b.node → SettlesJobs r a b x y → SettlesJobs r a c x y
+settles_behind r a b c x y jobs s = record {
+  stays = unless_settled r _ _ s.stays
+      (λ h. stays_then x.jobs y.jobs y.jobs a.node b.node c.node h (stays_same y.jobs y.jobs b.node c.node jobs refl));
+  none_lost = loses_then x.jobs y.jobs y.jobs a.node b.node c.node s.none_lost (loses_same y.jobs y.jobs b.node c.node jobs refl);
+  told = unless_settled r _ _ s.told
+      (λ h. tells_then a.holdings x.told y.told y.told a.node b.node c.node h (tells_same a.holdings y.told y.told b.node c.node jobs refl));
+  calm = s.calm;
+  fault = s.fault;
+}
+
+-- ---- the number
+
+-- whatever it ended with, but a fault of its file
+pub number_so : {T : Type 0} (r : Result T SessionFault) (a b : EndNow) (x y : DiskNow) (kept : Option ℕ) → (r ≡ Err fault.Number → ⊥)
+    → KeepsNumber a.node.engine b.node.engine → FollowsNumber (number_of_end a.node) kept (number_of_end b.node)
+    → y.number ≡ holding_number kept x.number → y.number_faults ≡ x.number_faults → WritesNumber r a b x y
+number_so r a b x y kept other stands follows file calm = record {
+  stands = unless_refused r _ stands;
+  is_now = if_on_disk r _ (is_now (number_of_end a.node) kept (number_of_end b.node) x.number y.number follows file);
+  whole = record { number = kept; is = file };
+  calm = unless_refused r _ (unless_number r _ calm);
+  fault = λ is. absurd (other is);
+}
+
+-- the end keeps the same behind that
+pub number_behind : {T : Type 0} (r : Result T SessionFault) (a b c : EndNow) (x y : DiskNow)
+    → KeepsNumber b.node.engine c.node.engine → number_of_end c.node ≡ number_of_end b.node → WritesNumber r a b x y
+    → WritesNumber r a c x y
+number_behind r a b c x y keeps same w = record {
+  stands = heard_then r _ _ w.stands (λ k. later k keeps);
+  is_now = subst (λ (now : Option ℕ). IfOnDisk r (IsNumberNow (number_of_end a.node) now x.number y.number)) (sym same) w.is_now;
+  whole = w.whole;
+  calm = w.calm;
+  fault = w.fault;
+}
+
+-- what has become of the end could not be put on its disk
+pub number_left : {T : Type 0} (f : SessionFault) (a b c : EndNow) (x y z : DiskNow) → (f ≡ fault.Line → ⊥)
+    → KeepsNumber a.node.engine b.node.engine → UnlessRefused {T = T} (Err f) (KeepsNumber b.node.engine c.node.engine)
+    → IsSomeNumber x.number y.number → IsSomeNumber y.number z.number → y.number_faults ≡ x.number_faults
+    → UnlessRefused {T = T} (Err f) (UnlessNumber {T = T} (Err f) (z.number_faults ≡ y.number_faults))
+    → (f ≡ fault.Number → HasFailed faults_max y.number_faults z.number_faults) → WritesNumber {T = T} (Err f) a c x z
+number_left {T = T} f a b c x y z other first second whole whole_then calm calm_then failed = record {
+  stands = heard_then {T = T} (Err f) _ _ second (λ k. later first k);
+  is_now = not_on_disk T f _ other;
+  whole = some_then x.number y.number z.number whole whole_then;
+  calm = heard_then {T = T} (Err f) _ _ calm_then (λ u. unless_number_then {T = T} (Err f) _ _ u (λ e. e ∙ calm));
+  fault = λ is. subst (λ (n : ℕ). HasFailed faults_max n z.number_faults) calm (failed (cc is));
+}
+
+-- ---- the line
+
+-- whatever it ended with, but a fault of the line
+pub line_so : {T : Type 0} (r : Result T SessionFault) (most : ℕ) (a b : EndNow) (first : Unsent) (x y : LineNow)
+    → (r ≡ Err fault.Line → ⊥) → HearsLine a.holdings a.kept b.kept x.received y.received a.node b.node
+    → (a.node.engine.outbox.entries ≡ []
+    → TalksAtLine a.holdings a.kept b.kept x.received y.received first.injector first.bytes x.taken y.taken a.node b.node)
+    → ReadsWithin most SILENCES_MAX x.received y.received → WritesWithin STALLS_MAX x.writes y.writes → y.faults ≡ x.faults
+    → UsesLine most r a b first x y
+line_so r most a b first x y other heard talked reads writes calm = record {
+  heard = unless_refused r _ heard;
+  talked = λ cleared. unless_refused r _ (talked cleared);
+  reads = reads;
+  writes = writes;
+  calm = unless_line r _ calm;
+  fault = λ is. absurd (other is);
+  grows = omega (arith, calm);
+}
+
+pub line_failed : {T : Type 0} (most : ℕ) (a b : EndNow) (first : Unsent) (x y : LineNow)
+    → HearsLine a.holdings a.kept b.kept x.received y.received a.node b.node
+    → (a.node.engine.outbox.entries ≡ []
+    → TalksAtLine a.holdings a.kept b.kept x.received y.received first.injector first.bytes x.taken y.taken a.node b.node)
+    → ReadsWithin most SILENCES_MAX x.received y.received → WritesWithin STALLS_MAX x.writes y.writes
+    → HasFailed faults_max x.faults y.faults → x.faults ≤ y.faults → UsesLine {T = T} most (Err fault.Line) a b first x y
+line_failed most a b first x y heard talked reads writes failed grows = record {
+  heard = heard;
+  talked = talked;
+  reads = reads;
+  writes = writes;
+  calm = tt;
+  fault = λ is. failed;
+  grows = grows;
+}
+
+-- the line is calm, but what came may not have been taken up
+pub line_left : {T : Type 0} (r : Result T SessionFault) (most : ℕ) (a b : EndNow) (first : Unsent) (x y : LineNow)
+    → (r ≡ Err fault.Line → ⊥) → UnlessRefused r (HearsLine a.holdings a.kept b.kept x.received y.received a.node b.node)
+    → (a.node.engine.outbox.entries ≡ [] → UnlessRefused r
+    (TalksAtLine a.holdings a.kept b.kept x.received y.received first.injector first.bytes x.taken y.taken a.node b.node))
+    → ReadsWithin most SILENCES_MAX x.received y.received → WritesWithin STALLS_MAX x.writes y.writes → y.faults ≡ x.faults
+    → UsesLine most r a b first x y
+line_left r most a b first x y other heard talked reads writes calm = record {
+  heard = heard;
+  talked = talked;
+  reads = reads;
+  writes = writes;
+  calm = unless_line r _ calm;
+  fault = λ is. absurd (other is);
+  grows = omega (arith, calm);
+}
+
+-- the end hangs up, and its line is told how far the session has come
+pub line_hung_up : {T : Type 0} (r : Result T SessionFault) (most : ℕ) (a b c : EndNow) (first : Unsent) (x y z : LineNow)
+    → c.node.engine ≡ with_stage (hung_up (dialogue_has_parted b.node.engine.dialogue) b.node.engine.stage) b.node.engine
+    → c.kept ≡ b.kept → z.received ≡ y.received → z.taken ≡ y.taken → z.writes ≡ y.writes → z.faults ≡ y.faults
+    → UsesLine most r a b first x y → UsesLine most r a c first x z
+line_hung_up r most a b c first x y z lost kept received taken writes faults u = record {
+  heard = heard_then r _ _ u.heard (λ h. line_lost a.holdings a.kept b.kept c.kept x.received y.received z.received a.node b.node c.node
+      h lost kept received);
+  talked = λ cleared. heard_then r _ _ (u.talked cleared) (λ t. talks_lost a.holdings a.kept b.kept c.kept x.received y.received z.received
+      first.injector first.bytes x.taken y.taken z.taken a.node b.node c.node t lost kept received taken);
+  reads = subst (ReadsWithin most SILENCES_MAX x.received) (sym received) u.reads;
+  writes = within_same STALLS_MAX x.writes y.writes z.writes u.writes writes;
+  calm = subst (λ (n : ℕ). UnlessLine r (n ≡ x.faults)) (sym faults) u.calm;
+  fault = λ is. subst (HasFailed faults_max x.faults) (sym faults) (u.fault is);
+  grows = subst (λ (n : ℕ). x.faults ≤ n) (sym faults) u.grows;
+}
+
+-- ---- the session
+
+-- what holds behind one fault holds behind what hands that on
+pub session_as : {T : Type 0} (r s : Result T SessionFault) (most : ℕ) (a b : EndNow) (first : Unsent) (x y : LineNow) (z w : DiskNow)
+    → r ≡ s → IsSession most s a b first x y z w → IsSession most r a b first x y z w
+session_as {T = T} r s most a b first x y z w is session =
+    subst (λ (t : Result T SessionFault). IsSession most t a b first x y z w) (sym is) session
+
+-- memory ran out before all was settled
+pub settles_refused : {T : Type 0} (r : Result T SessionFault) (a b : EndNow) (x y : DiskNow) → r ≡ Err fault.Memory
+    → LosesNoJob x.jobs y.jobs a.node b.node → SettlesJobs r a b x y
+settles_refused {T = T} r a b x y is none_lost = subst (λ (t : Result T SessionFault). SettlesJobs t a b x y) (sym is) (record {
+  stays = tt;
+  none_lost = none_lost;
+  told = tt;
+  calm = tt;
+  fault = λ is. absurd (cc is);
+})
+
+-- want of memory is answered whatever is printed
+pub answered_memory : {T U : Type 0} (r : Result T SessionFault) (f : SessionFault) (status : ℕ) (printed : Result U ToolFault)
+    → r ≡ Err f → f ≡ fault.Memory → Err tool_fault.Memory ≡ answer_to r status printed
+answered_memory {T = T} r f status printed is memory =
+    subst (λ (t : Result T SessionFault). Err tool_fault.Memory ≡ answer_to t status printed) (sym (is ∙ ap Err memory)) refl

@@ -1,0 +1,81 @@
+-- What the session of an end at its line comes to, by what it ended with (this project's profile).
+use Rattle.std.specs.Prelude.{◌≡◌, ◌≤◌, ℕ, zero, suc, [], Result, Ok, Err}
+use Rattle.uug_session.specs.Engine.{HasFailed, IsEnded, faults_max}
+use Rattle.uug_session.specs.NumberStanding.{KeepsNumber}
+use Rattle.uug_stream.specs.declared.fault.ToolFault.{ToolFault}
+use Rattle.uug_stream.specs.declared.fault.ToolFault.TheVariants as tool_faults
+use Rattle.uug_transfer.specs.EndOver.{fault_behind_line}
+use Rattle.uug_transfer.specs.Ends.{number_of_end, phase_of_end, status_of_phase}
+use Rattle.uug_transfer.specs.Listening.{HearsLine}
+use Rattle.uug_transfer.specs.Moments.{DiskNow, EndNow, IsLed, LineNow, Unsent}
+use Rattle.uug_transfer.specs.Received.{ReadsWithin}
+use Rattle.uug_transfer.specs.SessionFaults.{IfOnDisk, UnlessLine, UnlessNumber, UnlessRefused, UnlessUnsettled}
+use Rattle.uug_transfer.specs.Settling.{IsNumberNow, IsSomeNumber, LosesNoJob, StaysInStore, TellsFailed}
+use Rattle.uug_transfer.specs.WriteSilences.{WritesWithin}
+use Rattle.uug_transfer.specs.Writing.{TalksAtLine}
+use Rattle.uug_transfer.specs.declared.read_budget.TheConstants.{SILENCES_MAX, STALLS_MAX}
+use Rattle.uug_transfer.specs.declared.session_fault.SessionFault.{SessionFault}
+use Rattle.uug_transfer.specs.declared.session_fault.SessionFault.TheVariants as faults
+
+-- The line: what it brought led the end, and nothing else did. It took the first bytes of what there was to write: what was to be
+-- written before, and then what goes out of what the end emitted. It was read, and waited for, no longer than it may be.
+pub record UsesLine {T : Type 0} (most : ℕ) (result : Result T SessionFault) (old new : EndNow) (first : Unsent)
+    (line line_after : LineNow) : Type 0 where
+  pub heard : UnlessRefused result (HearsLine old.holdings old.kept new.kept line.received line_after.received old.node new.node)
+  pub talked : old.node.engine.outbox.entries ≡ [] → UnlessRefused result (TalksAtLine old.holdings old.kept new.kept
+      line.received line_after.received first.injector first.bytes line.taken line_after.taken old.node new.node)
+  pub reads : ReadsWithin most SILENCES_MAX line.received line_after.received
+  pub writes : WritesWithin STALLS_MAX line.writes line_after.writes
+  pub calm : UnlessLine result (line_after.faults ≡ line.faults)
+  pub fault : result ≡ Err faults.Line → HasFailed faults_max line.faults line_after.faults
+  pub grows : line.faults ≤ line_after.faults
+
+-- The jobs: those that are over are taken out of their store, and nothing else is. No pending job is lost from it, whatever
+-- happens. Of each that has failed it is told why.
+pub record SettlesJobs {T : Type 0} (result : Result T SessionFault) (old new : EndNow) (disk disk_after : DiskNow) : Type 0 where
+  pub stays : UnlessUnsettled result (StaysInStore disk.jobs disk_after.jobs old.node new.node)
+  pub none_lost : LosesNoJob disk.jobs disk_after.jobs old.node new.node
+  pub told : UnlessUnsettled result (TellsFailed old.holdings disk.told disk_after.told old.node new.node)
+  pub calm : UnlessUnsettled result (disk_after.job_faults ≡ disk.job_faults)
+  pub fault : result ≡ Err faults.Jobs → HasFailed faults_max disk.job_faults disk_after.job_faults
+
+-- The number: it has risen once at most, and its file has the one that the end keeps, if it keeps one. Whatever happens, the
+-- file is as it was or has the line of a number as a whole.
+pub record WritesNumber {T : Type 0} (result : Result T SessionFault) (old new : EndNow) (disk disk_after : DiskNow) : Type 0 where
+  pub stands : UnlessRefused result (KeepsNumber old.node.engine new.node.engine)
+  pub is_now : IfOnDisk result (IsNumberNow (number_of_end old.node) (number_of_end new.node) disk.number disk_after.number)
+  pub whole : IsSomeNumber disk.number disk_after.number
+  pub calm : UnlessRefused result (UnlessNumber result (disk_after.number_faults ≡ disk.number_faults))
+  pub fault : result ≡ Err faults.Number → HasFailed faults_max disk.number_faults disk_after.number_faults
+
+-- what became of an end by its turns at its line, and with what they ended
+pub record IsSession {T : Type 0} (most : ℕ) (result : Result T SessionFault) (old new : EndNow) (first : Unsent)
+    (line line_after : LineNow) (disk disk_after : DiskNow) : Type 0 where
+  pub led : IsLed old new
+  pub at_line : UsesLine most result old new first line line_after
+  pub jobs : SettlesJobs result old new disk disk_after
+  pub number : WritesNumber result old new disk disk_after
+
+-- ---- with its report
+
+-- What is answered behind a session that ended so: the status, or what became of the report where that failed. Where the line
+-- has failed before the session was done, or something could not be put on the disk, that is the answer; want of memory always is.
+abbrev pub answer_to : {T U : Type 0} → (ended : Result T SessionFault) → (status : ℕ) → (printed : Result U ToolFault)
+    → Result ℕ ToolFault
+answer_to (Ok done) status (Ok told) = Ok status
+answer_to (Ok done) status (Err fault) = Err fault
+answer_to (Err faults.Line) zero (Ok told) = Ok 0
+answer_to (Err faults.Line) zero (Err fault) = Err fault
+answer_to (Err faults.Line) (suc status) printed = Err (fault_behind_line printed)
+answer_to (Err faults.Jobs) status printed = Err (fault_behind_line printed)
+answer_to (Err faults.Number) status printed = Err (fault_behind_line printed)
+answer_to (Err faults.Memory) status printed = Err tool_faults.Memory
+
+-- an end has had its session, which is over, and has told of it
+pub record IsCall (most : ℕ) (answer : Result ℕ ToolFault) (old new : EndNow) (first : Unsent) (line line_after : LineNow)
+    (disk disk_after : DiskNow) : Type 0 where
+  pub ended : Result (Unit {0}) SessionFault
+  pub session : IsSession most ended old new first line line_after disk disk_after
+  pub over : IsEnded new.node.engine.stage
+  pub printed : Result (Unit {0}) ToolFault
+  pub answered : answer ≡ answer_to ended (status_of_phase (phase_of_end new.node)) printed
