@@ -220,6 +220,9 @@ def rows_of_configuration(folder: Path) -> Iterator[Row]:
     yield "a bad line", fault_of(
         lambda: configuration.read_site(site.config)
     ), f"{folder}/sys:2: syntax error: correct that line; uuchk says the same"
+    yield "a bad line of the one system", fault_of(
+        lambda: configuration.read_site(site.config, "far")
+    ), f"far: {folder}/sys:2: syntax error: correct that line; uuchk says the same"
     (folder / "config").write_text(f"sysfile {folder}/none\n")
     yield "without a nodename it is the host's", configuration.read_site(str(folder / "config")).me, os.uname().nodename.split(
         "."
@@ -1035,9 +1038,14 @@ def rows_of_check(folder: Path) -> Iterator[Row]:
         ("sys", "protocol-parameter g window 3", "honoured"),
         ("sys", "protocol-parameter g errors 3", "ignored"),
         ("sys", "protocol-parameter i window 3", "ignored"),
+        ("sys", "protocol-parameter g window 9", "ignored"),
+        ("sys", "protocol-parameter g packet-size 100", "ignored"),
+        ("port", "protocol-parameter g timeout 0", "ignored"),
+        ("port", "protocol-parameter g timeout", "ignored"),
         ("dial", "protocol-parameter g timeout 3", "honoured"),
     ):
         yield f"verdict of {kind} {text}", check.verdict_of(kind, text.split())[0], verdict
+    yield "why a parameter is ignored", check.verdict_of("sys", "protocol-parameter g window 9".split())[1], "it is 1 to 7: the default stays"
     site = site_of(
         folder,
         sys="protocol t\nsystem far\ntime any\nport line\nsystem near\nport line\ntime any\nprotocol g\nremote-receive ~ !~/x\n"

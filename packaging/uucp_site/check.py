@@ -6,7 +6,7 @@ from dataclasses import dataclass
 from pathlib import Path
 
 from . import obstacles, paths
-from .configuration import Site, System, read_site, words_of
+from .configuration import SECONDS_MAX, Site, System, is_taken, read_site, words_of
 
 HONOURED, IGNORED, STOPS = "honoured", "ignored", "stops the call"
 SECRET = ("call-password",)
@@ -68,7 +68,8 @@ KEYWORDS = {
     },
 }
 OPENERS = {"sys": "system", "port": "port"}
-PARAMETERS = {"window": HONOURED, "packet-size": HONOURED, "timeout": HONOURED}
+# What is taken of g's parameters.
+PARAMETERS = {"window": "1 to 7", "packet-size": "a power of two, 32 to 4096", "timeout": f"1 to {SECONDS_MAX}"}
 
 
 @dataclass(frozen=True)
@@ -87,7 +88,7 @@ def verdict_of(kind: str, words: list[str]) -> tuple[str, str]:
             return IGNORED, "only g is spoken"
         if words[2:3] == ["short-packets"]:
             return IGNORED, "packets may be short; with false commands are filled up"
-        return PARAMETERS.get(words[2] if len(words) > 2 else "", IGNORED), ""
+        return verdict_of_parameter(*(words[2:4] + ["", ""])[:2])
     if kind == "sys" and keyword == "port" and len(words) > 2:
         return verdict_of("port", words[1:])
     if kind == "port" and keyword == "dialer" and len(words) > 2:
@@ -95,6 +96,13 @@ def verdict_of(kind: str, words: list[str]) -> tuple[str, str]:
     if kind == "config" and keyword == "unknown" and len(words) > 1:
         return verdict_of("sys", words[1:])
     return KEYWORDS[kind].get(keyword, (STOPS, "this keyword is not known: correct it"))
+
+
+def verdict_of_parameter(name: str, value: str) -> tuple[str, str]:
+    """Returns what is done with a parameter of g, and why."""
+    if name in PARAMETERS and not is_taken(name, value):
+        return IGNORED, f"it is {PARAMETERS[name]}: the default stays"
+    return (HONOURED if name in PARAMETERS else IGNORED), ""
 
 
 def lines_of(kind: str, path: str) -> Iterator[Row]:

@@ -14,6 +14,17 @@ from . import paths
 from .faults import SiteError
 from .times import Span, span_of
 
+SIZES = {str(2**power) for power in range(5, 13)}
+SECONDS_MAX = 600
+
+
+def is_taken(name: str, value: str) -> bool:
+    """Returns whether `uucpair` takes this value of a parameter of g. With another one its default stays."""
+    if name == "packet-size":
+        return value in SIZES
+    last = {"window": 7, "timeout": SECONDS_MAX}.get(name, 0)
+    return value.isascii() and value.isdigit() and 0 < int(value) <= last
+
 
 @dataclass
 class Chat:
@@ -348,7 +359,9 @@ def read_site(config: str | None, name: str | None = None) -> Site:
         site.systems.clear()
         Reader(site).read(text.splitlines())
         if not site.systems:
-            raise SiteError(name, complaint.removeprefix(f"{name}: ") or "system not found", "add it to the sys file")
+            what = complaint.removeprefix(f"{name}: ") or "system not found"
+            is_absent = what == "system not found"
+            raise SiteError(name, what, "add it to the sys file" if is_absent else "correct that line; uuchk says the same")
     elif complaint and "no systems found" not in complaint:
         where, _, what = complaint.rpartition(": ")
         raise SiteError(where, what, "correct that line; uuchk says the same")

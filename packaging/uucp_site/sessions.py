@@ -6,14 +6,12 @@ import os
 import subprocess
 
 from . import paths
-from .configuration import Alternate, Port, Site
+from .configuration import Alternate, Port, Site, is_taken
 from .faults import SiteError
 from .lines import Line
 
-SIZES = {str(2**power) for power in range(5, 13)}
 # Below this speed the timer has to leave time for what is on the way.
 SLOW_BELOW, SPEED_MIN = 57600, 300
-SECONDS_MAX = 600
 ENVIRONMENT = ("TZ", "HOME", "LOGNAME", "USER")
 
 
@@ -29,12 +27,9 @@ def options_of(alternate: Alternate, port: Port | None, speed: int) -> list[str]
     """Returns the options of a session that the configuration asks for."""
     found = parameters_of(alternate, port)
     words = []
-    if found.get("window", "") in set("1234567"):
-        words += ["--window", found["window"]]
-    if found.get("packet-size") in SIZES:
-        words += ["--size", found["packet-size"]]
-    if found.get("timeout", "").isdigit() and 0 < int(found["timeout"]) <= SECONDS_MAX:
-        words += ["--timeout", found["timeout"]]
+    for name, option in (("window", "--window"), ("packet-size", "--size"), ("timeout", "--timeout")):
+        if is_taken(name, found.get(name, "")):
+            words += [option, found[name]]
     if found.get("short-packets", "true")[:1] in "fFnN":
         words.append("--fill-commands")
     if SPEED_MIN <= speed < SLOW_BELOW:
