@@ -695,6 +695,38 @@ called_with unix:line
 wait "$answerer" || true
 errors_are "the log of another number" badsequence "the number of this end is 17"
 
+# silent_ones NAME LOG WORD..: an end that is called with these words says the same of each of two callers who say nothing, on standard
+# error and in its log. Who calls behind them is served.
+silent_ones() {
+    local name=$1 log=$2 hub said logged want="the caller said nothing for N s, while others waited" served
+    (cd "$work" && "${as_user[@]}" timeout 60 "$program" answer unix:line "${@:3}" --me beta --timeout 1 --log "$log" \
+        >"$work/answered" 2>"$work/heard" </dev/null) &
+    hub=$!
+    wait_for_socket "$work/line" || true
+    exec {held}> >(python3 -c 'import socket, sys
+streams = [socket.socket(socket.AF_UNIX) for _ in range(2)]
+for stream in streams:
+    stream.connect(sys.argv[1])
+open(sys.argv[2], "w").close()
+sys.stdin.read()' "$work/line" "$work/held")
+    wait_until 10 test -e "$work/held" || true
+    (cd "$work" && "${as_user[@]}" timeout 60 "$program" call unix:line a "${alpha[@]}") >"$work/called" 2>&1 </dev/null || true
+    exec {held}>&-
+    wait "$hub" || true
+    said=$(sed 's/for [0-9]* s,/for N s,/' "$work/heard")
+    logged=$(sed -nE 's/^.*\) ERROR: //p' "$work/$log" | sed 's/for [0-9]* s,/for N s,/')
+    served="caller done pending 0 struck 1 failed 0"
+    if [ "$said" = "uucpair: $want"$'\n'"uucpair: $want" ] && [ "$logged" = "$want"$'\n'"$want" ] && [ "$(cat "$work/called")" = "$served" ]; then
+        passed=$((passed + 1))
+    else
+        failed=$((failed + 1))
+        echo "$name: said $(cat "$work/heard"), logged $(cat "$work/$log"), and who called printed $(cat "$work/called")"
+    fi
+}
+
+folders "send x ~/y me"
+silent_ones "callers who say nothing" Log b --peer alpha
+
 # ---- the log of an end over a spool
 
 # spool_of END: the words for its spool, which is made.
@@ -779,6 +811,12 @@ has_logged "a hub, which says whom it refused, and what" beta \
     '* hungup: heard 18 bytes and no text: "GET / HTTP/1.0\x0d\x0a\x0d\x0a"' \
     "alpha send $work/a/send/x ~/no/such/x: refused" \
     "alpha request /etc/passwd ~/y: refused"
+
+folders "send x ~/y me"
+spool_of beta
+mkdir -p "$work/beta/spool/alpha"
+chmod 777 "$work/beta/spool/alpha"
+silent_ones "callers who say nothing, over a spool" beta/Log "${spool[@]:0:6}"
 
 # ---- what is read
 

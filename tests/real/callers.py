@@ -1,6 +1,8 @@
 """Calls an end that waits: one after the other, several at once, strangers, a port scan, nobody; and runs over one folder."""
 import os
+import re
 import socket
+import time
 
 from lines import Cable, door_at
 from suite import Ends, filler, free_port, listens_at, names_in, report, said, scene, text_of, wait_until, write
@@ -83,6 +85,25 @@ def callers_who_say_nothing(one):
     one.row("who calls behind them", caller.all(), (0, report("caller", struck=1), ""))
     one.row("who is called", (ended.status, ended.out), (0, report("called")))
     one.row("the file", text_of(ends.at("beta", "got/x")), "x\n")
+
+
+@scene()
+def three_callers_who_say_nothing(one):
+    """With the timers as they are each holds who calls behind them for eight seconds, and it is said of each."""
+    ends = Ends(one)
+    port = free_port()
+    called = ends.answer(f"tcp:127.0.0.1:{port}")
+    silent = [socket.create_connection(("127.0.0.1", port)) for _ in range(3)]
+    begun = time.monotonic()
+    caller, ended = send(ends, f"tcp:127.0.0.1:{port}", "x"), called.end()
+    took = time.monotonic() - begun
+    for stream in silent:
+        stream.close()
+    one.row("who calls behind them", caller.all(), (0, report("caller", struck=1), ""))
+    # On a busy host a session takes a second or two.
+    one.holds("they hold it for 24 seconds, and not for 30", 23 < took < 28, took)
+    one.row("what is said of them", re.sub(r"for \d+ s", "for N s", ended.err),
+            said(*["the caller said nothing for N s, while others waited"] * 3))
 
 
 @scene()

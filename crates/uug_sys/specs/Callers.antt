@@ -1,7 +1,11 @@
 -- How many callers an end lets in, and whom it hears (this project's profile).
-use Rattle.std.specs.Prelude.{◌-◌, ℕ, Bool, true, false, List, Option, Some, None, codes, if◌then◌else◌}
+use Rattle.std.specs.Fmt.{decimal}
+use Rattle.std.specs.Prelude.{◌-◌, ℕ, Bool, true, false, List, [], ◌++◌, Option, Some, None, codes, if◌then◌else◌}
 use Rattle.std.specs.Str.{bytes_eq}
 use Rattle.uug_session.specs.Greeting.{begins_with, name_in_caller_text}
+use Rattle.uug_session.specs.declared.end.End.TheVariants.{HungUp}
+use Rattle.uug_session.specs.declared.phase.Phase.{Phase}
+use Rattle.uug_session.specs.declared.phase.Phase.TheVariants.{Ended}
 use Rattle.uug_talk.specs.Name.{name_of}
 use Rattle.uug_talk.specs.Texts.{Heard, Passing, Open, Whole, hear}
 
@@ -33,3 +37,19 @@ heard_then heard piece = heard_by (hear heard piece)
 -- a name of no system that this caller has not said
 abbrev pub other_than : (name : List ℕ) → List ℕ
 other_than name = if bytes_eq name (codes "*") then codes "?" else codes "*"
+
+-- ---- of one who says nothing
+
+-- its line has ended, and there was silence, and no byte
+abbrev pub is_silent_end : (has_paused has_said : Bool) → Phase → Bool
+is_silent_end true false (Ended HungUp) = true
+is_silent_end has_paused has_said phase = false
+
+abbrev pub others_words : (do_others_wait : Bool) → List ℕ
+others_words true = codes ", while others waited"
+others_words false = []
+
+-- what is said of it
+abbrev pub silent_words : (seconds : ℕ) → (do_others_wait : Bool) → List ℕ
+silent_words seconds do_others_wait =
+    codes "the caller said nothing for " ++ (decimal seconds ++ (codes " s" ++ others_words do_others_wait))

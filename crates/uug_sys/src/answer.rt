@@ -9,12 +9,15 @@ use crate::call::{stream_line, talk_over};
 use crate::door_line::DoorLine;
 use crate::doorkeeper::Doorkeeper;
 use crate::end_run::EndRun;
+use crate::fault_log::log_fault;
 use crate::held_output::HeldOutput;
+use crate::silent_caller::silent_words;
 use std::alloc::Allocator;
 use std::io;
 use std::os::fd::AsRawFd;
-use std::rt::Files;
+use std::time::{Clock, Instant};
 use uug_failure::{Cause, Outcome, Resource, RunFault, SystemFailure};
+use uug_log::words_of;
 use uug_port::{
     Deadline, Listener, Listening, PolledStream, SilentLine, StreamLine, SystemLine, TimedStream,
     Waiters,
@@ -209,8 +212,8 @@ fn is_in_folder(resource: Resource) -> bool
     }
 }
 
-/// Reports at once why a session has ended, which the next ones don't know. That of an only session is reported at the
-/// end.
+/// Reports at once, in the log too, why a session has ended, which the next ones don't know. That of an only session is
+/// reported at the end.
 fn report_fault<A: Allocator + Copy, R: System>(run: &EndRun<'_, A, R>, fault: RunFault) {
     if run.task.sessions == 1 {
         return;
@@ -218,29 +221,30 @@ fn report_fault<A: Allocator + Copy, R: System>(run: &EndRun<'_, A, R>, fault: R
     match fault {
         RunFault::System(failure) => report_failure(run.alloc, run.rt, run.task, failure),
         RunFault::Tool(ToolFault::Jobs(line)) => {
-            report_bad_line(run.alloc, run.rt, run.task.dir, line)
+            report_bad_line(run.alloc, run.rt, run.task, line)
         }
         _ => (),
     }
 }
 
 /// Reports that this line of the jobs is bad, which the next sessions may not know.
-fn report_bad_line<A: Allocator + Copy, R: Files + Eprint + AllocGlobal>(
+fn report_bad_line<A: Allocator + Copy, R: System>(
     alloc: A,
     rt: &R,
-    dir: &str,
+    task: &CallTask<'_>,
     line: usize,
 ) {
     let fault = ToolFault::Jobs(line);
     let _ = eprint!(rt; "uucpair: {fault}\n");
-    if let Ok(remark) = jobs_remark_at(alloc, rt, dir, line) {
+    if let Ok(remark) = jobs_remark_at(alloc, rt, task.dir, line) {
         let remark = remark.as_str();
         let _ = eprint!(rt; "{remark}");
+        log_fault(alloc, rt, task, words_of(remark));
     }
 }
 
 /// Reports which call of the system has failed, and why.
-fn report_failure<A: Allocator + Copy, R: Eprint>(
+fn report_failure<A: Allocator + Copy, R: System>(
     alloc: A,
     rt: &R,
     task: &CallTask<'_>,
@@ -249,6 +253,7 @@ fn report_failure<A: Allocator + Copy, R: Eprint>(
     if let Ok(line) = reason_line(alloc, "", task.line, task.dir, "", failure) {
         let line = line.as_str();
         let _ = eprint!(rt; "{line}");
+        log_fault(alloc, rt, task, words_of(line));
     }
 }
 
@@ -294,6 +299,7 @@ where
             Ok(None) => break,
             Err(error) => return (broken(run.alloc, &error), doorkeeper),
         };
+        let since = Instant::now(run.rt).ok();
         let line = door_line(run, stream, doorkeeper.waiters(run.alloc));
         let (served, keeper) = serve(run, line, doorkeeper);
         doorkeeper = keeper;
@@ -301,9 +307,45 @@ where
             return (served, doorkeeper);
         }
         tell(run.rt, served.outcome.remark.as_str());
+        if doorkeeper.was_silent() {
+            tell_silent(run, since, doorkeeper.waiters(run.alloc));
+        }
     }
     doorkeeper.close();
     serve(run, Ok(SilentLine), doorkeeper)
+}
+
+/// Reports, in the log too, that a caller who came then has said nothing. Others may wait behind it.
+fn tell_silent<A: Allocator + Copy, R: System>(
+    run: &EndRun<'_, A, R>,
+    since: Option<Instant>,
+    waiters: Option<Waiters<A>>,
+) {
+    let seconds = seconds_since(run.rt, since);
+    if let Ok(words) = silent_words(run.alloc, seconds, do_others_wait(waiters)) {
+        let words = words.as_str();
+        let _ = eprint!(run.rt; "uucpair: {words}\n");
+        log_fault(run.alloc, run.rt, run.task, words);
+    }
+}
+
+/// Returns the whole seconds since then, or 0 without a clock.
+fn seconds_since<R: Clock>(rt: &R, since: Option<Instant>) -> u64 {
+    let Some(since) = since else {
+        return 0;
+    };
+    match since.elapsed(rt) {
+        Ok(elapsed) => elapsed.as_secs(),
+        Err(_) => 0,
+    }
+}
+
+/// Returns whether others wait now.
+fn do_others_wait<A: Allocator>(waiters: Option<Waiters<A>>) -> bool {
+    match waiters {
+        Some(mut waiters) => waiters.are_there(),
+        None => false,
+    }
 }
 
 /// Returns the line of a caller at the door, behind whom others may wait.

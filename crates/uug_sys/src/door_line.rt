@@ -10,10 +10,10 @@ use uug_port::{SystemLine, Waiters};
 use uug_transfer::{EndLine, LineFailed, ReadOutcome, SessionStatus};
 
 /// The seconds that a caller may be silent while others wait.
-const DOOR_SECONDS: u64 = 10;
+const DOOR_SECONDS: u64 = 8;
 
-/// The line of a caller at a socket. Until its first byte has come, it is at its end after `DOOR_SECONDS` of silence if
-/// others wait behind it. If nobody does it waits as long as any line.
+/// The line of a caller at a socket. Until its first byte has come, a silence of `DOOR_SECONDS` is a timeout if others
+/// wait behind it, and after that timeout the line is at its end. If nobody waits it waits as long as any line.
 #[derive(Drop)]
 pub(crate) struct DoorLine<L, A: Allocator> {
     line: L,
@@ -22,6 +22,8 @@ pub(crate) struct DoorLine<L, A: Allocator> {
     /// Those who wait behind the caller.
     waiters: Option<Waiters<A>>,
     is_heard: bool,
+    /// Set once the caller is left, because others wait.
+    is_left: bool,
 }
 
 impl<L: SystemLine, A: Allocator> DoorLine<L, A> {
@@ -34,6 +36,7 @@ impl<L: SystemLine, A: Allocator> DoorLine<L, A> {
             time,
             waiters,
             is_heard: false,
+            is_left: false,
         }
     }
 
@@ -50,12 +53,14 @@ impl<L: SystemLine, A: Allocator> DoorLine<L, A> {
         let first = self.time.min(Duration::from_secs(DOOR_SECONDS));
         let rest = self.time.saturating_sub(first);
         match self.hear_for(buffer, first)? {
-            ReadOutcome::TimedOut if !rest.is_zero() => self.hear_for(buffer, rest),
+            ReadOutcome::TimedOut if !self.is_left && !rest.is_zero() => {
+                self.hear_for(buffer, rest)
+            }
             outcome => Ok(outcome),
         }
     }
 
-    /// Reads once, for as long as this. A silence is the line's end if others wait.
+    /// Reads once, for as long as this. After a silence the caller is left if others wait.
     fn hear_for(&mut self, buffer: &mut [u8], time: Duration) -> Result<ReadOutcome, LineFailed>
         requires room { 0 < length buffer.old }
         ensures size { length buffer.new ≡ length buffer.old }
@@ -73,8 +78,11 @@ impl<L: SystemLine, A: Allocator> DoorLine<L, A> {
                 self.line.set_time(self.time);
                 Ok(outcome)
             }
-            ReadOutcome::TimedOut if self.do_others_wait() => Ok(ReadOutcome::Eof),
-            _ => Ok(outcome),
+            ReadOutcome::TimedOut => {
+                self.is_left = self.do_others_wait();
+                Ok(outcome)
+            }
+            ReadOutcome::Eof => Ok(outcome),
         }
     }
 
@@ -103,7 +111,9 @@ impl<L: SystemLine, A: Allocator> EndLine for DoorLine<L, A> {
     }
 
     fn read(&mut self, buffer: &mut [u8]) -> Result<ReadOutcome, LineFailed> {
-        if self.is_heard {
+        if self.is_left {
+            Ok(ReadOutcome::Eof)
+        } else if self.is_heard {
             self.line.read(buffer)
         } else {
             self.hear(buffer)

@@ -1,6 +1,6 @@
-//! The observer that notices that a caller has been let in.
+//! The observer that notices that a caller has been let in, or has said nothing.
 ghost use Rattle.std.specs.Prelude.{◌≡◌, true, false};
-ghost use Rattle.uug_sys.specs.Callers.{left_behind};
+ghost use Rattle.uug_sys.specs.Callers.{is_silent_end, left_behind};
 
 use std::alloc::Allocator;
 use std::io;
@@ -8,11 +8,12 @@ use std::net::Net;
 use std::rt::Files;
 use std::time::{Clock, Duration};
 use uug_port::{Deadline, Listener, Listening, TimedStream, Waiters};
-use uug_session::Phase;
+use uug_session::{End, Phase};
 use uug_transfer::{ReadOutcome, SessionObserver, SessionStatus};
 
 /// Notices that a caller has been let in, once its session is past the greeting, and closes the socket after the last
-/// of them. It passes all that it sees to another observer.
+/// of them. It passes all that it sees to another observer, except how the line of a silent caller ended: this end may
+/// have hung up. Of such a caller the answering end tells.
 #[derive(Drop)]
 pub(crate) struct Doorkeeper<'a, 'p, W, T, R, A: Allocator> {
     observer: W,
@@ -21,6 +22,12 @@ pub(crate) struct Doorkeeper<'a, 'p, W, T, R, A: Allocator> {
     left: u32,
     /// Set once the caller at the door has been let in.
     has_let_in: bool,
+    /// Set once it has said something.
+    has_said: bool,
+    /// Set once a read has found it silent.
+    has_paused: bool,
+    /// Set once its line has ended after nothing but silence.
+    was_silent: bool,
 }
 
 impl<'a, 'p, W, T: Drop, R: Files, A: Allocator> Doorkeeper<'a, 'p, W, T, R, A> {
@@ -34,6 +41,9 @@ impl<'a, 'p, W, T: Drop, R: Files, A: Allocator> Doorkeeper<'a, 'p, W, T, R, A> 
             listening,
             left: callers,
             has_let_in: false,
+            has_said: false,
+            has_paused: false,
+            was_silent: false,
         }
     }
 
@@ -49,6 +59,26 @@ impl<'a, 'p, W, T: Drop, R: Files, A: Allocator> Doorkeeper<'a, 'p, W, T, R, A> 
         ensures { result ≡ self.now.has_let_in }
     {
         self.has_let_in
+    }
+
+    /// Returns whether the line of the caller at the door has ended after nothing but silence.
+    pub(crate) fn was_silent(&self) -> bool
+        ensures { result ≡ self.now.was_silent }
+    {
+        self.was_silent
+    }
+
+    /// Starts over for a caller who comes to the door.
+    fn open_door(&mut self)
+        ensures { self.new ≡ record self.old {
+          has_said = false;
+          has_paused = false;
+          was_silent = false;
+        } }
+    {
+        self.has_said = false;
+        self.has_paused = false;
+        self.was_silent = false;
     }
 
     /// Returns whether the socket is still listening.
@@ -98,6 +128,7 @@ impl<W, T: Listener + Drop, R: Files + Net + Clock, A: Allocator + Copy> Doorkee
             return Ok(None);
         };
         stream.set_time(time)?;
+        self.open_door();
         Ok(Some(stream))
     }
 
@@ -119,6 +150,11 @@ where
     }
 
     fn read(&mut self, outcome: ReadOutcome, piece: &[u8]) {
+        match outcome {
+            ReadOutcome::Bytes(_) => self.has_said = true,
+            ReadOutcome::TimedOut => self.has_paused = true,
+            ReadOutcome::Eof => {}
+        }
         self.observer.read(outcome, piece);
     }
 
@@ -126,6 +162,35 @@ where
         if let Phase::Starting | Phase::Talking | Phase::Closing = status.phase {
             self.let_in();
         }
-        self.observer.note(status);
+        if is_silent_end(self.has_paused, self.has_said, status.phase) {
+            self.was_silent = true;
+            self.observer.note(in_greeting(status));
+        } else {
+            self.observer.note(status);
+        }
+    }
+}
+
+/// Returns whether the line of a caller has ended in this phase, after silence and no byte.
+fn is_silent_end(has_paused: bool, has_said: bool, phase: Phase) -> bool
+    ensures { result ≡ is_silent_end has_paused has_said phase }
+{
+    match (has_paused, has_said, phase) {
+        (true, false, Phase::Ended(End::HungUp)) => true,
+        _ => false,
+    }
+}
+
+/// Returns this status as one of a session that is in its greeting. Observers don't tell how such a session ended.
+fn in_greeting(status: SessionStatus) -> SessionStatus
+    ensures { result ≡ record status { phase = Phase.Hail } }
+{
+    SessionStatus {
+        phase: Phase::Hail,
+        pending: status.pending,
+        struck: status.struck,
+        failed: status.failed,
+        unacked: status.unacked,
+        is_over: status.is_over,
     }
 }

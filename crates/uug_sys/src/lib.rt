@@ -22,6 +22,7 @@ mod numbers;
 mod parts;
 mod resumed;
 mod session_mark;
+mod silent_caller;
 mod spool_call;
 mod spool_lock;
 mod system_observer;
