@@ -183,16 +183,23 @@ flock "$held"
 mistake "a device that another program has opened" 3 \
     "${fault}./line is in use"$'\n'"it has no lock file: who has opened it is told by fuser ./line" "${call[@]}"
 exec {held}>&-
+
+# unlocked NAME LOCKS WHY: a call over the device in whose folder of locks no file can be made says so, on standard error and in the log.
+unlocked() {
+    local ended=0 want="no lock file can be made (--locks): $2: $3"
+    rm -f "$work/Log"
+    (cd "$work" && "${as_user[@]}" timeout 60 "$program" call ./line a --me alpha --peer beta --timeout 1 --locks "$2" --log Log) \
+        >"$work/printed" 2>"$work/said" </dev/null || ended=$?
+    if [ "$ended" -eq 1 ] && [ "$(head -n 1 "$work/said")" = "uucpair: $want" ] && grep -qF "ERROR: $want" "$work/Log"; then
+        passed=$((passed + 1))
+    else
+        failed=$((failed + 1))
+        echo "$1: ended with $ended, said $(cat "$work/said"), logged $(cat "$work/Log")"
+    fi
+}
+
 no_lock="no lock file can be made (--locks): none: no such file or directory"
-ended=0
-(cd "$work" && "${as_user[@]}" timeout 60 "$program" call ./line a --me alpha --peer beta --timeout 1 --locks none) \
-    >"$work/printed" 2>"$work/said" </dev/null || ended=$?
-if [ "$ended" -eq 1 ] && [ "$(head -n 1 "$work/said")" = "uucpair: $no_lock" ]; then
-    passed=$((passed + 1))
-else
-    failed=$((failed + 1))
-    echo "no folder of locks: ended with $ended, said $(cat "$work/said")"
-fi
+unlocked "no folder of locks" none "no such file or directory"
 mkdir "$work/spool"
 chmod 777 "$work/spool"
 mistake "no folder of locks for a spool" 3 "${fault}$no_lock" \
@@ -694,6 +701,18 @@ speaker '\x10Shere=beta\0' '\x10RBADSEQ\0'
 called_with unix:line
 wait "$answerer" || true
 errors_are "the log of another number" badsequence "the number of this end is 17"
+
+# A file that is not given is no fault of the session's, and the log has it all the same.
+folders "send x ~/y me"
+: >"$work/a/send/secret"
+[ ${#as_user[@]} -eq 0 ] || chown 65534:65534 "$work/a/send/secret"
+chmod 0 "$work/a/send/secret"
+(cd "$work" && "${as_user[@]}" timeout 60 "$program" answer unix:line b --me beta --peer alpha >/dev/null 2>&1 </dev/null) &
+answerer=$!
+wait_for_socket "$work/line" || true
+called_with unix:line
+wait "$answerer" || true
+errors_are "the log of a file that is not given" "a/send/secret is not given: it can't be read"
 
 # silent_ones NAME LOG WORD..: an end that is called with these words says the same of each of two callers who say nothing, on standard
 # error and in its log. Who calls behind them is served.

@@ -39,6 +39,8 @@ pub struct Given<A: Allocator> {
     pub offered: usize,
     /// The names of the other files that can't be read now, but may be later.
     pub delayed: Vec<Name, A>,
+    /// The lines on other files that are not given.
+    pub passed: Vec<String<A>, A>,
 }
 
 /// Returns the files that an end gives. The first are those of its first jobs, as long as there is room. Then come up to
@@ -62,12 +64,13 @@ pub fn read_given<A: Allocator + Copy, R: Files + Eprint + Alloc + Clone + Drop>
     ensures no_other { IfErr result IsFolderFault }
 {
     let given = list_again(alloc, rt, lock.dir(), jobs, allowance)?;
+    say_passed(rt, given.passed.as_slice());
     say_waiting(rt, jobs.len() - given.offered);
     Ok(given)
 }
 
-/// Does the same, without a report of the jobs that wait.
-fn list_again<A: Allocator + Copy, R: Files + Eprint + Alloc + Clone + Drop>(
+/// Does the same, without a report.
+fn list_again<A: Allocator + Copy, R: Files + Alloc + Clone + Drop>(
     alloc: A,
     rt: &R,
     dir: EndDir<'_>,
@@ -91,7 +94,7 @@ fn list_again<A: Allocator + Copy, R: Files + Eprint + Alloc + Clone + Drop>(
 }
 
 /// Does the same, in one listing.
-fn list_given<A: Allocator + Copy, R: Files + Eprint + Alloc + Clone + Drop>(
+fn list_given<A: Allocator + Copy, R: Files + Alloc + Clone + Drop>(
     alloc: A,
     rt: &R,
     dir: EndDir<'_>,
@@ -106,12 +109,21 @@ fn list_given<A: Allocator + Copy, R: Files + Eprint + Alloc + Clone + Drop>(
 {
     let mut files = Vec::new(alloc);
     let offered = add_sources(&mut files, alloc, rt, dir, jobs, allowance)?;
-    let delayed = add_others(&mut files, alloc, rt, dir, allowance)?;
+    let (delayed, passed) = add_others(&mut files, alloc, rt, dir, allowance)?;
     Ok(Given {
         files,
         offered,
         delayed,
+        passed,
     })
+}
+
+/// Reports which files are not given.
+fn say_passed<A: Allocator>(rt: &impl Eprint, lines: &[String<A>]) {
+    for line in lines {
+        let line = line.as_str();
+        let _ = eprint!(rt; "{line}");
+    }
 }
 
 /// Reports how many jobs wait for another session.
@@ -261,14 +273,14 @@ fn is_there<A: Allocator>(files: &[Stored<A>], name: &Name) -> bool {
 }
 
 /// Adds up to `OTHERS_MAX` other files in `send`, as long as there is room. Returns the names of those that can't be
-/// given now, but may be later.
-fn add_others<A: Allocator + Copy, R: Files + Eprint + Alloc + Clone + Drop>(
+/// given now, but may be later, and the lines on those that are not given.
+fn add_others<A: Allocator + Copy, R: Files + Alloc + Clone + Drop>(
     files: &mut Vec<Stored<A>, A>,
     alloc: A,
     rt: &R,
     dir: EndDir<'_>,
     allowance: Allowance,
-) -> Result<Vec<Name, A>, RunFault>
+) -> Result<(Vec<Name, A>, Vec<String<A>, A>), RunFault>
     ensures within { OnOk result
         (length files.new.items ≤ length files.old.items + OTHERS_MAX) }
     ensures no_other { IfErr result IsFolderFault }
@@ -279,25 +291,26 @@ fn add_others<A: Allocator + Copy, R: Files + Eprint + Alloc + Clone + Drop>(
         before: files.len(),
         left: allowance,
     };
-    let mut passed = PassedOver::none(alloc, rt, path.as_str());
+    let mut passed = PassedOver::none(alloc, path.as_str());
     match fs::read_dir(rt, path.as_str()) {
         Ok(entries) => add_entries(files, alloc, rt, dir, entries, &mut others, &mut passed)?,
         Err(error) if error.kind() == ErrorKind::NotFound => (),
         Err(error) => return Err(RunFault::of(&error, dir, Resource::Send)),
     }
-    passed.say_rest();
-    Ok(passed.delayed)
+    passed.count_rest();
+    let PassedOver { lines, delayed, .. } = passed;
+    Ok((delayed, lines))
 }
 
 /// Adds the files of these entries of `send`, as far as they may be given beside those of jobs.
-fn add_entries<A: Allocator + Copy, R: Files + Eprint + Alloc + Clone + Drop>(
+fn add_entries<A: Allocator + Copy, R: Files + Alloc + Clone + Drop>(
     files: &mut Vec<Stored<A>, A>,
     alloc: A,
     rt: &R,
     dir: EndDir<'_>,
     entries: ReadDir<R, R::A>,
     others: &mut Others,
-    passed: &mut PassedOver<'_, R, A>,
+    passed: &mut PassedOver<'_, A>,
 ) -> Result<(), RunFault>
     requires { length files.old.items ≤ others.old.before + OTHERS_MAX }
     ensures within { OnOk result (length files.new.items ≤ others.new.before + OTHERS_MAX) }
@@ -315,14 +328,14 @@ fn add_entries<A: Allocator + Copy, R: Files + Eprint + Alloc + Clone + Drop>(
 }
 
 /// Adds the file of an entry, or notes why not, unless it is hidden, a copy or no file.
-fn add_entry<A: Allocator + Copy, R: Files + Eprint + Alloc + Clone + Drop>(
+fn add_entry<A: Allocator + Copy, R: Files + Alloc + Clone + Drop>(
     files: &mut Vec<Stored<A>, A>,
     alloc: A,
     rt: &R,
     dir: EndDir<'_>,
     entry: &DirEntry<R, R::A>,
     others: &mut Others,
-    passed: &mut PassedOver<'_, R, A>,
+    passed: &mut PassedOver<'_, A>,
 ) -> Result<(), RunFault>
     requires { length files.old.items ≤ others.old.before + OTHERS_MAX }
     ensures within { OnOk result (length files.new.items ≤ others.new.before + OTHERS_MAX) }

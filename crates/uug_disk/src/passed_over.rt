@@ -1,4 +1,4 @@
-//! Reports on standard error about files that are not given.
+//! The words about files that are not given.
 ghost use Rattle.std.specs.Prelude.{◌≡◌, ◌<◌, ◌++◌, [], ◌∷◌, OnOk};
 ghost use Rattle.uug_disk.specs.Delayed.{with_delayed};
 ghost use Rattle.uug_failure.specs.Passing.{may_pass};
@@ -59,32 +59,35 @@ impl Lack {
     }
 }
 
-/// Reports on standard error which files in `send` are not given, and notes those that may be given later. For each
-/// reason one is named, and the others are counted. A report that can't be written is left out.
+/// Keeps lines on which files in `send` are not given, and notes those that may be given later. For each reason one is
+/// named, and the others are counted. A line for which there is no memory is left out.
 #[derive(Drop)]
-pub(crate) struct PassedOver<'a, R, A: Allocator> {
-    rt: &'a R,
+pub(crate) struct PassedOver<'a, A: Allocator> {
+    alloc: A,
     /// The path of the folder `send`.
     send: &'a str,
+    /// The lines.
+    pub(crate) lines: Vec<String<A>, A>,
     /// The numbers of the files, by the reasons.
     counts: [u64; LACKS],
     /// The names of the files that may be given later.
     pub(crate) delayed: Vec<Name, A>,
 }
 
-impl<'a, R: Eprint, A: Allocator> PassedOver<'a, R, A> {
+impl<'a, A: Allocator + Copy> PassedOver<'a, A> {
     /// Creates an empty report for the folder at this path.
-    pub(crate) fn none(alloc: A, rt: &'a R, send: &'a str) -> Self {
+    pub(crate) fn none(alloc: A, send: &'a str) -> Self {
         PassedOver {
-            rt,
+            alloc,
             send,
+            lines: Vec::new(alloc),
             counts: [0; LACKS],
             delayed: Vec::new(alloc),
         }
     }
 
-    /// Counts a file at this path that is not given, and reports the first one for each reason. Parts of the path that
-    /// can't be seen are escaped.
+    /// Counts a file at this path that is not given, and keeps a line about the first one for each reason. Parts of the
+    /// path that can't be seen are escaped.
     pub(crate) fn note(&mut self, lack: Lack, path: &str)
         ensures { self.new.delayed ≡ self.old.delayed }
     {
@@ -93,7 +96,7 @@ impl<'a, R: Eprint, A: Allocator> PassedOver<'a, R, A> {
             let path = path.escape_debug();
             let rest = lack.rest();
             let words = lack.words();
-            let _ = eprint!(self.rt; "uucpair: {path}{rest} is not given: {words}\n");
+            self.keep(format!(in self.alloc; "uucpair: {path}{rest} is not given: {words}\n"));
         }
         self.counts[place] = self.counts[place].saturating_add(1);
     }
@@ -130,15 +133,28 @@ impl<'a, R: Eprint, A: Allocator> PassedOver<'a, R, A> {
         self.note(Lack::Text, send);
     }
 
-    /// Reports how many more files in the folder are not given.
-    pub(crate) fn say_rest(&self) {
+    /// Keeps a line, if there is memory for it.
+    fn keep(&mut self, line: Result<String<A>, AllocError>)
+        ensures { self.new.delayed ≡ self.old.delayed }
+    {
+        if let Ok(line) = line {
+            let _ = self.lines.push(line);
+        }
+    }
+
+    /// Keeps a line on how many more files in the folder are not given.
+    pub(crate) fn count_rest(&mut self)
+        ensures { self.new.delayed ≡ self.old.delayed }
+    {
         let mut more: u64 = 0;
         for count in &self.counts {
             more = more.saturating_add(count.saturating_sub(1));
         }
         if more > 0 {
             let send = self.send.escape_debug();
-            let _ = eprint!(self.rt; "uucpair: {more} more files in {send} are not given\n");
+            self.keep(format!(in self.alloc;
+                "uucpair: {more} more files in {send} are not given\n"
+            ));
         }
     }
 }

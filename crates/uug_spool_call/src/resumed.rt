@@ -3,6 +3,7 @@ ghost use Rattle.std.specs.Prelude.{◌≡◌, IfOk, is_some};
 
 use crate::spool_call::SpoolCall;
 use crate::spool_end::SpoolFiles;
+use crate::telling::Teller;
 use std::alloc::{AllocError, Allocator};
 use std::fs::File;
 use std::io::ErrorKind;
@@ -10,8 +11,10 @@ use std::rt::Files;
 use std::time::Clock;
 use uug_disk::{drop_partials, hold_partial, read_partials};
 use uug_failure::{Cause, Resource, SystemFailure};
+use uug_log::words_of;
 use uug_reason::reason_line;
 use uug_session::{Node, PartialFile, Partials};
+use uug_spool::LogEvent;
 use uug_spool_disk::SpoolPaths;
 use uug_talk::FileDigest;
 
@@ -35,34 +38,36 @@ where
     Ok(Some(held))
 }
 
-/// Does with what an end over a spool holds as `hold_left` says, if the end resumes files that were cut off.
+/// Does with what an end over a spool holds as `hold_left` says, if the end resumes files that were cut off. The log
+/// has, too, why that can't be done.
 pub(crate) fn hold_left_of<A, R>(
-    alloc: A,
-    rt: &R,
-    paths: &SpoolPaths<A>,
+    teller: &Teller<'_, '_, A, R>,
     end: &Node<SpoolFiles<'_, '_, R, A>, A>,
 )
 where
     A: Allocator + Copy,
-    R: Files<File = File> + Eprint,
+    R: Files<File = File> + Clock + Eprint,
 {
     let Some(partials) = end.spool().partials() else {
         return;
     };
-    if let Ok(path) = paths.partial(alloc) {
-        hold_left(alloc, rt, path.as_str(), partials.over(), end.left());
+    let (alloc, rt) = (teller.alloc, teller.rt);
+    if let Ok(path) = teller.paths.partial(alloc) {
+        if let Some(line) = hold_left(alloc, rt, path.as_str(), partials.over(), end.left()) {
+            teller.log(b"", &LogEvent::Fault(words_of(line.as_str()).as_bytes()));
+        }
     }
 }
 
 /// Removes from the folder at `path` what is held of the files with these digests, which are over, and holds what is
-/// left of another one. If that can't be done, says so on standard error.
+/// left of another one. If that can't be done, says so on standard error, and returns the line that it says.
 pub fn hold_left<A, R>(
     alloc: A,
     rt: &R,
     path: &str,
     over: &[FileDigest],
     left: Result<Option<PartialFile<A>>, AllocError>,
-)
+) -> Option<String<A>>
 where
     A: Allocator + Copy,
     R: Files<File = File> + Eprint,
@@ -73,16 +78,22 @@ where
         Ok(None) => Ok(()),
         Err(AllocError) => Err(Cause::Refused(ErrorKind::OutOfMemory, None)),
     };
-    if let Err(cause) = held {
-        say_not_held(alloc, rt, path, cause);
+    match held {
+        Ok(()) => None,
+        Err(cause) => say_not_held(alloc, rt, path, cause),
     }
 }
 
-/// Says on standard error why nothing can be held in the folder at this path.
-fn say_not_held<A: Allocator, R: Eprint>(alloc: A, rt: &R, path: &str, cause: Cause) {
+/// Says on standard error why nothing can be held in the folder at this path, and returns the line.
+fn say_not_held<A: Allocator, R: Eprint>(
+    alloc: A,
+    rt: &R,
+    path: &str,
+    cause: Cause,
+) -> Option<String<A>> {
     let failure = SystemFailure::on(Resource::Dir, cause);
-    if let Ok(line) = reason_line(alloc, "", "", path, "", failure) {
-        let line = line.as_str();
-        let _ = eprint!(rt; "{line}");
-    }
+    let line = reason_line(alloc, "", "", path, "", failure).ok()?;
+    let said = line.as_str();
+    let _ = eprint!(rt; "{said}");
+    Some(line)
 }

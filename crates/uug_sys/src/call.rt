@@ -304,7 +304,7 @@ where
         }
     };
     if lock.is_none() {
-        tell_unlocked(run.alloc, run.rt, run.task.locks);
+        tell_unlocked(run.alloc, run.rt, run.task);
     }
     let line = DeviceLine::open(run.alloc, run.rt, path, run.station.time());
     let outcome = talk_when_called(run, held, line, observer, output);
@@ -567,7 +567,7 @@ where
     let remark = remark_on(run, numbers, large.as_slice(), node);
     log_failed(alloc, rt, task, large.as_slice(), node.spool(), failed);
     if let Some(partials) = node.spool().partials() {
-        hold_left_in(alloc, rt, task.dir, partials.over(), node.left());
+        hold_left_in(alloc, rt, task, partials.over(), node.left());
     }
     let answer = answer_with(has_failed(task, failed), answer);
     drop(end);

@@ -51,6 +51,17 @@ where
     }
 }
 
+/// Appends these lines, which are said on standard error.
+pub(crate) fn log_lines<A, R>(alloc: A, rt: &R, task: &CallTask<'_>, lines: &[String<A>])
+where
+    A: Allocator + Copy,
+    R: Files<File = File> + Env + Clock + AllocGlobal,
+{
+    for line in lines {
+        log_fault(alloc, rt, task, words_of(line.as_str()));
+    }
+}
+
 /// Appends how many jobs of an end wait for its next session, if any does.
 pub(crate) fn log_waiting<A, R>(alloc: A, rt: &R, task: &CallTask<'_>, count: usize)
 where

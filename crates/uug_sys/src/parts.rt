@@ -5,7 +5,7 @@ ghost use Rattle.uug_failure.specs.Faults.{IsFolderFault, IsReadingFault};
 ghost use Rattle.uug_folder.specs.JobsText.{IsFrontOf};
 ghost use Rattle.uug_task.specs.Tasks.{IsTask};
 
-use crate::fault_log::log_waiting;
+use crate::fault_log::{log_lines, log_waiting};
 use crate::numbers::Numbers;
 use crate::resumed::{partial_path, read_held};
 use std::alloc::{AllocError, Allocator};
@@ -86,6 +86,7 @@ where
             return Err(fault);
         }
     };
+    log_lines(alloc, rt, task, given.passed.as_slice());
     let waiting = jobs.queue.pending().len().saturating_sub(given.offered);
     log_waiting(alloc, rt, task, waiting);
     let partials = match read_held(alloc, rt, task) {
@@ -181,6 +182,7 @@ fn make_parts<'a, A: Allocator + Copy, R: Files<File = File> + Alloc + Clone + D
         files,
         offered,
         delayed,
+        ..
     } = given;
     let queue = first_jobs(alloc, all.pending(), offered)?;
     let number = SystemText::new(alloc, rt, task.end_dir(), EndText::Number)?;

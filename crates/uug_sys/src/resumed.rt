@@ -1,15 +1,16 @@
 //! Files that were cut off: an end over a folder holds what has come of them, in the folder `partial` below its own.
 ghost use Rattle.std.specs.Prelude.{◌≡◌, IfOk, is_some};
 
+use crate::fault_log::log_fault;
 use std::alloc::{AllocError, Allocator};
-use std::fs::File;
 use std::rt::Files;
 use std::time::Clock;
 use uug_disk::read_partials;
+use uug_log::words_of;
 use uug_session::{PartialFile, Partials};
 use uug_spool_call::hold_left;
 use uug_talk::FileDigest;
-use uug_task::CallTask;
+use uug_task::{CallTask, System};
 
 /// Reads what an end holds of files that were cut off, if it resumes such files.
 pub(crate) fn read_held<A, R>(
@@ -30,20 +31,19 @@ where
     Ok(Some(held))
 }
 
-/// Removes what is held of the files that are over, and holds what is left of another one.
-pub(crate) fn hold_left_in<A, R>(
+/// Removes what is held of the files that are over, and holds what is left of another one. The log has, too, why that
+/// can't be done.
+pub(crate) fn hold_left_in<A: Allocator + Copy, R: System>(
     alloc: A,
     rt: &R,
-    dir: &str,
+    task: &CallTask<'_>,
     over: &[FileDigest],
     left: Result<Option<PartialFile<A>>, AllocError>,
-)
-where
-    A: Allocator + Copy,
-    R: Files<File = File> + Eprint,
-{
-    if let Ok(path) = partial_path(alloc, dir) {
-        hold_left(alloc, rt, path.as_str(), over, left);
+) {
+    if let Ok(path) = partial_path(alloc, task.dir) {
+        if let Some(line) = hold_left(alloc, rt, path.as_str(), over, left) {
+            log_fault(alloc, rt, task, words_of(line.as_str()));
+        }
     }
 }
 

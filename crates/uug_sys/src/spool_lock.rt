@@ -5,6 +5,7 @@ ghost use Rattle.uug_failure.specs.Faults.{IsFolderFault};
 ghost use Rattle.uug_sys.specs.SpoolLocks.{IsRefusedLock, Says, file_words, is_held, is_in_use, is_locked, lock_words, locked_by, locked_remark};
 ghost use Rattle.uug_talk.specs.Texts.{written_text};
 
+use crate::fault_log::log_fault;
 use std::alloc::{AllocError, Allocator};
 use std::fs::File;
 use std::io::{ErrorKind, Write};
@@ -13,9 +14,11 @@ use std::{fs, io};
 use uug_disk::{DeviceLock, lock_device};
 use uug_failure::{Cause, EndDir, Resource, RunFault};
 use uug_locks::lock_path;
+use uug_log::words_of;
 use uug_reason::{add_escaped, locks_line};
 use uug_stream::ToolFault;
 use uug_talk::{Name, TEXT_START};
+use uug_task::{CallTask, System};
 use uug_transfer::{EndLine, LineFailed};
 
 /// The number of the folder of the locks among the folders of one end, the first of which is its own.
@@ -84,16 +87,14 @@ fn why_refused<A: Allocator + Copy, R: Files<File = File>>(
     }
 }
 
-/// Says why no lock file can be made in this folder. Only other runs of uucpair are kept off a device then.
-pub(crate) fn tell_unlocked<A: Allocator + Copy, R: Files<File = File> + Eprint>(
-    alloc: A,
-    rt: &R,
-    locks: &str,
-) {
-    if let RunFault::System(failure) = why_refused(alloc, rt, locks) {
-        if let Ok(line) = locks_line(alloc, locks, failure) {
+/// Says, in the log too, why no lock file can be made in the folder of the task. Only other runs of uucpair are kept off
+/// a device then.
+pub(crate) fn tell_unlocked<A: Allocator + Copy, R: System>(alloc: A, rt: &R, task: &CallTask<'_>) {
+    if let RunFault::System(failure) = why_refused(alloc, rt, task.locks) {
+        if let Ok(line) = locks_line(alloc, task.locks, failure) {
             let line = line.as_str();
             let _ = eprint!(rt; "{line}");
+            log_fault(alloc, rt, task, words_of(line));
         }
     }
 }
