@@ -18,7 +18,7 @@ use crate::public_files::{add_public, look_at_public};
 use crate::resumed::{hold_left_of, read_held};
 use crate::spool_call::{SpoolCall, paths_of};
 use crate::spool_end::{SpoolEnd, SpoolFiles};
-use crate::telling::Teller;
+use crate::telling::{Teller, tell_fault};
 use crate::work::{names_of, read_work};
 use std::alloc::{AllocError, Allocator};
 use std::fs::File;
@@ -28,7 +28,7 @@ use std::time::Clock;
 use uug_disk::NoFile;
 use uug_failure::{Cause, Ended, Resource, RunFault};
 use uug_folder::{add_failed, add_state};
-use uug_log::LocalClock;
+use uug_log::{LocalClock, words_of};
 use uug_mailbox::PublicFolder;
 use uug_session::{Node, Place, Side, Spool};
 use uug_spool::Room;
@@ -92,7 +92,7 @@ where
     let spool = end.buffered.node().spool();
     teller.end(spool, &over, begun);
     mail_failed(&teller, &place.me, spool, &over);
-    hold_left_of(alloc, rt, paths, end.buffered.node());
+    hold_left_of(&teller, end.buffered.node());
     drop(over);
     drop(teller);
     drop(clock);
@@ -151,7 +151,7 @@ fn begin<'a, 'p, A, R>(
 ) -> Result<SpoolEnd<'a, 'p, R, A>, RunFault>
 where
     A: Allocator + Copy,
-    R: Files<File = File> + Clock + Eprint + Alloc + Clone + Drop,
+    R: Files<File = File> + Clock + Env + Eprint + AllocGlobal + Clone + Drop,
     ensures calm { IfOk result (λ end. end.store.disk.faults.count ≡ 0) }
     ensures ran { IfOk result (λ end. HasRunSoundly call.now.side
         (⟦<SpoolFiles<'a, 'p, R, A> as Spool>⟧.holdings (spool_in end.buffered))
@@ -162,7 +162,7 @@ where
         ≡ call.now.is_resuming) }
     ensures no_other { IfErr result IsFolderFault }
 {
-    refuse_links(alloc, rt, paths)?;
+    refuse_links(alloc, rt, call, paths)?;
     let mut ungiven = Vec::new(alloc);
     let listing = look_at_public(&mut ungiven, alloc, rt, paths)?;
     let PublicListing {
@@ -195,12 +195,17 @@ where
     Ok(SpoolEnd::begin(alloc, rt, call, place, paths, work, public)?)
 }
 
-/// A link in the place of a folder of the spool's own could lead anywhere: there is no session then, and it is said which one that is.
-fn refuse_links<A: Allocator + Copy, R: Files + Eprint>(
+/// Refuses a session if a link is in the place of a folder of the spool's own, as it could lead anywhere. Says, in the log
+/// too, which one that is.
+fn refuse_links<A, R>(
     alloc: A,
     rt: &R,
+    call: &SpoolCall<'_>,
     paths: &SpoolPaths<A>,
 ) -> Result<(), RunFault>
+where
+    A: Allocator + Copy,
+    R: Files<File = File> + Clock + Env + Eprint + AllocGlobal,
     ensures { IfErr result IsFolderFault }
 {
     let Some(room) = linked_room(alloc, rt, paths)? else {
@@ -214,6 +219,7 @@ fn refuse_links<A: Allocator + Copy, R: Files + Eprint>(
     let line = format!(in alloc; "uucpair: {folder}/{system} is a link: take it away\n")?;
     let line = line.as_str();
     let _ = eprint!(rt; "{line}");
+    tell_fault(alloc, rt, call, *paths.system(), words_of(line));
     let cause = Cause::Refused(ErrorKind::NotADirectory, None);
     Err(RunFault::System(paths.end_dir().failure(Resource::Dir, cause)))
 }
