@@ -503,23 +503,24 @@ row "a call with the number that is kept" 0 "" "caller done pending 0 struck 0 f
 wait "$answerer" || true
 holds "the caller's number after it" "$a/number" "2$line_feed"
 rm "$a/number"
+mend_numbers=" (write the same number to both files number, or remove both, while neither end runs)"
 answer_in_the_background --wait 4
-row "a call of a stranger who knows the names" 1 "uucpair: this end keeps no number$line_feed" "caller badsequence pending 0 struck 0 failed 0$line_feed" \
+row "a call of a stranger who knows the names" 1 "uucpair: this end keeps no number$mend_numbers$line_feed" "caller badsequence pending 0 struck 0 failed 0$line_feed" \
     call "unix:$socket" "$a" --me a --peer b </dev/null
 wait "$answerer" || true
 holds "what the end says that a stranger called" "$work/answered" \
-    "uucpair: the number of this end is 2${line_feed}uucpair: $uncalled${line_feed}called gaveup pending 0 struck 0 failed 0$line_feed"
+    "uucpair: the number of this end is 2$mend_numbers${line_feed}uucpair: $uncalled${line_feed}called gaveup pending 0 struck 0 failed 0$line_feed"
 holds "the called end's number after a stranger" "$b/number" "2$line_feed"
 echo 17 >"$a/number"
 answer_in_the_background --wait 4
-row "a call with another number" 1 "uucpair: the number of this end is 17$line_feed" "caller badsequence pending 0 struck 0 failed 0$line_feed" \
+row "a call with another number" 1 "uucpair: the number of this end is 17$mend_numbers$line_feed" "caller badsequence pending 0 struck 0 failed 0$line_feed" \
     call "unix:$socket" "$a" --me a --peer b </dev/null
 wait "$answerer" || true
 holds "what the called end says of both numbers" "$work/answered" \
-    "uucpair: the number of this end is 2, that of the other end 17${line_feed}uucpair: $uncalled${line_feed}called gaveup pending 0 struck 0 failed 0$line_feed"
+    "uucpair: the number of this end is 2, that of the other end 17$mend_numbers${line_feed}uucpair: $uncalled${line_feed}called gaveup pending 0 struck 0 failed 0$line_feed"
 folders "send x y u"
 printf 'seven\n' >"$a/number"
-row "a call with a bad number file" 2 "uucpair: bad number file${line_feed}uucpair: $a/number: not a number$line_feed" "" \
+row "a call with a bad number file" 2 "uucpair: bad number file${line_feed}uucpair: $a/number: not a number up to 4294967295$line_feed" "" \
     call "unix:$socket" "$a" --me a --peer b --number </dev/null
 holds "the bad number" "$a/number" "seven$line_feed"
 holds "the job that is left behind a bad number" "$a/jobs" "send x y u$line_feed"

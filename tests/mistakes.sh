@@ -160,6 +160,8 @@ mistake "a host and a port without tcp:" 3 \
 call_of TCP:h:1 a
 mistake "a line whose front is in capitals" 3 \
     "${fault}TCP:h:1: no such file or directory $lines: give tcp:h:1)" "${call[@]}"
+call_of ssh:beta a
+mistake "a line of another program" 3 "${fault}ssh:beta: no such file or directory $forms" "${call[@]}"
 call_of beta.example a
 mistake "a host without a port" 3 "${fault}beta.example: no such file or directory $forms" "${call[@]}"
 call_of b a
@@ -200,6 +202,7 @@ unlocked() {
 
 no_lock="no lock file can be made (--locks): none: no such file or directory"
 unlocked "no folder of locks" none "no such file or directory"
+unlocked "a file for the folder of locks" device "not a directory"
 mkdir "$work/spool"
 chmod 777 "$work/spool"
 mistake "no folder of locks for a spool" 3 "${fault}$no_lock" \
@@ -408,11 +411,13 @@ call_of unix:line a
 (cd "$work" && "${as_user[@]}" timeout 60 "$program" "${call[@]}") >"$work/called" 2>&1 </dev/null || true
 ended=0
 wait "$answerer" || ended=$?
-if [ "$ended" -eq 1 ] && [ "$(cat "$work/said")" = "uucpair: b/got/y: no such file or directory" ]; then
+closed="uucpair: the other end ended the session before all was done (it may not have stored a file: see what it says)"
+if [ "$ended" -eq 1 ] && [ "$(cat "$work/said")" = "uucpair: b/got/y: no such file or directory" ] \
+    && [ "$(head -n 1 "$work/called")" = "$closed" ]; then
     passed=$((passed + 1))
 else
     failed=$((failed + 1))
-    echo "got is gone while it waits: ended with $ended, said $(cat "$work/said")"
+    echo "got is gone while it waits: ended with $ended, said $(cat "$work/said"), who called said $(cat "$work/called")"
 fi
 
 # ---- what was heard
@@ -634,8 +639,9 @@ refusing "a name in capitals" 'heard "SALPHA", expected "alpha"' \
     unhappy "the same at the end that calls" refused \
     'the other end refused: "RYou are unknown to me" (it does not know the name of this end)' --me ALPHA --peer beta
 folders "send x ~/y me"
+mend_numbers=" (write the same number to both files number, or remove both, while neither end runs)"
 speaker '\x10Shere=beta\0' '\x10RBADSEQ\0'
-unhappy "an end that keeps a number" badsequence 'this end keeps no number' "${alpha[@]}"
+unhappy "an end that keeps a number" badsequence "this end keeps no number$mend_numbers" "${alpha[@]}"
 
 # heard_last NAME TEXT SAID: it is said which text was heard last of an end that has closed the line behind this one.
 heard_last() {
@@ -700,7 +706,7 @@ chmod 666 "$work/a/number"
 speaker '\x10Shere=beta\0' '\x10RBADSEQ\0'
 called_with unix:line
 wait "$answerer" || true
-errors_are "the log of another number" badsequence "the number of this end is 17"
+errors_are "the log of another number" badsequence "the number of this end is 17$mend_numbers"
 
 # A file that is not given is no fault of the session's, and the log has it all the same.
 folders "send x ~/y me"

@@ -10,6 +10,7 @@ from datetime import datetime, timedelta, timezone
 
 from suite import Ends, FRONT, filler, free_port, masked, names_in, report, said, scene, text_of, too_large, wait_until, write
 
+MEND_NUMBERS = " (write the same number to both files number, or remove both, while neither end runs)"
 NOT_GIVEN = ("not given by the other end: no such file in its send, or one that may not go; "
              "or not to be put in its place here")
 
@@ -361,7 +362,7 @@ def the_number(one):
         ends.jobs("alpha", "send x x me")
         called = ends.answer(one.line)
         caller = ends.call(one.line)
-        mine = f"the number of this end is {number}" if number else "this end keeps no number"
+        mine = (f"the number of this end is {number}" if number else "this end keeps no number") + MEND_NUMBERS
         one.row(f"a caller that is {what}", caller.all(), (1, report("caller", "badsequence", pending=1), said(mine)))
         one.row(f"the files of one that is {what}", (text_of(ends.at("alpha", "number")), text_of(ends.at("beta", "number")),
                 text_of(ends.at("alpha", "jobs"))),
@@ -370,9 +371,9 @@ def the_number(one):
         caller = ends.call(one.line)
         heard = f", that of the other end {number}" if number else ""
         one.row(f"the called end of one that is {what}, and the right one behind it", (caller.status, *called.end().all()),
-                (0, 0, report("called"), said(f"the number of this end is {kept}{heard}")))
+                (0, 0, report("called"), said(f"the number of this end is {kept}{heard}{MEND_NUMBERS}")))
     write(ends.at("beta", "number"), "two\n")
-    one.row("a bad number", one.run(ends.words("answer", one.line)).all(), (2, "", said("bad number file", "beta/number: not a number")))
+    one.row("a bad number", one.run(ends.words("answer", one.line)).all(), (2, "", said("bad number file", "beta/number: not a number up to 4294967295")))
 
 
 @scene()

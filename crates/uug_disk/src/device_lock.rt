@@ -205,13 +205,15 @@ fn is_own(own: Option<u32>, process: u32) -> bool
     own == Some(process)
 }
 
-/// Returns who holds the lock at this path. One that can't be read may be anybody's.
+/// Returns who holds the lock at this path. One that can't be read may be anybody's, and below a file there is none.
 fn holder_at<R: Files>(rt: &R, path: &str) -> Holder {
     let mut buffer = [0; READ_MAX];
     match read_lock(rt, path, &mut buffer) {
         Ok(count) => holder_of(&buffer[..count]),
-        Err(error) if error.kind() == ErrorKind::NotFound => Holder::Nobody,
-        Err(_) => Holder::Unknown,
+        Err(error) => match error.kind() {
+            ErrorKind::NotFound | ErrorKind::NotADirectory => Holder::Nobody,
+            _ => Holder::Unknown,
+        },
     }
 }
 

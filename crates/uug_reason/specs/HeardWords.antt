@@ -6,7 +6,7 @@ use Rattle.std.specs.Str.{bytes_eq}
 use Rattle.uug_conversation.specs.declared.side.Side.{Side}
 use Rattle.uug_conversation.specs.declared.side.Side.TheVariants.{Caller, Called}
 use Rattle.uug_session.specs.declared.end.End.{End}
-use Rattle.uug_session.specs.declared.end.End.TheVariants.{Refused, WrongName, NoProtocol, GaveUp, HungUp}
+use Rattle.uug_session.specs.declared.end.End.TheVariants.{Refused, WrongName, NoProtocol, PeerClosed, GaveUp, HungUp}
 use Rattle.uug_talk.specs.Lines.{ended}
 use Rattle.uug_reason.specs.JobsWords.{quoted}
 use Rattle.uug_reason.specs.declared.heard.Heard.{Heard}
@@ -103,7 +103,7 @@ unanswered_words said = codes "heard " ++ (quoted said ++ codes ", and then no a
 abbrev pub protocols_words : (said : List ℕ) → List ℕ
 protocols_words said = codes "no protocol g: heard " ++ quoted said
 
--- by how the session ended, where what was heard says why
+-- by how the session ended, where that or what was heard says why
 abbrev pub end_words : Side → End → (peer : List ℕ) → HeardShown → List ℕ
 end_words side WrongName peer (text said) = other_words said peer
 end_words side Refused peer (text said) = refused_words side said peer
@@ -114,6 +114,7 @@ end_words side HungUp peer nothing = gone_words side
 end_words side HungUp peer (text said) = gone_behind_words side said
 end_words side GaveUp peer nothing = nothing_words side
 end_words side GaveUp peer (text said) = unanswered_words said
+end_words side PeerClosed peer heard = codes "the other end ended the session before all was done (it may not have stored a file: see what it says)"
 end_words side end peer heard = []
 
 -- as a line, unless nothing is to be said

@@ -1,5 +1,6 @@
 -- What to do about a call of the system that a known mistake makes fail (this project's profile).
 use Rattle.std.specs.Prelude.{◌==◌, ◌&&◌, ◌||◌, ℕ, Bool, not, List, [], ◌++◌, codes, drop, eqb, is_some, length, nat_eq, nat_le, Some, None, if◌then◌else◌}
+use Rattle.std.specs.Char.{is_ascii_digit}
 use Rattle.std.specs.List.{ends_with, list_any, starts_with}
 use Rattle.std.specs.Str.{bytes_eq}
 use Rattle.std.specs.declared.io.ErrorKind.{ErrorKind}
@@ -37,6 +38,9 @@ send_hint _ = []
 abbrev pub has_byte : (word : List ℕ) → (byte : ℕ) → Bool
 has_byte word byte = list_any (λ b. eqb b byte) word
 
+abbrev pub has_digit : (word : List ℕ) → Bool
+has_digit word = list_any is_ascii_digit word
+
 -- neither a path with a slash (47) nor begun as the name of a line is
 abbrev pub is_bare : (word : List ℕ) → Bool
 is_bare word = not (names_line word) && not (has_byte word 47)
@@ -50,9 +54,9 @@ address_of word =
 abbrev pub port_words : (address : List ℕ) → List ℕ
 port_words address = codes ": give tcp:" ++ escaped address
 
--- the port of a host, between which a colon (58) stands
+-- the port of a host, a number, between which a colon (58) stands
 abbrev pub port_guess : (line : List ℕ) → List ℕ
-port_guess line = if has_byte line 58 then port_words (address_of line) else []
+port_guess line = if has_byte line 58 && has_digit line then port_words (address_of line) else []
 
 -- the line that is probably meant by a bare word: a device, or a port of a host
 abbrev pub guess_words : (line : List ℕ) → List ℕ

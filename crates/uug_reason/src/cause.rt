@@ -22,7 +22,7 @@ pub(crate) fn add_cause<A: Allocator>(
         Cause::MovedNothing => text.push_str("it takes no byte"),
         Cause::TooMuch => text.push_str(much_words(resource)),
         Cause::NotAFile => text.push_str(no_file_words(resource)),
-        Cause::NotANumber => text.push_str("not a number"),
+        Cause::NotANumber => text.push_str("not a number up to 4294967295"),
         Cause::InUse => text.push_str("in use"),
         Cause::IsSpool => text.push_str("it is a spool of Taylor UUCP: give --spool"),
         Cause::NoSpool => text.push_str("it has jobs or send, and is no spool: leave out --spool"),

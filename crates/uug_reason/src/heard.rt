@@ -67,6 +67,9 @@ fn add_end<A: Allocator>(
         (End::HungUp, Heard::Text(said)) => add_gone(text, side, said),
         (End::GaveUp, Heard::Nothing) => text.push_str(nothing_words(side)),
         (End::GaveUp, Heard::Text(said)) => add_unanswered(text, said),
+        (End::PeerClosed, _) => text.push_str(
+            "the other end ended the session before all was done (it may not have stored a file: see what it says)",
+        ),
         _ => Ok(()),
     }
 }

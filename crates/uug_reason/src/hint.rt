@@ -1,6 +1,6 @@
 //! Hints about what to do after a call of the system that a known mistake makes fail.
 ghost use Rattle.std.specs.Prelude.{◌≡◌, ◌++◌, OnOk, string_bytes};
-ghost use Rattle.uug_reason.specs.ReasonHints.{absent_hint, address_of, are_exchanged, exchanged_hint, forms_words, got_hint, guess_words, has_byte, hint_words};
+ghost use Rattle.uug_reason.specs.ReasonHints.{absent_hint, address_of, are_exchanged, exchanged_hint, forms_words, got_hint, guess_words, has_byte, has_digit, hint_words};
 ghost use Rattle.uug_reason.specs.ReasonHints.{host_hint, is_bare, line_hint, long_hint, names_line, port_guess, port_words, right_hint, send_hint, socket_hint, zero_hint};
 
 use crate::escape::add_escaped;
@@ -147,12 +147,12 @@ fn add_guess<A: Allocator>(text: &mut String<A>, line: &str) -> Result<(), Alloc
     }
 }
 
-/// Appends the port of a host that is probably meant by a bare word, if there is a colon in it.
+/// Appends the port of a host that is probably meant by a bare word, if there are a colon and a digit in it.
 fn add_port_guess<A: Allocator>(text: &mut String<A>, line: &str) -> Result<(), AllocError>
     ensures { OnOk result
         (string_bytes text.new ≡ string_bytes text.old ++ port_guess line.now) }
 {
-    if has_byte(line.as_bytes(), b':') {
+    if has_byte(line.as_bytes(), b':') && has_digit(line.as_bytes()) {
         add_port(text, address_of(line.as_bytes()))
     } else {
         Ok(())
@@ -252,4 +252,11 @@ fn has_byte(word: &[u8], byte: u8) -> bool
     ensures { result ≡ has_byte word.now byte }
 {
     word.contains(&byte)
+}
+
+/// Returns whether a word has a digit.
+fn has_digit(word: &[u8]) -> bool
+    ensures { result ≡ has_digit word.now }
+{
+    word.iter().any(|b| b.is_ascii_digit())
 }

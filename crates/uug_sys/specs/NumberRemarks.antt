@@ -10,11 +10,14 @@ abbrev pub own_words : Option ℕ → List ℕ
 own_words None = codes "this end keeps no number"
 own_words (Some number) = codes "the number of this end is " ++ decimal number
 
-abbrev pub heard_words : Option ℕ → List ℕ
-heard_words None = []
-heard_words (Some number) = codes ", that of the other end " ++ decimal number
+abbrev pub mending_words : List ℕ
+mending_words = codes " (write the same number to both files number, or remove both, while neither end runs)"
 
--- the number of this end, and that of the other one where it was heard, as a line
+abbrev pub heard_words : Option ℕ → List ℕ
+heard_words None = mending_words
+heard_words (Some number) = codes ", that of the other end " ++ (decimal number ++ mending_words)
+
+-- the number of this end, that of the other one where it was heard, and what to do, as a line
 abbrev pub numbers_line : (own heard : Option ℕ) → List ℕ
 numbers_line own heard = codes "uucpair: " ++ (own_words own ++ ended (heard_words heard))
 

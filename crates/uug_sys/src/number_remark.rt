@@ -44,12 +44,17 @@ fn own_words<A: Allocator>(alloc: A, own: Option<u32>) -> Result<String<A>, Allo
     }
 }
 
-/// Returns the words for the number that the other end has reported, or nothing if it has reported none.
+/// Returns the words for the number that the other end has reported, if it has reported one, and what to do.
 fn heard_words<A: Allocator>(alloc: A, heard: Option<u32>) -> Result<String<A>, AllocError>
     ensures { IfOk result (λ words. string_bytes words ≡ heard_words heard) }
 {
     match heard {
-        Some(number) => format!(in alloc; ", that of the other end {number}"),
-        None => Ok(String::new(alloc)),
+        Some(number) => format!(in alloc;
+            ", that of the other end {number} (write the same number to both files number, or remove both, while neither end runs)"
+        ),
+        None => String::from_str(
+            alloc,
+            " (write the same number to both files number, or remove both, while neither end runs)",
+        ),
     }
 }
