@@ -6,7 +6,7 @@
 PROGRAM is crates/uucpair/out/uucpair where none is named. A scene is a function of `tests/real/`, or one of its modules; without
 one all are run, as many side by side as JOBS says (twice the processors). What is expected is written in the scenes by hand. A row
 that fails says what was expected, and what there was; its scene is run once more, alone. A scene that needs a command which is missing, or root, is left out, and
-that is said. The last line counts the rows, and the status is 1 where one failed. TIMES=1 prints the seconds of each scene, and
+that is said; with ALONE=1 each such scene is. The last line counts the rows, and the status is 1 where one failed. TIMES=1 prints the seconds of each scene, and
 STOP=1 ends with the first row that fails.
 """
 import concurrent.futures
@@ -23,20 +23,26 @@ sys.path[:0] = [os.path.join(HERE, "real"), HERE, os.path.join(ROOT, "interop")]
 import suite  # noqa: E402
 
 # The longest begin first.
-MODULES = ("scripts", "refusals", "kills", "folders", "resumes", "spools", "lines", "disks", "queues", "callers", "statuses", "tools")
+MODULES = ("scripts", "refusals", "kills", "folders", "resumes", "spools", "lines", "disks", "queues", "callers",
+        "statuses", "tools")
 
 
 def wanted(names):
     """Returns the scenes of these names or modules; all of them where there is no name. Says which are left out."""
-    found = []
+    found, others = [], 0
     for function, needs in suite.SCENES:
         if names and function.__name__ not in names and function.__module__ not in names:
+            continue
+        if needs and os.environ.get("ALONE"):
+            others += 1
             continue
         lacking = [need for need in needs if not suite.is_here(need)]
         if lacking:
             print(f"left out: {function.__name__} (needs {', '.join(lacking)})", flush=True)
         else:
             found.append(function)
+    if others:
+        print(f"left out: {others} scenes that need a command or root", flush=True)
     return found
 
 
@@ -77,7 +83,7 @@ def main():
     for number in (signal.SIGINT, signal.SIGTERM, signal.SIGHUP):
         signal.signal(number, stop)
     os.umask(0o022)
-    jobs = int(os.environ.get("JOBS") or 2 * (os.cpu_count() or 1))
+    jobs = int(os.environ.get("JOBS") or 2 * len(os.sched_getaffinity(0)))
     with suite.shared(program) as copy:
         rows, again = run_all(wanted(sys.argv[2:]), copy, jobs)
         # A machine that does much else may keep a scene too long: what failed beside others is run once more, alone.

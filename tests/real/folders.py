@@ -466,7 +466,10 @@ def jobs_that_cant_be_told(one):
     ends.give("alpha", y="y\n")
     ends.jobs("alpha", *lines)
     os.mkdir(ends.at("alpha", "failed"))
-    caller, called = ends.talk()
+    called = ends.answer(one.line)
+    caller = ends.call(one.line)
+    # It has opened no line, and the other end waits on.
+    called.stop()
     one.row("call", (caller.status, caller.err), (3, said("device fault", "alpha/failed: is a directory")))
     one.row("the jobs stay", text_of(ends.at("alpha", "jobs")), "".join(f"{line}\n" for line in lines))
     os.rmdir(ends.at("alpha", "failed"))
