@@ -24,7 +24,7 @@ import suite  # noqa: E402
 
 # The longest begin first.
 MODULES = ("scripts", "refusals", "kills", "folders", "resumes", "spools", "lines", "disks", "queues", "callers",
-        "statuses", "tools")
+        "statuses", "terminals", "tools")
 
 
 def wanted(names):

@@ -1,10 +1,8 @@
 """Files that take longer than the line holds: an end goes on with one where its last session was cut off."""
 import hashlib
 import os
-import pty
 import re
 import shutil
-import tty
 
 from disks import NOBODY
 from lines import Cable
@@ -104,33 +102,6 @@ def where_a_file_goes_on(one):
         one.row(f"what the end says {who}", job_lines(ended), [job, f"{job}: resumed at {start}", f"{job}: done {9000 - start} bytes in N s"])
     for name, verb in (("alpha", "Sending"), ("beta", "Receiving")):
         one.row(f"the log of {name}", file_lines(ends.at(name, "log")), [f"{verb} long (resume at {start})", f"{verb} long ({9000 - start} bytes)"])
-
-
-def seen_at_a_terminal(one, ends, rate):
-    """Runs a session over a line of so many bytes a second. Returns what the called end says at a terminal."""
-    master, slave = pty.openpty()
-    tty.setraw(slave)
-    called = ends.answer(one.line, *QUICK, "-v", front=("sh", "-c", f'exec "$@" 2>{os.ttyname(slave)}', "sh"))
-    ends.call(Cable(one, rate=rate).line, *QUICK)
-    called.end()
-    seen = os.read(master, 4096).decode()
-    for descriptor in (master, slave):
-        os.close(descriptor)
-    return seen
-
-
-@scene()
-def how_far_a_file_is_at_a_terminal(one):
-    """One line, written anew each second, counts the bytes of the whole file, also of one that goes on."""
-    ends = ends_with(one, long=filler("long", 9000))
-    cut(one, ends, 5000)
-    (start,) = (size for _, size in held(ends, "beta").values())
-    seen = seen_at_a_terminal(one, ends, 1000)
-    lines = re.findall(r"uucpair: \d+ s: peer's send long: (\d+) of 9000 bytes, (\d+)%, (\d+) B/s, (\d+) s left", seen)
-    found = [tuple(map(int, line)) for line in lines]
-    one.holds("it is written more than once", len(found) >= 2, seen)
-    one.holds("what came before counts", all(start < position <= 9000 and part == position * 100 // 9000 for position, part, _, _ in found), found)
-    one.holds("the time left is by the rate", all(0 < rate < 2000 and left == (9000 - position) // rate for position, _, rate, left in found), found)
 
 
 @scene()

@@ -1,4 +1,6 @@
 //! The reports of a session on standard error, and in a log.
+ghost use Rattle.std.specs.Prelude.{◌≡◌, IsTrue, Some};
+ghost use Rattle.uug_transfer.specs.LineNames.{line_of, standard};
 
 use crate::hailed_line::caller_in;
 use crate::hearing::{Hearing, NOTHING_PASSED, passed_then};
@@ -14,7 +16,7 @@ use uug_reason::{Heard, Passed, heard_remark, passed_remark};
 use uug_session::{End, Phase, Side};
 use uug_talk::{Hail, Name};
 use uug_task::CallTask;
-use uug_transfer::{ReadOutcome, SessionObserver, SessionStatus};
+use uug_transfer::{LineName, ReadOutcome, SessionObserver, SessionStatus, read_line_name};
 
 /// Reports each session on standard error: its phases, the jobs of both ends, and what was lost. A log, if there is
 /// one, gets how each session begins and ends, and each job.
@@ -24,7 +26,7 @@ pub struct SystemObserver<'a, R, A: Allocator> {
     is_lenient: bool,
     /// The size of the greatest file that this end takes.
     file_limit: u32,
-    /// None without `-v` or a log.
+    /// None if nothing is said of jobs, shown of files, or logged.
     observer: Option<Observer<A>>,
     tellers: Tellers<'a, R, A>,
     /// The side of this end, and the name of the other end, if it is a name.
@@ -72,7 +74,7 @@ impl Seen {
 
 impl<'a, R: Eprint + Clock, A: Allocator + Copy> SystemObserver<'a, R, A> {
     /// Creates an observer that reports the session of this task, or nothing. At a terminal it shows the progress of a
-    /// long file. With a log it always observes.
+    /// long file, also where it reports nothing else. With a log it always observes.
     pub fn new(
         alloc: A,
         rt: &'a R,
@@ -80,7 +82,8 @@ impl<'a, R: Eprint + Clock, A: Allocator + Copy> SystemObserver<'a, R, A> {
         at_terminal: bool,
         log: Option<SessionLog<'a, R, A>>,
     ) -> Result<Self, AllocError> {
-        let observer = if task.is_loud || log.is_some() {
+        let shows_progress = shows_progress(task, at_terminal);
+        let observer = if task.is_loud || shows_progress || log.is_some() {
             Some(Observer::new(alloc, task.is_lenient, task.file_limit)?)
         } else {
             None
@@ -92,7 +95,7 @@ impl<'a, R: Eprint + Clock, A: Allocator + Copy> SystemObserver<'a, R, A> {
             observer,
             tellers: Tellers {
                 is_loud: task.is_loud,
-                voice: Voice::new(alloc, rt, at_terminal),
+                voice: Voice::new(alloc, rt, shows_progress),
                 log,
             },
             side: task.side,
@@ -185,6 +188,7 @@ impl<'a, R: Eprint + Clock, A: Allocator + Copy> SystemObserver<'a, R, A> {
             Err(AllocError) => String::new(self.alloc),
         };
         let line = said.as_str();
+        self.tellers.voice.wipe();
         self.tellers.voice.say_line(line);
         if line.is_empty() && !status.phase.is_done() {
             self.tellers.tell_last(self.last(false));
@@ -214,7 +218,7 @@ impl<'a, R: Eprint + Clock, A: Allocator + Copy> SystemObserver<'a, R, A> {
         };
         observer.see(way, piece, &mut self.tellers);
         if let Some(progress) = observer.progress() {
-            self.tellers.show_progress(&progress);
+            self.tellers.voice.show_progress(&progress);
         }
     }
 }
@@ -257,6 +261,18 @@ impl<R: Eprint + Clock, A: Allocator + Copy> SessionObserver for SystemObserver<
             self.tell_end(status);
             self.begin_anew();
         }
+    }
+}
+
+/// Returns whether an end shows how far its files are. At a terminal it does, but only with `-v` if that may be its line.
+fn shows_progress(task: &CallTask<'_>, at_terminal: bool) -> bool
+    ensures terminal { IsTrue result → IsTrue at_terminal }
+    ensures apart { line_of task.now.line.now ≡ Some standard → IsTrue result
+        → IsTrue task.now.is_loud }
+{
+    match read_line_name(task.line) {
+        Some(LineName::Standard) => at_terminal && task.is_loud,
+        _ => at_terminal,
     }
 }
 

@@ -3,7 +3,7 @@
 use crate::voice::Voice;
 use std::alloc::{AllocError, Allocator};
 use std::time::Clock;
-use uug_log::{FileProgress, Journal, News, SessionLog, words_of};
+use uug_log::{Journal, News, SessionLog, words_of};
 use uug_session::{End, Phase, phase_word};
 use uug_talk::Name;
 use uug_transfer::SessionStatus;
@@ -42,6 +42,7 @@ impl<R: Eprint + Clock, A: Allocator + Copy> Tellers<'_, R, A> {
 
     /// Reports the state of the end.
     pub(crate) fn tell_status(&mut self, status: SessionStatus) {
+        self.voice.wipe();
         if self.is_loud {
             self.voice.say_status(status);
         }
@@ -51,13 +52,6 @@ impl<R: Eprint + Clock, A: Allocator + Copy> Tellers<'_, R, A> {
     pub(crate) fn tell_last(&self, line: Result<String<A>, AllocError>) {
         if self.is_loud {
             self.voice.say(line);
-        }
-    }
-
-    /// Shows how far the file of a job is.
-    pub(crate) fn show_progress(&mut self, progress: &FileProgress) {
-        if self.is_loud {
-            self.voice.show_progress(progress);
         }
     }
 
@@ -80,6 +74,7 @@ fn bad_word(phase: Phase) -> Option<&'static str> {
 
 impl<R: Eprint + Clock, A: Allocator + Copy> Journal for Tellers<'_, R, A> {
     fn note(&mut self, news: &News) {
+        self.voice.follow(news);
         if self.is_loud {
             self.voice.note(news);
         }

@@ -17,8 +17,8 @@ const WIPE: &str = "\r\u{1b}[K";
 pub(crate) struct Voice<'a, R, A: Allocator> {
     alloc: A,
     rt: &'a R,
-    /// Set if standard error is a terminal.
-    at_terminal: bool,
+    /// Set if it shows how far a file is.
+    shows_progress: bool,
     /// The time at which the session began, if the clock gives one.
     since: Option<Instant>,
     /// The second of the session in which the current job began.
@@ -32,11 +32,11 @@ pub(crate) struct Voice<'a, R, A: Allocator> {
 }
 
 impl<'a, R: Eprint + Clock, A: Allocator + Copy> Voice<'a, R, A> {
-    pub(crate) fn new(alloc: A, rt: &'a R, at_terminal: bool) -> Self {
+    pub(crate) fn new(alloc: A, rt: &'a R, shows_progress: bool) -> Self {
         Voice {
             alloc,
             rt,
-            at_terminal,
+            shows_progress,
             since: Instant::now(rt).ok(),
             begun: 0,
             pace: Pace::new(Mark {
@@ -74,7 +74,7 @@ impl<'a, R: Eprint + Clock, A: Allocator + Copy> Voice<'a, R, A> {
     }
 
     /// Wipes the line of progress, if there is one.
-    fn wipe(&mut self) {
+    pub(crate) fn wipe(&mut self) {
         if self.shown.take().is_some() {
             let _ = eprint!(self.rt; "{WIPE}");
         }
@@ -92,8 +92,7 @@ impl<'a, R: Eprint + Clock, A: Allocator + Copy> Voice<'a, R, A> {
     }
 
     /// Says the state of the end.
-    pub(crate) fn say_status(&mut self, status: SessionStatus) {
-        self.wipe();
+    pub(crate) fn say_status(&self, status: SessionStatus) {
         let seconds = self.seconds();
         let phase = phase_word(status.phase);
         let (pending, struck, failed) = (status.pending, status.struck, status.failed);
@@ -112,17 +111,21 @@ impl<'a, R: Eprint + Clock, A: Allocator + Copy> Voice<'a, R, A> {
         self.say(format!(in self.alloc; "uucpair: {silences} timeouts\n"));
     }
 
-    /// Shows how far a file is, at a terminal, once a second from the job's second one on.
-    pub(crate) fn show_progress(&mut self, progress: &FileProgress) {
-        if !self.at_terminal || progress.position == 0 {
-            return;
+    /// Returns whether it is time to show how far a file is: once a second from the job's second one on, if that is shown.
+    pub(crate) fn is_due(&self, progress: &FileProgress) -> bool {
+        if !self.shows_progress || progress.position == 0 {
+            return false;
         }
-        let seconds = self.seconds();
-        let is_due = match self.shown {
-            Some(shown) => seconds > shown,
-            None => seconds > self.begun.saturating_add(1),
-        };
-        if is_due {
+        match self.shown {
+            Some(shown) => self.seconds() > shown,
+            None => self.seconds() > self.begun.saturating_add(1),
+        }
+    }
+
+    /// Shows how far a file is, if that is due.
+    pub(crate) fn show_progress(&mut self, progress: &FileProgress) {
+        if self.is_due(progress) {
+            let seconds = self.seconds();
             self.wipe();
             self.say_progress(seconds, progress);
             self.shown = Some(seconds);
@@ -140,6 +143,19 @@ impl<'a, R: Eprint + Clock, A: Allocator + Copy> Voice<'a, R, A> {
         self.say(progress_line(self.alloc, seconds, rate, progress));
     }
 
+    /// Follows a job, so that the rate of its file is known. Its line of progress goes when it ends.
+    pub(crate) fn follow(&mut self, news: &News) {
+        let seconds = self.seconds();
+        match news {
+            News::Begins(_) => {
+                self.begun = seconds;
+                self.begin_file(seconds, 0);
+            }
+            News::Resumes(_, position) => self.begin_file(seconds, u64::from(*position)),
+            News::Ends(..) => self.wipe(),
+        }
+    }
+
     /// Notes that a file begins in this second, or goes on at this position.
     fn begin_file(&mut self, seconds: u64, position: u64) {
         self.pace = Pace::new(Mark {
@@ -152,14 +168,6 @@ impl<'a, R: Eprint + Clock, A: Allocator + Copy> Voice<'a, R, A> {
 impl<R: Eprint + Clock, A: Allocator + Copy> Journal for Voice<'_, R, A> {
     fn note(&mut self, news: &News) {
         let seconds = self.seconds();
-        match news {
-            News::Begins(_) => {
-                self.begun = seconds;
-                self.begin_file(seconds, 0);
-            }
-            News::Resumes(_, position) => self.begin_file(seconds, u64::from(*position)),
-            News::Ends(..) => {}
-        }
         let took = seconds.saturating_sub(self.begun);
         if let Ok(line) = news_line(self.alloc, seconds, took, news) {
             let _ = self.held.push_str(line.as_str());
