@@ -2,12 +2,14 @@
 import os
 import pty
 import re
+import signal
 import threading
+import time
 import tty
 
 from lines import Cable, door_at
 from resumes import QUICK, cut, ends_with, held
-from suite import filler, report, scene
+from suite import filler, report, scene, wait_until, write
 
 WIPE = "\r\x1b[K"
 # A line that would be too long has no bytes.
@@ -100,3 +102,53 @@ def a_terminal_that_is_the_line(one):
         one.row(f"whether it is written, {what}", bool(found), bool(more))
         if not more:
             one.row("the report alone, without -v", rest, report("called"))
+
+
+def pair_held_up(one, *more):
+    """Runs a pair at a terminal, and stops it for a while when its session has begun. Returns its end, and what was seen."""
+    terminal = Terminal()
+    running = one.start(["pair", "line", "a", "b", *more], front=terminal.front)
+
+    def has_begun():
+        try:
+            place = f"/proc/{running.process.pid}/fd"
+            return sum(os.readlink(f"{place}/{name}").startswith("socket:") for name in os.listdir(place)) >= 2
+        except OSError:
+            return False
+
+    wait_until(lambda: has_begun() or running.process.poll() is not None)
+    time.sleep(0.03)
+    running.process.send_signal(signal.SIGSTOP)
+    time.sleep(2.5)
+    running.process.send_signal(signal.SIGCONT)
+    ended = running.end()
+    return ended, terminal.seen()
+
+
+@scene()
+def how_far_a_file_of_a_pair_is(one):
+    """At a terminal there is such a line, with the size of the file in its folder; the report is what it is without one."""
+    size = 300_000
+    for end in "ab":
+        for folder in ("got", "send"):
+            os.makedirs(one.path(f"{end}/{folder}"))
+        write(one.path(f"{end}/send/long"), filler(f"long of {end}", size))
+    for giver, job, struck in (("a", "send long", (1, 0)), ("b", "peer's send long", (0, 1))):
+        write(one.path(f"{giver}/jobs"), "send long long me\n")
+        ended, seen = pair_held_up(one)
+        found, rest = places_in(seen, job)
+        one.holds(f"the line is written, of {giver}", found, seen)
+        one.holds(f"it has the place in the file, of {giver}",
+                all(0 < place <= most == size and part == place * 100 // size for place, most, part, _, _ in found if most), found)
+        one.row(f"it is wiped off, of {giver}", (seen.count(WIPE), rest), (len(found), ""))
+        printed = report("caller", struck=struck[0]) + report("called", struck=struck[1])
+        one.row(f"the report, of {giver}", (ended.status, ended.out), (0, printed))
+    write(one.path("a/jobs"), "send long long me\n")
+    ended, seen = pair_held_up(one, "-v")
+    found, rest = places_in(seen, "send long")
+    jobs = ["uucpair: N s: send long long", f"uucpair: N s: send long long: done {size} bytes in N s"]
+    one.row("-v has lines for each job", [re.sub(r"\b\d+ s\b", "N s", line) for line in rest.splitlines()], jobs)
+    for more in ((), ("-v",)):
+        write(one.path("a/jobs"), "send long long me\n")
+        one.row(f"without a terminal there is nothing, {' '.join(more) or 'without -v'}", one.run(["pair", "line", "a", "b", *more]).all(),
+                (0, report("caller", struck=1) + report("called"), ""))

@@ -10,7 +10,6 @@ use crate::bad_jobs::jobs_remark;
 use crate::console::Console;
 use std::alloc::{AllocError, Global};
 use std::fs::File;
-use std::net::Net;
 use std::os::unix::fs::MetadataExt;
 use std::rt::{Env, Files};
 use std::time::Clock;
@@ -25,14 +24,20 @@ use uug_port::{ReportFile, SystemOutput};
 use uug_reason::{locks_line, reason_line};
 use uug_stop::{LOG, REPORT, STATS, is_refused_lock};
 use uug_stream::{Output, ToolFault};
-use uug_sys::{SystemObserver, call_run, line_held_remark, log_fault};
+use uug_sys::{PairObserver, SystemObserver, call_run, line_held_remark, log_fault};
 use uug_task::{CallTask, ReportPlace, System};
 use uug_words::{PairTask, lacks_spool};
 
-/// Runs both ends over one socket. One folder for both is bad usage.
-pub fn do_pair<R, O>(rt: &R, pair: &PairTask<'_>, output: &mut O) -> Outcome<u8, Global>
+/// Runs both ends over one socket, and reports their files on standard error if that is a terminal. One folder for both
+/// is bad usage.
+pub fn do_pair<R, O>(
+    rt: &R,
+    pair: &PairTask<'_>,
+    console: Console,
+    output: &mut O,
+) -> Outcome<u8, Global>
 where
-    R: Files<File = File> + Net + AllocGlobal + Clone + Drop,
+    R: System,
     O: Output,
     ensures status { IfOk result.answer (λ status. status ≤ 1) }
     ensures no_other { IfErr result.answer IsRunFault }
@@ -47,7 +52,15 @@ where
         drop_every: pair.drop_every,
         flip_every: pair.flip_every,
     };
-    let answer = pair_run_with_reason(rt.alloc(), rt, &run, output);
+    let observer = PairObserver::new(
+        rt.alloc(),
+        rt,
+        pair.dir_a,
+        pair.dir_b,
+        pair.is_loud,
+        console.is_errors_terminal,
+    );
+    let answer = pair_run_with_reason(rt.alloc(), rt, &run, observer, output);
     let remark = match &answer {
         Ok(_) => None,
         Err(fault) => either_jobs_remark(rt, pair, fault),

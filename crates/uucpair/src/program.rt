@@ -213,7 +213,7 @@ where
         Task::PlaySettled(file) => (InputTask::PlaySettled, file),
         Task::PlayDrawn(file) => (InputTask::PlayDrawn, file),
         Task::Version => return Outcome::of(rt.alloc(), show_version(rt.alloc(), output)),
-        Task::Pair(pair) => return do_pair(rt, &pair, output),
+        Task::Pair(pair) => return do_pair(rt, &pair, console, output),
         Task::Call(call) => return do_call(rt, &call, console, output),
         Task::Queue(queue) => return do_queue(rt, &queue, output),
         Task::Cancel(cancel) => return do_cancel(rt, &cancel, output),

@@ -35,7 +35,7 @@ impl Transfer {
     }
 
     /// Returns the direction of its file.
-    pub(crate) fn file_way(&self) -> Way {
+    pub fn file_way(&self) -> Way {
         match self.wish {
             Wish::Send => self.way,
             Wish::Request => self.way.back(),

@@ -6,7 +6,9 @@
 pub mod laws;
 mod pair;
 pub mod promises;
+mod unwatched;
 
 pub use pair::{
     FinishedPair, PairParts, PairRun, TURNS_MAX, pair_run, pair_run_with_reason, run_both,
 };
+pub use unwatched::Unwatched;

@@ -16,6 +16,7 @@ ghost use Rattle.uug_transfer.specs.Moments.{IsLed, end_now};
 ghost use Rattle.uug_transfer.specs.EndOver.{IsEndFault};
 
 use crate::promises::the_file_of_a_job_that_is_gone_was_kept;
+use crate::unwatched::Unwatched;
 use std::alloc::{AllocError, Allocator};
 use std::fs::File;
 use std::net::Net;
@@ -25,12 +26,12 @@ use uug_disk::{
 };
 use uug_failure::{EndDir, RunFault, SystemFailure};
 use uug_folder::FolderSpool;
-use uug_port::open_wire;
+use uug_port::open_watched_wire;
 use uug_session::event_laws::events_follow_events;
 use uug_session::{Side, Spool, Stored};
 use uug_stream::{Output, ToolFault};
 use uug_task::{EndParts, place_in_pair};
-use uug_transfer::{FaultInjector, TransferEnd, pair_over};
+use uug_transfer::{FaultInjector, SessionObserver, TransferEnd, pair_over};
 
 /// The maximum number of turns of two ends.
 pub const TURNS_MAX: u32 = 1_000_000;
@@ -125,7 +126,7 @@ pub fn pair_run<A: Allocator + Copy, R: Files<File = File> + Net + Alloc + Clone
         drop_every,
         flip_every,
     };
-    match pair_run_with_reason(alloc, rt, &run, output) {
+    match pair_run_with_reason(alloc, rt, &run, Unwatched, output) {
         Ok(status) => Ok(status),
         Err(fault) => Err(fault.answer()),
     }
@@ -135,12 +136,13 @@ pub fn pair_run<A: Allocator + Copy, R: Files<File = File> + Net + Alloc + Clone
 /// the path `socket`. Every Nth packet is lost, and every Nth changed, for an N of its own each, if one is given.
 /// `docs/OPERATING.md` describes what is in a folder. Both folders are locked before anything in them is read. Returns
 /// the program's status. A fault says which call of the system failed first, if that is the reason, or which folder
-/// another run holds.
+/// another run holds. The observer sees what the caller writes and reads, and that its session is over.
 pub fn pair_run_with_reason<
     A: Allocator + Copy,
     R: Files<File = File> + Net + Alloc + Clone + Drop,
+    W: SessionObserver + Drop,
     O: Output,
->(alloc: A, rt: &R, run: &PairRun<'_>, output: &mut O) -> Result<u8, RunFault>
+>(alloc: A, rt: &R, run: &PairRun<'_>, observer: W, output: &mut O) -> Result<u8, RunFault>
     ensures usage { (result ≡ Err (RunFault.Tool ToolFault.Usage)) ↔
         ((is_in_range run.now.drop_every && is_in_range run.now.flip_every) ≡ false) }
     ensures status { IfOk result (λ status. status ≤ 1) }
@@ -155,7 +157,7 @@ pub fn pair_run_with_reason<
     let lock_a = lock_dir(alloc, rt, run.caller_dir())?;
     let result = match lock_dir(alloc, rt, run.called_dir()) {
         Ok(lock_b) => {
-            let result = run_locked(alloc, rt, run, &lock_a, &lock_b, injector, output);
+            let result = run_locked(alloc, rt, run, &lock_a, &lock_b, injector, observer, output);
             drop(lock_b);
             result
         }
@@ -166,13 +168,19 @@ pub fn pair_run_with_reason<
 }
 
 /// Runs both ends over their folders, which are locked.
-fn run_locked<A: Allocator + Copy, R: Files<File = File> + Net + Alloc + Clone + Drop, O: Output>(
+fn run_locked<
+    A: Allocator + Copy,
+    R: Files<File = File> + Net + Alloc + Clone + Drop,
+    W: SessionObserver + Drop,
+    O: Output,
+>(
     alloc: A,
     rt: &R,
     run: &PairRun<'_>,
     lock_a: &DirLock<A>,
     lock_b: &DirLock<A>,
     injector: FaultInjector,
+    observer: W,
     output: &mut O,
 ) -> Result<u8, RunFault>
     ensures status { IfOk result (λ status. status ≤ 1) }
@@ -186,7 +194,7 @@ fn run_locked<A: Allocator + Copy, R: Files<File = File> + Net + Alloc + Clone +
         caller,
         called,
         answer,
-    } = run_both(alloc, rt, run.socket, parts, injector, output)?;
+    } = run_both(alloc, rt, run.socket, parts, injector, observer, output)?;
     drop(caller);
     drop(called);
     answer
@@ -199,6 +207,7 @@ pub fn run_both<
     'a,
     A: Allocator + Copy,
     R: Files<File = File> + Net + Alloc + Clone + Drop,
+    W: SessionObserver + Drop,
     O: Output,
 >(
     alloc: A,
@@ -206,6 +215,7 @@ pub fn run_both<
     socket: &str,
     parts: PairParts<'a, R, A>,
     injector: FaultInjector,
+    observer: W,
     output: &mut O,
 ) -> Result<FinishedPair<'a, R, A>, AllocError>
     requires caller_calm { parts.caller.jobs.file.faults.count ≡ 0 }
@@ -254,7 +264,15 @@ pub fn run_both<
             return Err(AllocError);
         }
     };
-    let answer = run_ends(alloc, rt, socket, &mut caller, &mut called, output);
+    let answer = run_ends(
+        alloc,
+        rt,
+        socket,
+        &mut caller,
+        &mut called,
+        observer,
+        output,
+    );
     Ok(FinishedPair {
         caller,
         called,
@@ -262,13 +280,20 @@ pub fn run_both<
     })
 }
 
-/// Joins both ends by a socket, and runs them.
-fn run_ends<'a, A: Allocator + Copy, R: Files<File = File> + Net + Alloc + Clone + Drop, O: Output>(
+/// Joins both ends by a socket that is observed, and runs them.
+fn run_ends<
+    'a,
+    A: Allocator + Copy,
+    R: Files<File = File> + Net + Alloc + Clone + Drop,
+    W: SessionObserver + Drop,
+    O: Output,
+>(
     alloc: A,
     rt: &R,
     socket: &str,
     caller: &mut SystemEnd<'a, R, A>,
     called: &mut SystemEnd<'a, R, A>,
+    observer: W,
     output: &mut O,
 ) -> Result<u8, RunFault>
     requires caller_calm { caller.old.jobs.file.faults.count ≡ 0 }
@@ -289,7 +314,7 @@ fn run_ends<'a, A: Allocator + Copy, R: Files<File = File> + Net + Alloc + Clone
     ensures no_other { IfErr result IsSessionFault }
 {
     events_follow_events();
-    let mut line = open_wire(rt, socket)?;
+    let mut line = open_watched_wire(rt, socket, observer)?;
     let result = pair_over(alloc, caller, called, &mut line, TURNS_MAX, output);
     let first = failure_of(caller).or(failure_of(called)).or(line.failure());
     with_cause(result, first)

@@ -21,6 +21,7 @@ mod timed_stream;
 mod waited_line;
 mod waiters;
 mod waiting;
+mod watched_wire;
 mod wire_line;
 mod wire_socket;
 
@@ -41,5 +42,6 @@ pub use system_output::SystemOutput;
 pub use timed_line::TimedLine;
 pub use timed_stream::TimedStream;
 pub use waiters::Waiters;
+pub use watched_wire::{WatchedWire, open_watched_wire};
 pub use wire_line::WireLine;
 pub use wire_socket::open_wire;

@@ -3,6 +3,7 @@ ghost use Rattle.uug_conversation.specs.Turns.{other};
 ghost use Rattle.uug_conversation.specs.declared.side.Side.{Side};
 ghost use Rattle.uug_session.specs.Engine.{HasFailed};
 
+use crate::status::SessionStatus;
 use thiserror::Error;
 use uug_session::Side;
 
@@ -47,6 +48,12 @@ pub trait Line {
         ensures fault { OnErr result
             (HasFailed u64.MAX (fault_count self.old) (fault_count self.new)) }
         ensures grows { fault_count self.old ≤ fault_count self.new };
+
+    /// Notes how far the caller's session is. A line that only carries bytes ignores it.
+    fn note(&mut self, _status: SessionStatus)
+        ensures unread { (side : Side) → unread self.new side ≡ unread self.old side }
+        ensures calm { fault_count self.new ≡ fault_count self.old }
+    {}
 
     /// Returns the number of bytes on their way to the end on this side.
     fn unread(&self, side: Side) -> usize

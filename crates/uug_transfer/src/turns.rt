@@ -36,6 +36,7 @@ pub fn run_turns<S: Spool + Drop, T: Spool + Drop, L: Line, A: Allocator + Copy>
     let result = take_turns(caller, called, line, limit);
     caller.hang_up();
     called.hang_up();
+    line.note(caller.status(true));
     result
 }
 

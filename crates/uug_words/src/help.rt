@@ -181,7 +181,7 @@ pub const PEER_OF: &str = "With --spool: the name of the system";
 pub const LOCKS_OF: &str =
     "With --spool: the folder of the lock files, among which is the mark of a session";
 
-pub const WHY: &str = "Says why it gave up, where it did";
+pub const WHY: &str = "Says why it gave up, and at a terminal how each job goes";
 
 pub const USER: &str = "Who queues it; without it USER, LOGNAME or uucp";
 

@@ -15,7 +15,7 @@ use std::{env, fs, io, process};
 use uug_disk::{SystemText, lock_dir};
 use uug_failure::{Cause, EndDir, EndText, Resource, RunFault, SystemFailure};
 use uug_folder::TextFile;
-use uug_pair::{PairRun, pair_run, pair_run_with_reason};
+use uug_pair::{PairRun, Unwatched, pair_run, pair_run_with_reason};
 use uug_refusal::Refusing;
 use uug_stream::ToolFault;
 
@@ -522,7 +522,7 @@ fn run_ends<A: Allocator + Copy>(
         drop_every,
         flip_every,
     };
-    match pair_run_with_reason(alloc, rt, &run, output) {
+    match pair_run_with_reason(alloc, rt, &run, Unwatched, output) {
         Ok(status) => (Ok(status), None),
         Err(fault) => {
             let failure = failure_in(&fault);
