@@ -183,8 +183,15 @@ class Answer:
         journal.fail("Out of sequence call rejected" if said else "No sequence number (call rejected)")
         return False
 
+    def make_folder(self, system: str) -> None:
+        """Makes a system's folder in the spool: who has none there is given no file that it asks for."""
+        if "/" not in system and not system.startswith("."):
+            with contextlib.suppress(OSError):
+                (self.site.spool / system).mkdir(mode=0o755, exist_ok=True)
+
     def relay(self, admission: Admission, options: bytes) -> int:
         """Runs a session that hears the greeting again."""
+        self.make_folder(admission.system)
         status: list[int] = []
         try:
             with relayed(self.words(admission, options), status) as session:
