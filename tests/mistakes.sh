@@ -924,7 +924,7 @@ misspoken "sessions of a call" call unix:s a --me alpha --peer beta --sessions=2
     "uucpair: --sessions is for answer: a call has one session"
 misspoken "an option of call behind answer" answer unix:s a --me alpha --peer beta --fail-status -- \
     "error: unexpected argument '--fail-status' found" "uucpair: --fail-status is for call"
-for option in "--public pub" "--stats Stats" "--grade A" "--grade=-" "--port-name ttyS0" --no-give --no-take; do
+for option in "--public pub" "--stats Stats" "--grade A" "--grade=-" "--port-name ttyS0" "--give none" "--take ~/in"; do
     first=${option%%[ =]*}
     needs_spool="${usage}$first is for a spool: give --spool too, or leave it out"
     # shellcheck disable=SC2086  # an option and its word

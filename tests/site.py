@@ -557,6 +557,58 @@ def scene_work_of_grades(scene: Scene, caller: str, called: str) -> None:
         scene.row(f"{name}: the rest waits: {queued}", queued == tuple(len(one.split()) for one in left))
 
 
+def empty_public(node: Node, *folders: str) -> None:
+    """Makes the public folder of a node anew, with these folders in it."""
+    shutil.rmtree(node.folder / "pub", ignore_errors=True)
+    for name in ("", *folders):
+        path = node.folder / "pub" / name
+        path.mkdir()
+        path.chmod(0o777)
+        shutil.chown(path, "uucp", "uucp")
+
+
+def scene_folders(scene: Scene, who: str, role: str) -> None:
+    """`remote-send`, `remote-receive`: the last folder of a list that has a file decides whether it is given, or taken."""
+    ours, other = (scene.alpha, scene.beta) if role == "calls" else (scene.beta, scene.alpha)
+    command = " ".join(scene.beta.words(who if role == "answers" else "taylor", "-q"))
+    for folders, are_open in (
+        ("", ["", "in", "shut"]),
+        ("~ !~/shut", ["", "in"]),
+        ("!~/shut ~", ["", "in", "shut"]),
+        ("~/in", ["in"]),
+        (f"{ours.folder}/pub/in", ["in"]),
+        ("/ !~ ~/in", ["in"]),
+        ("/nowhere", []),
+    ):
+        rules = {ours.name: [f"{keyword} {folders}" for keyword in ("remote-send", "remote-receive") if folders], other.name: []}
+        scene.alpha.put("sys", "")
+        scene.beta.put("sys", "")
+        scene.alpha.knows("beta", "time any", "protocol g", 'chat ""', "port type pipe", f"port command {command}", *rules["alpha"])
+        scene.beta.knows("alpha", "protocol g", *rules["beta"])
+        empty_public(ours, "in", "shut")
+        empty_public(other)
+        (other.folder / "pub/file").write_text("text\n")
+        for name in ("", "in", "shut"):
+            (ours.folder / "pub" / name / "x").write_text("text\n")
+            for words in (
+                (f"{ours.name}!{Path('~', name, 'x')}", f"~/asked-{name}"),
+                (f"{other.folder}/pub/file", f"{ours.name}!{Path('~', name, 'sent')}"),
+            ):
+                as_uucp(["uucp", "-I", str(other.config), "-r", *words]).wait()
+        other.put("log/Log", "")
+        status = scene.alpha.run(who if role == "calls" else "taylor", "-q", "-S", "beta")
+        wait_until(lambda: not scene.beta.locks(), 5)
+        given = [name for name in ("", "in", "shut") if (other.folder / "pub" / f"asked-{name}").exists()]
+        taken = [name for name in ("", "in", "shut") if (ours.folder / "pub" / name / "sent").exists()]
+        name = f"{folders!r}, {who} {role}"
+        scene.row(f"{name}: the call is done", status == 0)
+        scene.row(f"{name}: given: {given}", given == are_open)
+        scene.row(f"{name}: taken: {taken}", taken == are_open)
+        scene.row(f"{name}: nothing is queued", not other.queued(ours.name))
+        denied = other.log().count("permission denied by remote") + other.log().count("no such file")
+        scene.row(f"{name}: the other hears of each that is refused: {denied}", denied == 2 * (3 - len(are_open)))
+
+
 def scene_requests(scene: Scene, who: str, role: str) -> None:
     """`send-request`, `receive-request`: what the other system may ask for, and send; what is asked for here comes always."""
     ours, other = (scene.alpha, scene.beta) if role == "calls" else (scene.beta, scene.alpha)
@@ -573,10 +625,7 @@ def scene_requests(scene: Scene, who: str, role: str) -> None:
         scene.alpha.knows("beta", "time any", 'chat ""', "port type pipe", f"port command {command}", *rules["alpha"])
         scene.beta.knows("alpha", *rules["beta"])
         for node in (ours, other):
-            shutil.rmtree(node.folder / "pub", ignore_errors=True)
-            (node.folder / "pub").mkdir()
-            (node.folder / "pub").chmod(0o777)
-            shutil.chown(node.folder / "pub", "uucp", "uucp")
+            empty_public(node)
             for name in ("asked", "sent"):
                 (node.folder / "pub" / f"{name}-{node.name}").write_text("text\n")
             there = scene.beta if node is scene.alpha else scene.alpha
@@ -1029,7 +1078,6 @@ def scene_stops(scene: Scene) -> None:
     command = f"port command {' '.join(scene.beta.words('taylor', '-q'))}"
     for line, said in (
         ("protocol t", "the other end must offer g"),
-        ("remote-receive ~ !~/private", "remote-receive"),
         ("port seven-bit true", "eight"),
     ):
         scene.alpha.put("sys", "")
@@ -1492,6 +1540,7 @@ PARTS = {
     "sequence": PEERS,
     "called_chat": PEERS,
     "work_of_grades": PEERS,
+    "folders": (("ours", "calls"), ("ours", "answers"), ("taylor", "calls"), ("taylor", "answers")),
     "requests": (("ours", "calls"), ("ours", "answers"), ("taylor", "calls"), ("taylor", "answers")),
     "unknown": (("ours",), ("taylor",)),
 }

@@ -31,6 +31,7 @@ from uucp_site import (  # noqa: E402
     chat,
     check,
     configuration,
+    folders,
     journal,
     lines,
     logins,
@@ -576,20 +577,6 @@ def rows_of_logins(folder: Path) -> Iterator[Row]:
 
 
 def rows_of_obstacles(folder: Path) -> Iterator[Row]:
-    for words, allowed in (
-        (["~"], True),
-        ([], False),
-        (["/"], True),
-        (["/srv"], True),
-        (["/srv/pub"], True),
-        (["/srv/pu"], False),
-        (["~/x"], False),
-        (["/", "!~"], False),
-        (["!/", "~"], True),
-        (["~", "!~/x"], True),
-        (["/srv/pub/"], True),
-    ):
-        yield f"public by {words}", sessions.is_public(words, "/srv/pub"), allowed
     good = dict(gives=["~"], takes=["~"], public="/srv/pub")
     for change, keywords in (
         ({}, []),
@@ -598,7 +585,7 @@ def rows_of_obstacles(folder: Path) -> Iterator[Row]:
         ({"counts": True}, []),
         ({"gives": []}, []),
         ({"takes": ["/x"]}, []),
-        ({"takes": ["~", "!~/x"]}, ["remote-receive"]),
+        ({"takes": ["~", "!~/x"]}, []),
         ({"calls_send": False}, []),
         ({"chat": Chat([], "/x \\P")}, ["chat-program"]),
     ):
@@ -623,6 +610,43 @@ def rows_of_obstacles(folder: Path) -> Iterator[Row]:
         yield f"an answer with {change}", [one.keyword for one in obstacles.of_answer(Alternate(**{**good, **change}))], keywords
 
 
+def rows_of_folders(folder: Path) -> Iterator[Row]:
+    for word, rule, honoured in (
+        ("~", "~", True),
+        ("~/", "~", True),
+        ("/srv/pub", "~", True),
+        ("/srv/pub/", "~", True),
+        ("/srv", "~", False),
+        ("/", "~", False),
+        ("!~", "!~", True),
+        ("!/", "!~", True),
+        ("~/x", "~/x", True),
+        ("~/x/", "~/x", True),
+        ("/srv/pub/x", "~/x", True),
+        ("~/x/y", "~/x/y", False),
+        ("!~/x", "!~/x", True),
+        ("!/srv/pub/x", "!~/x", True),
+        ("!~/x/y", "!~/x/y", True),
+        ("/srv/pu", None, False),
+        ("/home/ftp", None, False),
+        ("!/etc", None, True),
+        ("~/../x", None, False),
+        ("~nobody-has-this-name/x", None, False),
+    ):
+        yield f"the rule of {word}", folders.rule_of(word, "/srv/pub/"), rule
+        yield f"{word} is honoured", folders.is_honoured(word, ["/srv/pub/"]), honoured
+    yield "of another public folder", folders.is_honoured("/home/ftp", ["/srv/pub", "/home/ftp"]), True
+    for gives, takes, words in (
+        (["~"], ["/"], []),
+        ([], ["~"], ["--give", "none"]),
+        (["/p"], ["/x"], ["--take", "none"]),
+        (["/", "!~"], [], ["--give", "~ !~", "--take", "none"]),
+        (["~", "!~/x", "!/etc"], ["~/in", "/home/ftp"], ["--give", "~ !~/x", "--take", "~/in"]),
+    ):
+        one = Alternate(public="/p/", gives=gives, takes=takes)
+        yield f"folders {gives}, {takes}", folders.folder_words(one, one.public), words
+
+
 def rows_of_sessions(folder: Path) -> Iterator[Row]:
     for g, speed, words in (
         ({}, 0, []),
@@ -641,14 +665,6 @@ def rows_of_sessions(folder: Path) -> Iterator[Row]:
     none = ["--grade=-"]
     for grade, sends, words in (("z", True, []), ("C", True, ["--grade", "C"]), ("C", False, none), ("z", False, none)):
         yield f"work of {grade}, {sends}", sessions.grade_words(grade, sends), words
-    for gives, takes, words in (
-        (["~"], ["/"], []),
-        ([], ["~"], ["--no-give"]),
-        (["/p"], ["/x"], ["--no-take"]),
-        (["/", "!~"], [], ["--no-give", "--no-take"]),
-    ):
-        one = Alternate(public="/p/", gives=gives, takes=takes)
-        yield f"folders {gives}, {takes}", sessions.folder_words(one, one.public), words
     one = Alternate(public="/p", gives=["~"], takes=["~"])
     words = sessions.words_of_session(Site(None, "me"), "call", "me", "far", one, lines.Line("port p", 0, 1, logged="ttyS0"))
     yield "the name of the line", words[-2:], ["--port-name", "ttyS0"]
@@ -1060,9 +1076,15 @@ def rows_of_check(folder: Path) -> Iterator[Row]:
     )
     yield "what stops calls, and where", [(row.where.rpartition("/")[2], row.text, row.note.split(":")[0]) for row in rows], [
         ("sys:1", "system far", "protocol"),
-        ("sys:9", "system near", "remote-receive"),
         ("port:3", "system far", "seven-bit"),
         ("port:3", "system near", "seven-bit"),
+    ]
+    (folder / "lists").mkdir()
+    lists = site_of(folder / "lists", sys="system far\ntime any\nremote-send ~ !~/x ~/y\nremote-receive /srv ~ /home/ftp ~/a/b\n")
+    said = [(row.verdict, row.note.split(":")[0]) for row in check.rows_of(lists) if row.text.startswith("remote-")]
+    yield "lists of folders", said, [
+        ("honoured", "the public folder, and folders right in it"),
+        ("ignored", "/srv /home/ftp ~/a/b"),
     ]
     yield "a keyword that is there often", [
         check.place_of(often, name, obstacles.Obstacle("protocol", "", "")).rpartition("/")[2] for name in ("far", "near")

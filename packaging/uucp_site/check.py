@@ -7,10 +7,13 @@ from pathlib import Path
 
 from . import obstacles, paths
 from .configuration import SECONDS_MAX, Site, System, is_taken, read_site, words_of
+from .folders import is_honoured
 
 HONOURED, IGNORED, STOPS = "honoured", "ignored", "stops the call"
 SECRET = ("call-password",)
 UUXQT = "uuxqt does it"
+FOLDERS = ("remote-send", "remote-receive")
+ELSEWHERE = "what is neither in the public folder nor right in a folder of it is refused: `pubdir` names another"
 # What is done with each keyword; where nothing is said, as with `time`, it is honoured. What stops a call is in `obstacles`.
 KEYWORDS = {
     "sys": {
@@ -32,9 +35,8 @@ KEYWORDS = {
         "free-space": (IGNORED, "a full disk ends the session, and no job is lost"),
         "max-file-time": (IGNORED, "g sends one file at a time"),
         "local-send": (HONOURED, "uucp does it"),
-        "local-receive": (IGNORED, "what is asked for goes to the public folder"),
-        "remote-send": (HONOURED, "of these the public folder; what is elsewhere is refused: `pubdir` names another"),
-        "remote-receive": (HONOURED, "of these the public folder; what is for elsewhere is refused: `pubdir` names another"),
+        "local-receive": (IGNORED, "what is asked for goes to the public folder, and a job for elsewhere is given up"),
+        **dict.fromkeys(FOLDERS, (HONOURED, "the public folder, and folders right in it")),
     },
     "port": {
         **dict.fromkeys(
@@ -105,10 +107,15 @@ def verdict_of_parameter(name: str, value: str) -> tuple[str, str]:
     return (HONOURED if name in PARAMETERS else IGNORED), ""
 
 
-def lines_of(kind: str, path: str) -> Iterator[Row]:
+def lines_of(site: Site, kind: str, path: str) -> Iterator[Row]:
+    publics = {one.public for system in site.systems.values() for one in system.alternates if one.public} or {str(site.public)}
     for number, words in words_of(path):
         text = " ".join([words[0], "..."] if words[0] in SECRET and words[1:] != ["*"] else words)
-        yield Row(f"{path}:{number}", text, *verdict_of(kind, words))
+        verdict = verdict_of(kind, words)
+        shut = [word for word in words[1:] if words[0] in FOLDERS and not is_honoured(word, publics)]
+        if shut:
+            verdict = IGNORED, f"{' '.join(shut)}: {ELSEWHERE}"
+        yield Row(f"{path}:{number}", text, *verdict)
 
 
 def places(site: Site, kind: str, keywords: tuple[str, ...]) -> Iterator[tuple[str | None, str]]:
@@ -163,7 +170,7 @@ def rows_of(site: Site) -> Iterator[Row]:
             stops.setdefault(where, []).append(Row(where, f"system {system.name}", STOPS, str(obstacle)))
     for kind in ("config", "sys", "port", "dial"):
         for path in [site.config or paths.CONFIG] if kind == "config" else site.files.get(kind, []):
-            for row in lines_of(kind, path):
+            for row in lines_of(site, kind, path):
                 yield from stops.pop(row.where, [row])
     for rows in stops.values():
         yield from rows

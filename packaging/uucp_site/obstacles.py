@@ -1,7 +1,6 @@
 """What of a configuration stops a call."""
 from __future__ import annotations
 
-import os
 from collections.abc import Iterator
 from dataclasses import dataclass
 
@@ -26,20 +25,15 @@ def of_chat(keyword: str, chat: Chat) -> Iterator[Obstacle]:
         yield Obstacle(f"{keyword}-program", "\\P would show the password to each user", "use a chat script")
 
 
-def of_system(alternate: Alternate, protocols: str | None) -> Iterator[Obstacle]:
+def of_system(protocols: str | None) -> Iterator[Obstacle]:
     """Yields what stops both calls to a system and calls from it."""
-    public = os.path.normpath(alternate.public)
     if protocols and "g" not in protocols:
         yield Obstacle("protocol", f"{protocols} has no g", "the other end must offer g, and this line name it")
-    for word in alternate.takes:
-        folder = os.path.normpath(word[1:].replace("~", public, 1))
-        if word.startswith("!") and folder.startswith(f"{public}/"):
-            yield Obstacle("remote-receive", f"{word}: a folder of the public one can't be excluded", "move it elsewhere")
 
 
 def of_call(alternate: Alternate, port: Port) -> Iterator[Obstacle]:
     """Yields what stops a call to a system at this port."""
-    yield from of_system(alternate, alternate.protocols or port.protocols)
+    yield from of_system(alternate.protocols or port.protocols)
     yield from of_chat("chat", alternate.chat)
     for keyword, why, remedy in of_port(port):
         yield Obstacle(keyword, why, remedy, port.name)
@@ -58,5 +52,5 @@ def of_port(port: Port) -> Iterator[tuple[str, str, str]]:
 
 def of_answer(alternate: Alternate) -> Iterator[Obstacle]:
     """Yields what stops a call from a system."""
-    yield from of_system(alternate, alternate.protocols)
+    yield from of_system(alternate.protocols)
     yield from of_chat("called-chat", alternate.called_chat)

@@ -8,6 +8,7 @@ import subprocess
 from . import paths
 from .configuration import Alternate, Port, Site, is_taken
 from .faults import SiteError
+from .folders import folder_words
 from .lines import Line
 
 # Below this speed the timer has to leave time for what is on the way.
@@ -40,22 +41,6 @@ def options_of(alternate: Alternate, port: Port | None, speed: int) -> list[str]
 def grade_words(grade: str, sends: bool) -> list[str]:
     """Returns the option for jobs of a grade and higher ones, or for none."""
     return ["--grade", grade] if sends and grade != "z" else [] if sends else ["--grade=-"]
-
-
-def is_public(folders: list[str], public: str) -> bool:
-    """Returns whether the last of these folders that has the public one allows it."""
-    allowed, public = False, os.path.normpath(public)
-    for word in folders:
-        folder = os.path.normpath(word.lstrip("!").replace("~", public, 1))
-        if f"{public}/".startswith(folder if folder == "/" else f"{folder}/"):
-            allowed = not word.startswith("!")
-    return allowed
-
-
-def folder_words(alternate: Alternate, public: str) -> list[str]:
-    """Returns the options for an end that gives nothing of the public folder, or takes nothing into it."""
-    gives = [] if is_public(alternate.gives, public) else ["--no-give"]
-    return gives + ([] if is_public(alternate.takes, public) else ["--no-take"])
 
 
 def words_of_session(site: Site, tool: str, me: str, system: str, alternate: Alternate, line: Line) -> list[str]:

@@ -488,6 +488,58 @@ def files_that_are_asked_for(one):
     one.row("what has come", nodes.pub("alpha"), {"open1": filler("open", 2000), "open2": filler("open", 2000)})
 
 
+@scene()
+def folders_that_are_open(one):
+    """The last folder of a list that holds a file decides. Nothing is given that is hidden or deeper, through a link, or of a folder
+    that not everybody may search."""
+    paths = ["x", "in/x", "shut/x", "in/.x", "in/deep/x", "closed/x", ".hidden/x", "in/private"]
+    places = ["", "in/", "shut/"]
+    for number, (folders, are_open) in enumerate(((None, ["", "in/", "shut/"]), ("~ !~/shut", ["", "in/"]), ("!~/shut ~", ["", "in/", "shut/"]),
+            ("~/in", ["in/"]), ("  ~/in/   ~/shut ", ["in/", "shut/"]), ("~ !~", []), ("", []), ("none ~/i ~/in/deep", []))):
+        nodes = Nodes(one, (f"alpha{number}", f"beta{number}"))
+        caller, called = nodes.names
+        nodes.known(called, caller)
+        pub, src = nodes.at(called, "pub"), nodes.at(caller, "src")
+        for path in paths:
+            write(f"{pub}/{path}", f"{path}\n")
+            os.chmod(f"{pub}/{path}", 0o600 if path.endswith("private") else 0o644)
+        os.chmod(f"{pub}/closed", 0o750)
+        os.makedirs(nodes.at(called, "outside"))
+        write(nodes.at(called, "outside/x"), "outside\n")
+        os.chmod(nodes.at(called, "outside/x"), 0o644)
+        os.symlink("../outside", f"{pub}/link")
+        write(f"{src}/f", "f\n")
+        asked = [*paths, "link/x", "in/none", "none/x"]
+        nodes.queue(caller, "C.N1", *(f"R ~/{path} ~/got{at} u -d" for at, path in enumerate(asked)),
+                    *(f"S {src}/f ~/{place}new u -c D.0 0644 " for place in places))
+        said = [] if folders is None else ["--give", folders, "--take", folders]
+        talked, _ = nodes.talk(answer=said)
+        failed = [f"request ~/{path} ~/got{at} u" for at, path in enumerate(asked) if at > 2 or places[at] not in are_open]
+        failed += [f"send {src}/f ~/{place}new u" for place in places if place not in are_open]
+        one.row(f"{folders}: call", talked.all(), (0, report("caller", struck=2 * len(are_open), failed=failed), ""))
+        one.row(f"{folders}: what was given", nodes.pub(caller), {f"got{at}": f"{place}x\n" for at, place in enumerate(places) if place in are_open})
+        one.row(f"{folders}: what was taken", [place for place in places if f"{place}new" in nodes.pub(called)], are_open)
+
+
+@scene("strace")
+def a_folder_of_the_public_one_that_cant_be_listed_for_a_moment(one):
+    """A file of such a folder is put off, and given in the next session."""
+    from kills import traced
+    nodes = Nodes(one)
+    nodes.known("beta", "alpha")
+    pub = nodes.at("beta", "pub")
+    write(f"{pub}/in/late", "late\n")
+    os.chmod(f"{pub}/in/late", 0o644)
+    nodes.queue("alpha", "C.N0", "R ~/in/late ~/late u -d")
+    called = nodes.answer("beta", peer="alpha", front=traced(one, "-P", f"{pub}/in/", "-e", "inject=openat:error=EMFILE:when=1"))
+    caller, called = nodes.call("alpha", own=False), called.end()
+    one.row("call", caller.all(), (0, report("caller", pending=1), ""))
+    one.row("answer", (called.status, called.out), (0, report("called")))
+    caller, called = nodes.talk()
+    one.row("the next session", (caller.all(), called.all(), nodes.pub("alpha")),
+            ((0, report("caller", struck=1), ""), (0, report("called"), ""), {"late": "late\n"}))
+
+
 @scene("strace")
 def a_public_file_that_cant_be_opened_for_a_moment(one):
     """The answer is that it may be given later, also where the folder can't be listed: the job waits, and the next session brings
@@ -517,11 +569,11 @@ def a_public_file_that_cant_be_opened_for_a_moment(one):
 
 @scene()
 def what_an_end_offers_gives_and_takes(one):
-    """--grade offers jobs of a grade and higher ones, or none; --no-give and --no-take shut the public folder, but not for the end's own
-    requests; --port-name names the line."""
+    """--grade offers jobs of a grade and higher ones, or none; --give and --take name the folders that are open, but not for the end's
+    own requests; --port-name names the line."""
     for number, (options, sent, given, taken) in enumerate(((["--grade", "A"], "A", True, True), (["--grade", "0"], "", True, True),
-            (["--grade=-"], "", True, True), (["--grade", "z"], "ABNz", True, True), (["--no-give"], "ABNz", False, True),
-            (["--no-take"], "ABNz", True, False), (["--no-give", "--no-take", "--grade", "B"], "AB", False, False))):
+            (["--grade=-"], "", True, True), (["--grade", "z"], "ABNz", True, True), (["--give", "none"], "ABNz", False, True),
+            (["--take", "none"], "ABNz", True, False), (["--give=!~", "--take", "~/in", "--grade", "B"], "AB", False, False))):
         for who in ("alpha", "beta"):
             nodes = Nodes(one, (f"alpha{number}{who}", f"beta{number}{who}"))
             ours = nodes.names[who == "beta"]
@@ -550,7 +602,7 @@ def what_is_asked_for_without_taking(one):
     nodes.queue("alpha", "C.A1", f"R ~/open {nodes.at('alpha', 'pub')}/asked w -d")
     write(f"{nodes.at('beta', 'pub')}/open", "open\n")
     os.chmod(f"{nodes.at('beta', 'pub')}/open", 0o644)
-    nodes.talk(call=["--no-take", "--no-give"])
+    nodes.talk(call=["--take", "none", "--give", "none"])
     one.row("what came", nodes.pub("alpha"), {"asked": "open\n"})
 
 

@@ -1,4 +1,5 @@
 pub mod ArrivalLemmas
+mod FolderRuleFacts
 mod MailFacts
 pub mod OpenLinesLemmas
 pub mod OverLemmas

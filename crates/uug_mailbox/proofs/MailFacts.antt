@@ -10,7 +10,8 @@ use Rattle.uug_spool.specs.declared.spool_names.Room.TheVariants as rooms
 use Rattle.uug_mailbox.specs.Offers.{offer_of}
 use Rattle.uug_mailbox.specs.OpenLines.{file_lines, line_of, lines_left}
 use Rattle.uug_mailbox.specs.OverOrder.{store_ops}
-use Rattle.uug_mailbox.specs.Places.{Public, landing, place_in, temp_name}
+use Rattle.uug_mailbox.specs.MailHoldings.{delayed_in}
+use Rattle.uug_mailbox.specs.Places.{Public, is_public_path, landing, place_in, takes, temp_name}
 use Rattle.uug_mailbox.specs.Placing.{end_ops, is_again, marks_after, names_data, no_marks}
 use Rattle.uug_mailbox.specs.Rewriting.{settling_ops}
 use Rattle.uug_mailbox.specs.declared.marks.Came.{Came}
@@ -154,7 +155,7 @@ names_nothing = refl
 -- ---- places
 
 abbrev public : Public
-public = record { folders = codes "in" ∷ []; barred = codes "theirs" ∷ codes "in/theirs" ∷ []; is_closed = false; delayed = codes "late" ∷ []; is_unknown = false; is_taking = true }
+public = record { folders = codes "in" ∷ codes "shut" ∷ []; barred = codes "theirs" ∷ codes "in/theirs" ∷ []; is_closed = false; delayed = codes "late" ∷ codes "~/in/late" ∷ []; is_unknown = false; taken = codes "~ !~/shut" }
 
 record AreLanded : Type 0 where
   home : landing public (codes "/srv/f") (codes "~/") ≡ codes "~/f"
@@ -214,4 +215,44 @@ are_placed = record {
   hidden = refl;
   no_name = refl;
   temp = refl;
+}
+
+record AreTaken : Type 0 where
+  top : takes public (codes "~/x") ≡ true
+  below : takes public (codes "~/in/x") ≡ true
+  shut : takes public (codes "~/shut/x") ≡ false
+  no_place : takes public (codes "~/out/x") ≡ false
+  mail : takes public (codes "D.alphaN0001") ≡ true
+
+are_taken : AreTaken
+unfolding rsplit_once
+are_taken = record { top = refl; below = refl; shut = refl; no_place = refl; mail = refl }
+
+record ArePaths : Type 0 where
+  top : is_public_path (codes "x") ≡ true
+  below : is_public_path (codes "in/x") ≡ true
+  hidden : is_public_path (codes ".x") ≡ false
+  hidden_below : is_public_path (codes "in/.x") ≡ false
+  hidden_folder : is_public_path (codes ".in/x") ≡ false
+  deeper : is_public_path (codes "in/deep/x") ≡ false
+  upwards : is_public_path (codes "../x") ≡ false
+  mail : is_public_path (codes "D.alphaN0001") ≡ false
+  late : delayed_in public (codes "~/late") (Some (codes "late")) ≡ true
+  late_below : delayed_in public (codes "~/in/late") (Some (codes "in/late")) ≡ true
+  no_late : delayed_in public (codes "~/in/x") (Some (codes "in/x")) ≡ false
+
+are_paths : ArePaths
+unfolding rsplit_once
+are_paths = record {
+  top = refl;
+  below = refl;
+  hidden = refl;
+  hidden_below = refl;
+  hidden_folder = refl;
+  deeper = refl;
+  upwards = refl;
+  mail = refl;
+  late = refl;
+  late_below = refl;
+  no_late = refl;
 }

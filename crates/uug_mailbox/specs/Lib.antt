@@ -1,5 +1,6 @@
 pub mod Code
 pub mod Executions
+pub mod FolderRules
 pub mod HeldLines
 pub mod Keeping
 pub mod MailDates

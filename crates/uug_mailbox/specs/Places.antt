@@ -2,7 +2,7 @@
 -- file under its source's last name is what Taylor UUCP 1.07 does; which places are barred is this project's profile).
 use Rattle.std.specs.Option.{option_map, unwrap_or}
 use Rattle.std.specs.Path.{rsplit_once, slash}
-use Rattle.std.specs.Prelude.{◌==◌, ◌&&◌, ◌||◌, ◌-◌, not, ℕ, Bool, true, false, List, [], ◌++◌, length, take, codes, nat_eq, is_none, Option, Some, None, Result, Ok, Err, if◌then◌else◌}
+use Rattle.std.specs.Prelude.{◌==◌, ◌&&◌, ◌||◌, ◌-◌, not, ℕ, Bool, true, false, List, [], ◌++◌, length, take, codes, nat_eq, is_none, string_bytes, Option, Some, None, Result, Ok, Err, if◌then◌else◌}
 use Rattle.std.specs.List.{ends_with}
 use Rattle.uug_conversation.specs.MemoryHoldings.{has_name}
 use Rattle.uug_talk.specs.Name.{name_of}
@@ -11,6 +11,7 @@ use Rattle.uug_spool.specs.declared.spool_names.Barred.{Barred}
 use Rattle.uug_spool.specs.declared.spool_names.Room.{Room}
 use Rattle.uug_spool.specs.declared.spool_names.Room.TheVariants as rooms
 use Rattle.uug_spool.specs.declared.spool_names.Spot.{Spot}
+use Rattle.uug_mailbox.specs.FolderRules.{is_allowed}
 use Rattle.uug_mailbox.specs.declared.places.PublicFolder.{PublicFolder}
 
 -- the public folder, as it is when the session begins
@@ -25,11 +26,11 @@ pub record Public : Type 0 where
   pub delayed : List (List ℕ)
   -- its files could not be listed: each may be given later
   pub is_unknown : Bool
-  -- the other system may send files there
-  pub is_taking : Bool
+  -- the folders into which the other system may send files
+  pub taken : List ℕ
 
 abbrev pub shown_public : {A : Type 0} → PublicFolder A → Public
-shown_public p = record { folders = p.folders.items; barred = p.barred.items; is_closed = p.is_closed; delayed = p.delayed.items; is_unknown = p.is_unknown; is_taking = p.is_taking }
+shown_public p = record { folders = p.folders.items; barred = p.barred.items; is_closed = p.is_closed; delayed = p.delayed.items; is_unknown = p.is_unknown; taken = string_bytes p.taken }
 
 -- ---- names
 
@@ -64,6 +65,14 @@ abbrev pub is_public_last : Option (List ℕ) → Bool
 is_public_last None = false
 is_public_last (Some name) = is_public_name name
 
+abbrev pub is_path_by : (path : List ℕ) → Option (List ℕ × List ℕ) → Bool
+is_path_by path None = is_public_name path
+is_path_by path (Some parts) = is_public_last (name_of parts.0) && is_public_last (name_of parts.1)
+
+-- a path below the public folder under which a file may be given: a name there, or that of a folder there, a slash and such a name
+abbrev pub is_public_path : (path : List ℕ) → Bool
+is_public_path path = is_path_by path (rsplit_once slash path)
+
 -- in a folder there
 abbrev pub deep_by : Public → (name : List ℕ) → Option (List ℕ × List ℕ) → Option Spot
 deep_by public name None = None
@@ -85,9 +94,10 @@ place_in public name = placed public name (spot_of name)
 
 abbrev pub takes_at : Public → (place : Option Spot) → Bool
 takes_at public None = false
-takes_at public (Some target) = if is_public target.room then public.is_taking else true
+takes_at public (Some target) = if is_public target.room then is_allowed public.taken target.name else true
 
--- whether a file is taken that the other system sends under this name: one that has a place, unless nothing is taken there
+-- whether a file is taken that the other system sends under this name: one that has a place, and in the public folder one that the
+-- list of folders allows
 abbrev pub takes : Public → (name : List ℕ) → Bool
 takes public name = takes_at public (place_in public name)
 

@@ -12,14 +12,14 @@ ghost use Rattle.uug_mailbox.specs.Placing.{came_of, marks_of, place_ops};
 ghost use Rattle.uug_spool.specs.Operations.{FrontDone, also_all};
 ghost use Rattle.uug_talk.specs.declared.mode.TheConstants.{MODE_MAX};
 
-use crate::places::PublicFolder;
+use crate::places::{PublicFolder, is_public_path};
 use crate::spool_folder::SpoolFolder;
 use std::alloc::{AllocError, Allocator};
 use std::snapshot::Snapshot;
 use uug_conversation::has_name;
 use uug_folder::{Notebook, local_source};
 use uug_session::{FileLimit, FileView, KeepFault, Partials, Spool, Stored, Verdict};
-use uug_spool::Disk;
+use uug_spool::{Disk, local_name};
 use uug_talk::{FileDigest, MODE_MAX, Name};
 
 /// The settings of an end over a spool.
@@ -118,7 +118,8 @@ impl<D: Disk, N: Notebook, A: Allocator + Copy> Spool for MailSpool<D, N, A> {
     }
 
     fn is_delayed(&self, name: &Name) -> bool {
-        is_delayed_in(&self.public, &local_source(name))
+        let path = Name::new(local_name(name.as_bytes())).ok();
+        is_delayed_in(&self.public, name, &path)
     }
 
     fn held(&self, source: &Name, told: &FileDigest) -> &[u8] {
@@ -205,14 +206,18 @@ impl<D: Disk, N: Notebook, A: Allocator + Copy> Spool for MailSpool<D, N, A> {
     } };
 }
 
-/// Returns whether the file of this name in the public folder may be given later.
-fn is_delayed_in<A: Allocator>(public: &PublicFolder<A>, name: &Option<Name>) -> bool
-    ensures { result ≡ delayed_in (shown_public public.now) name.now }
+/// Returns whether the file that is asked for by this name, which has this path in the public folder, may be given later.
+fn is_delayed_in<A: Allocator>(public: &PublicFolder<A>, name: &Name, path: &Option<Name>) -> bool
+    ensures { result ≡ delayed_in (shown_public public.now) name.now path.now }
 {
-    match name {
-        Some(name) => public.is_unknown || has_name(public.delayed.as_slice(), name.as_bytes()),
-        None => false,
+    let Some(path) = path else {
+        return false;
+    };
+    if public.is_unknown {
+        return is_public_path(path);
     }
+    has_name(public.delayed.as_slice(), path.as_bytes())
+        || has_name(public.delayed.as_slice(), name.as_bytes())
 }
 
 /// Returns the file under just this name, or else that of this name in the public folder.

@@ -1,10 +1,11 @@
 //! The place of a file that another system sends, by what is in the public folder when the session begins.
 ghost use Rattle.std.specs.Path.{rsplit_once, slash};
 ghost use Rattle.std.specs.Prelude.{◌≡◌, ◌++◌, MatchOption, None, Some, codes};
-ghost use Rattle.uug_mailbox.specs.Places.{deep_by, deep_place, front_of, is_public_last, is_public_name, is_spooled, is_taken, landing, last_part, place_in, placed, shown_public, takes, temp_name, top_place, without_slash};
+ghost use Rattle.uug_mailbox.specs.Places.{deep_by, deep_place, front_of, is_public_last, is_public_name, is_public_path, is_spooled, is_taken, landing, last_part, place_in, placed, shown_public, takes, temp_name, top_place, without_slash};
 ghost use Rattle.uug_spool.specs.SpoolNames.{local_name, spot_of};
 ghost use Rattle.uug_talk.specs.Name.{name_of};
 
+use crate::folder_rules::is_allowed;
 use arrayvec::ArrayVec;
 use std::alloc::Allocator;
 use uug_conversation::has_name;
@@ -27,8 +28,8 @@ pub struct PublicFolder<A: Allocator> {
     pub delayed: Vec<Name, A>,
     /// True if its files could not be listed: each may be given later.
     pub is_unknown: bool,
-    /// True if the other system may send files there.
-    pub is_taking: bool,
+    /// The folders into which the other system may send files: a list of them (see `is_allowed`).
+    pub taken: String<A>,
 }
 
 /// Splits a path at its last slash, if it has one.
@@ -71,15 +72,15 @@ impl<A: Allocator> PublicFolder<A> {
         self.placed(name, spot_of(name))
     }
 
-    /// Returns whether a file is taken that the other system sends under this name: one that has a place, unless that is in the public
-    /// folder and nothing is taken there.
+    /// Returns whether a file is taken that the other system sends under this name: one that has a place. If that is in
+    /// the public folder, the list of folders has to allow it.
     pub fn takes(&self, name: &Name) -> bool
         ensures { result ≡ takes (shown_public self.now) name.now }
     {
         match self.place_in(name) {
             Some(target) => {
                 if target.room == Room::Public {
-                    self.is_taking
+                    is_allowed(self.taken.as_str(), target.name.as_bytes())
                 } else {
                     true
                 }
@@ -198,7 +199,7 @@ fn without_slash(name: &[u8]) -> &[u8]
 
 /// Returns the name with this last part in this folder of the public folder, or right in the public folder if `folder`
 /// is empty. `None` if that is no name.
-fn below_home(folder: &[u8], last: &[u8]) -> Option<Name>
+pub fn below_home(folder: &[u8], last: &[u8]) -> Option<Name>
     ensures { result ≡ name_of (codes "~/" ++ front_of folder.now ++ last.now) }
 {
     if folder.len() + last.len() > NAME_MAX {
@@ -217,6 +218,18 @@ fn below_home(folder: &[u8], last: &[u8]) -> Option<Name>
         unreachable!();
     };
     Name::new(path.as_slice()).ok()
+}
+
+/// Returns whether a path below the public folder is one under which a file may be given: a name there, or that of a
+/// folder there, a slash and such a name.
+pub fn is_public_path(path: &Name) -> bool
+    ensures { result ≡ is_public_path path.now }
+{
+    match split_last(path.as_str()) {
+        Some((folder, last)) => is_public_last(folder.as_bytes())
+            && is_public_last(last.as_bytes()),
+        None => is_public_name(path),
+    }
 }
 
 /// Returns whether these bytes are a name that is in the public folder by itself.

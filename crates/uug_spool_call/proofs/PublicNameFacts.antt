@@ -1,8 +1,8 @@
 -- Public folders, and names in them, that are known, so that a wrong definition does not check.
-use Rattle.std.proofs.Common.{◌≡◌, codes, Some, None, refl}
+use Rattle.std.proofs.Common.{◌≡◌, codes, true, false, Some, None, refl}
 use Rattle.std.specs.Path.{rsplit_once}
 use Rattle.uug_conversation.specs.declared.job.Job.TheVariants.{Request, Send}
-use Rattle.uug_spool_call.specs.PublicNames.{named_job, public_beside, public_name, without_slash}
+use Rattle.uug_spool_call.specs.PublicNames.{is_given, named_job, public_beside, public_name, without_slash}
 
 record ArePublic : Type 0 where
   debian : public_beside (codes "/var/spool/uucp") ≡ codes "/var/spool/uucppublic"
@@ -27,3 +27,17 @@ record AreNamed : Type 0 where
 
 named : AreNamed
 named = record { inside = refl; itself = refl; beside = refl; elsewhere = refl; asked = refl; sent = refl }
+
+record AreGiven : Type 0 where
+  top : is_given (codes "~") (codes "x") ≡ true
+  below : is_given (codes "~") (codes "~/out/x") ≡ true
+  barred : is_given (codes "~ !~/out") (codes "~/out/x") ≡ false
+  alone : is_given (codes "~/out") (codes "~/out/x") ≡ true
+  alone_above : is_given (codes "~/out") (codes "x") ≡ false
+  hidden : is_given (codes "~") (codes "~/out/.x") ≡ false
+  deeper : is_given (codes "~") (codes "~/out/deep/x") ≡ false
+  mail : is_given (codes "~") (codes "D.alphaN0001") ≡ false
+
+given : AreGiven
+unfolding rsplit_once
+given = record { top = refl; below = refl; barred = refl; alone = refl; alone_above = refl; hidden = refl; deeper = refl; mail = refl }

@@ -3,16 +3,14 @@ use Rattle.std.specs.Borrow.{Bor}
 use Rattle.std.specs.List.{ends_with, list_all, starts_with}
 use Rattle.std.specs.Option.{option_map, unwrap_or}
 use Rattle.std.specs.Path.{rsplit_once, slash}
-use Rattle.std.specs.Prelude.{◌&&◌, ◌==◌, ◌≡◌, ◌-◌, ℕ, Bool, true, false, List, ◌++◌, length, take, drop, map, codes, nat_eq, Option, Some, None, Result, Ok, Err, if◌then◌else◌}
+use Rattle.std.specs.Prelude.{◌&&◌, ◌==◌, ◌≡◌, ◌-◌, ℕ, Bool, true, false, List, ◌++◌, length, take, drop, map, codes, nat_eq, Option, Some, None, if◌then◌else◌}
 use Rattle.uug_conversation.specs.declared.job.Job.{Job}
 use Rattle.uug_conversation.specs.declared.job.Job.TheVariants.{Request, Send}
 use Rattle.uug_conversation.specs.declared.stored.Stored.{Stored}
 use Rattle.uug_mailbox.specs.declared.open_line.OpenLine.{OpenLine}
-use Rattle.uug_spool.specs.SpoolNames.{spot_of}
-use Rattle.uug_spool.specs.declared.spool_names.Barred.{Barred}
-use Rattle.uug_spool.specs.declared.spool_names.Room.{Room}
-use Rattle.uug_spool.specs.declared.spool_names.Room.TheVariants as rooms
-use Rattle.uug_spool.specs.declared.spool_names.Spot.{Spot}
+use Rattle.uug_mailbox.specs.FolderRules.{is_allowed}
+use Rattle.uug_mailbox.specs.Places.{is_public_path}
+use Rattle.uug_spool.specs.SpoolNames.{local_name}
 use Rattle.uug_talk.specs.Name.{name_of}
 
 -- ---- where it is
@@ -59,27 +57,27 @@ public_name public name = named_by name (behind_public public name)
 
 -- ---- the files in it
 
-abbrev pub is_room : Room → Bool
-is_room rooms.Public = true
-is_room _ = false
+-- One is given under its name there, or under ~/ and its path where it is in a folder there.
+abbrev pub path_of : (name : List ℕ) → Option (List ℕ)
+path_of name = name_of (local_name name)
 
-abbrev pub is_public : Result Spot Barred → Bool
-is_public (Ok spot) = is_room spot.room
-is_public (Err why) = false
+abbrev pub is_given_at : (folders : List ℕ) (path : Option (List ℕ)) → Bool
+is_given_at folders None = false
+is_given_at folders (Some path) = is_public_path path && is_allowed folders path
 
--- one is given under its name where a file of that name would come there
-abbrev pub is_given : (name : List ℕ) → Bool
-is_given name = is_public (spot_of name)
+-- one whose path may be said is given where the list of folders allows it
+abbrev pub is_given : (folders name : List ℕ) → Bool
+is_given folders name = is_given_at folders (path_of name)
 
 -- as everybody may read it: octal 644
-abbrev pub is_public_file : {A : Type 0} → Stored A → Bool
-is_public_file file = is_given file.name && file.mode == 420
+abbrev pub is_public_file : {A : Type 0} → (folders : List ℕ) → Stored A → Bool
+is_public_file folders file = is_given folders file.name && file.mode == 420
 
 -- What an end gives of its jobs stays in front, and behind it come such files.
-pub record AddsPublic {A : Type 0} (files files_after : List (Stored A)) : Type 0 where
+pub record AddsPublic {A : Type 0} (folders : List ℕ) (files files_after : List (Stored A)) : Type 0 where
   pub more : List (Stored A)
   pub is_all : files_after ≡ files ++ more
-  pub are_public : list_all is_public_file more ≡ true
+  pub are_public : list_all (is_public_file folders) more ≡ true
 
 -- ---- the jobs
 

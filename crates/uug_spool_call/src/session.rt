@@ -14,7 +14,7 @@ ghost use Rattle.uug_transfer.specs.Moments.{IsLed, end_now};
 
 use crate::arrivals::{Arrivals, finish_arrivals};
 use crate::notices::mail_failed;
-use crate::public_files::{add_public, look_at_public};
+use crate::public_files::{Giver, add_given, look_at_public};
 use crate::resumed::{hold_left_of, read_held};
 use crate::spool_call::{SpoolCall, paths_of};
 use crate::spool_end::{SpoolEnd, SpoolFiles};
@@ -163,6 +163,7 @@ where
     ensures no_other { IfErr result IsFolderFault }
 {
     refuse_links(alloc, rt, call, paths)?;
+    let taken = String::from_str(alloc, call.rules.takes)?;
     let mut ungiven = Vec::new(alloc);
     let listing = look_at_public(&mut ungiven, alloc, rt, paths)?;
     let PublicListing {
@@ -178,16 +179,16 @@ where
         is_closed,
         delayed: Vec::new(alloc),
         is_unknown,
-        is_taking: call.is_taking,
+        taken,
     };
     let Arrivals { came, aside } = finish_arrivals(alloc, rt, paths, &mut public)?;
     let mut work = read_work(alloc, rt, paths, &place.me, call.allowance, call.grade)?;
     work.came = came;
     work.aside = aside;
     // A caller that the spool does not know is given nothing.
-    if call.is_giving && (call.side == Side::Caller || is_known(alloc, rt, paths)?) {
-        let (names, most) = (files.as_slice(), call.allowance.bytes);
-        add_public(&mut work.files, &mut ungiven, alloc, rt, paths, names, most)?;
+    if call.side == Side::Caller || is_known(alloc, rt, paths)? {
+        let giver = Giver::new(alloc, rt, paths, call);
+        add_given(&mut work.files, &mut ungiven, &mut public, &giver, files)?;
     }
     public.delayed = names_of(alloc, ungiven.as_slice())?;
     work.ungiven = ungiven;

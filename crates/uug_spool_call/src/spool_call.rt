@@ -9,6 +9,7 @@ use uug_mailbox::split_last;
 use uug_session::Side;
 use uug_spool_disk::SpoolPaths;
 use uug_talk::Name;
+use uug_task::FolderRules;
 use uug_transfer::Thinning;
 
 /// The task of a call over a spool.
@@ -28,10 +29,8 @@ pub struct SpoolCall<'a> {
     pub grade: Option<&'a str>,
     /// The name of its line in the log and the statistics.
     pub port: &'a str,
-    /// True if it gives files of the public folder.
-    pub is_giving: bool,
-    /// True if it takes files into the public folder that it does not ask for.
-    pub is_taking: bool,
+    /// The folders of which it gives files, and into which it takes files that it does not ask for.
+    pub rules: FolderRules<'a>,
     /// True if it refuses what it can't read, and goes on.
     pub is_lenient: bool,
     /// True if it announces digests of its files, and compares those that it reads.

@@ -14,8 +14,8 @@ pub use moments::seconds_since_1970;
 pub use public_listing::{PublicListing, list_public};
 pub use spool_disk::{Arrived, Preserved, SpoolDisk};
 pub use spool_files::{
-    is_known, is_no_place, is_there, linked_room, list_room, read_public, read_source, read_spot,
-    read_whole,
+    is_known, is_no_place, is_there, linked_room, list_below, list_room, read_public, read_source,
+    read_spot, read_whole,
 };
 pub use spool_paths::SpoolPaths;
 pub use writable::{see_removable, see_rewritable};

@@ -4,7 +4,7 @@ ghost use Rattle.std.specs.IoError.{error_kind};
 ghost use Rattle.std.specs.Prelude.{◌<◌, ◌≡◌, ◌≢◌, ◌≤◌, ◌↔◌, false, true, Err, IfErr, IfOk, IfSome, IsErr, IsTrue, None, Ok, Some, length};
 ghost use Rattle.uug_failure.specs.Faults.{IsFolderFault};
 ghost use Rattle.uug_failure.specs.Passing.{is_out_of_reach};
-ghost use Rattle.uug_spool_disk.specs.Read.{MayAllRead};
+ghost use Rattle.uug_spool_disk.specs.Read.{MayAllRead, MayAllSearch};
 ghost use Rattle.uug_spool_disk.specs.Reach.{is_no_place};
 
 use crate::spool_paths::SpoolPaths;
@@ -20,6 +20,9 @@ use uug_talk::Name;
 
 /// The bit of a file's mode that is set if everybody may read the file.
 const ALL_MAY_READ: u32 = 0o004;
+
+/// The bit of a folder's mode that is set if everybody may search the folder.
+const ALL_MAY_SEARCH: u32 = 0o001;
 
 /// Returns the names in a room that a session can say. A missing folder has none.
 pub fn list_room<A: Allocator + Copy, R: Files + Alloc + Clone + Drop>(
@@ -83,6 +86,50 @@ fn add_entry<A: Allocator, R: Files + Alloc + Clone + Drop>(
         names.push_reserved(name);
     }
     Ok(())
+}
+
+/// Returns the names in a folder of the public folder that a session can say. A folder that is gone, or that not
+/// everybody may search, has none.
+pub fn list_below<A: Allocator + Copy, R: Files + Alloc + Clone + Drop>(
+    alloc: A,
+    rt: &R,
+    paths: &SpoolPaths<A>,
+    folder: &Name,
+) -> Result<Vec<Name, A>, RunFault>
+    ensures { IfErr result IsFolderFault }
+{
+    let spot = Spot {
+        room: Room::Public,
+        name: *folder,
+    };
+    let path = paths.file(alloc, &spot)?;
+    let mut names = Vec::new(alloc);
+    match within_reach(open_to_all(rt, path.as_str())) {
+        Ok(Some(entries)) => add_entries(&mut names, paths, entries)?,
+        Ok(None) => (),
+        Err(error) => return Err(RunFault::of(&error, paths.end_dir(), Resource::Dir)),
+    }
+    Ok(names)
+}
+
+/// Returns the entries of a folder that everybody may search. Returns `None` for any other. A missing folder is an
+/// error.
+fn open_to_all<R: Files + Alloc + Clone + Drop>(
+    rt: &R,
+    path: &str,
+) -> io::Result<Option<ReadDir<R, R::A>>> {
+    let seen = fs::symlink_metadata(rt, path)?;
+    if !is_searchable_by_all(&seen) {
+        return Ok(None);
+    }
+    Ok(Some(fs::read_dir(rt, path)?))
+}
+
+/// Returns whether a path that was looked at is a folder that everybody may search.
+fn is_searchable_by_all(seen: &Metadata) -> bool
+    ensures { IsTrue result ↔ MayAllSearch seen.now }
+{
+    seen.is_dir() && seen.mode() & ALL_MAY_SEARCH != 0
 }
 
 /// Returns whether there is a file at this spot.

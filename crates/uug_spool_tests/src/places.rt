@@ -24,6 +24,7 @@ const ROWS: [(&str, &str, Option<&str>); 9] = [
 fn public(rt: &impl Abort, alloc: Global) -> PublicFolder<Global> {
     let mut folders = Vec::new(alloc);
     folders.push(name(rt, "in")).expect(rt, "memory");
+    folders.push(name(rt, "shut")).expect(rt, "memory");
     let mut barred = Vec::new(alloc);
     barred.push(name(rt, "theirs")).expect(rt, "memory");
     PublicFolder {
@@ -32,7 +33,7 @@ fn public(rt: &impl Abort, alloc: Global) -> PublicFolder<Global> {
         is_closed: false,
         delayed: Vec::new(alloc),
         is_unknown: false,
-        is_taking: true,
+        taken: String::from_str(alloc, "~/ !~/shut/").expect(rt, "memory"),
     }
 }
 
@@ -77,5 +78,22 @@ fn assert_place(rt: &impl Abort, alloc: Global, row: (&str, &str, Option<&str>))
 fn a_folder_takes_a_file_under_its_own_name(rt: HostRuntime) {
     for row in ROWS {
         assert_place(&rt, rt.alloc(), row);
+    }
+}
+
+/// A target, and whether a file that comes there unasked is taken.
+const TAKEN: [(&str, bool); 5] = [
+    ("~/x", true),
+    ("~/in/x", true),
+    ("~/shut/x", false),
+    ("~/out/x", false),
+    ("D.alphaN0001", true),
+];
+
+#[test]
+fn a_barred_folder_takes_nothing_unasked(rt: HostRuntime) {
+    let folder = public(&rt, rt.alloc());
+    for (target, is_taken) in TAKEN {
+        assert_same_at(&rt, folder.takes(&name(&rt, target)), is_taken, target);
     }
 }

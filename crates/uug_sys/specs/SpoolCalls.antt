@@ -25,8 +25,7 @@ pub record IsCallOf (task : CallTask) (call : SpoolCall) : Type 0 where
   pub stats : call.stats ≡ task.stats
   pub grade : call.grade ≡ task.grade
   pub port : call.port ≡ port_of task.port task.line
-  pub is_giving : call.is_giving ≡ task.is_giving
-  pub is_taking : call.is_taking ≡ task.is_taking
+  pub rules : call.rules ≡ task.rules
   pub is_lenient : call.is_lenient ≡ task.is_lenient
   pub tells_digests : call.tells_digests ≡ task.tells_digests
   pub is_resuming : call.is_resuming ≡ task.is_resuming

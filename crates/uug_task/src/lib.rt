@@ -2,12 +2,14 @@
 #![tactic(auto)]
 
 mod end_parts;
+mod folder_rules;
 pub mod laws;
 mod places;
 mod system;
 mod task;
 
 pub use end_parts::{EndParts, FinishedEnd, begin_end, make_node};
+pub use folder_rules::FolderRules;
 pub use places::place_in_pair;
 pub use system::System;
 pub use task::{

@@ -3,6 +3,7 @@ ghost use Rattle.std.specs.Prelude.{◌≡◌, ◌≢◌, ◌≤◌, ◌↔◌, 
 ghost use Rattle.uug_task.specs.Tasks.{IsSaidBy, IsTask, has_place, may_have, thinning_with, wait_at_device};
 ghost use Rattle.uug_transfer.specs.LineNames.{line_of, shown, standard};
 
+use crate::folder_rules::FolderRules;
 use std::time::Duration;
 use uug_failure::EndDir;
 use uug_folder::Allowance;
@@ -95,10 +96,8 @@ pub struct CallTask<'a> {
     pub grade: Option<&'a str>,
     /// The name of its line in the log of a spool, if one is named.
     pub port: Option<&'a str>,
-    /// Set if it gives files of the public folder of a spool that the other end asks for.
-    pub is_giving: bool,
-    /// Set if it takes files into the public folder of a spool that the other end sends.
-    pub is_taking: bool,
+    /// The folders of a spool that are open to the other end.
+    pub rules: FolderRules<'a>,
     /// Set if a session in which jobs were given up counts as one that is not done.
     pub is_fail_status: bool,
 }

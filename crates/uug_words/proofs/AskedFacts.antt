@@ -113,6 +113,10 @@ answer_has_locks : text_in (entries_of answer_words) (codes "locks") ≡ codes "
 unfolding clap_on_literals
 answer_has_locks = refl
 
+answer_gives_all : text_in (entries_of answer_words) (codes "give") ≡ codes "~"
+unfolding clap_on_literals
+answer_gives_all = refl
+
 answer_is_taken : takes uucpair answer_words ≡ true
 unfolding clap_on_literals
 answer_is_taken = refl

@@ -4,7 +4,7 @@ use Rattle.std.specs.Fmt.{digits}
 use Rattle.std.specs.Path.{rsplit_once}
 use Rattle.uug_words.specs.Hints.{hint_words}
 use Rattle.uug_words.specs.OrderWords.{full_remark, order_words}
-use Rattle.uug_words.specs.SpoolOptions.{public_option}
+use Rattle.uug_words.specs.SpoolOptions.{folder_option}
 use Rattle.uug_words.specs.TargetWords.{dotted_remark}
 use Rattle.uug_words.specs.UsageWords.{line_words, name_words, pair_words, peer_words, place_words, range_words, status_words, system_words}
 
@@ -30,9 +30,9 @@ record AreSaid : Type 0 where
   no_dir : order_words (codes "send") (codes "a") true ≡ codes "DIR goes first: uucpair queue DIR send FILE"
   full : full_remark (codes "a") ≡ codes "uucpair: a/jobs: 1024 jobs wait, the most that may: call, or cancel one" ++ 10 ∷ []
   one_folder : pair_words None None ≡ codes "DIR_A and DIR_B are one folder: give each end its own"
-  no_give : public_option false false ≡ codes "--no-give"
-  no_take : public_option true false ≡ codes "--no-take"
-  open_folder : public_option true true ≡ []
+  give : folder_option (codes "none") (codes "~/in") ≡ codes "--give"
+  take : folder_option (codes "~") (codes "~/in") ≡ codes "--take"
+  open_folder : folder_option (codes "~") (codes "~") ≡ []
   dotted : dotted_remark (codes "send") (codes "~/.y") ≡ codes "uucpair: ~/.y has a dot in front: uucpair at the other end refuses such a target, Taylor UUCP takes it" ++ 10 ∷ []
   dotted_here : dotted_remark (codes "request") (codes ".y") ≡ codes "uucpair: .y has a dot in front: no such target is taken here, so the job will be given up" ++ 10 ∷ []
   undotted : dotted_remark (codes "send") (codes "y.z") ≡ []
@@ -42,4 +42,4 @@ record AreSaid : Type 0 where
 
 said : AreSaid
 unfolding digits rsplit_once
-said = record { range = refl; name = refl; no_peer = refl; peer = refl; port = refl; alone = refl; host = refl; system = refl; no_system = refl; no_place = refl; folder = refl; lacks = refl; path = refl; empty = refl; lost = refl; no_file = refl; ordered = refl; no_order = refl; no_dir = refl; full = refl; changed = refl; no_give = refl; no_take = refl; open_folder = refl; one_folder = refl; dotted = refl; dotted_here = refl; undotted = refl; called_wait = refl; waits = refl }
+said = record { range = refl; name = refl; no_peer = refl; peer = refl; port = refl; alone = refl; host = refl; system = refl; no_system = refl; no_place = refl; folder = refl; lacks = refl; path = refl; empty = refl; lost = refl; no_file = refl; ordered = refl; no_order = refl; no_dir = refl; full = refl; changed = refl; give = refl; take = refl; open_folder = refl; one_folder = refl; dotted = refl; dotted_here = refl; undotted = refl; called_wait = refl; waits = refl }

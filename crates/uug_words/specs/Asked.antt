@@ -167,8 +167,8 @@ pub record IsEndIn (entries : Entries) (task : CallTask) : Type 0 where
   pub stats : IsWordIn entries (codes "stats") task.stats
   pub grade : IsWordIn entries (codes "grade") task.grade
   pub port : IsWordIn entries (codes "port-name") task.port
-  pub is_giving : task.is_giving ≡ not (is_given entries (codes "no-give"))
-  pub is_taking : task.is_taking ≡ not (is_given entries (codes "no-take"))
+  pub gives : task.rules.gives.now ≡ text_in entries (codes "give")
+  pub takes : task.rules.takes.now ≡ text_in entries (codes "take")
 
 pub record AsksForPair (tool : Text) (entries : Entries) (task : PairTask) : Type 0 where
   pub pairs : tool ≡ codes "pair"

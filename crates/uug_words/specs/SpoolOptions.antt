@@ -1,12 +1,13 @@
 -- Defines which options of one end only a spool has (this project's profile).
 use Rattle.std.specs.Prelude.{◌==◌, ◌&&◌, ℕ, Bool, not, List, [], codes, is_some, length, if◌then◌else◌}
+use Rattle.std.specs.Str.{bytes_eq}
 use Rattle.uug_task.specs.declared.task.CallTask.{CallTask}
 
--- the first of those that shut the public folder, by what they leave
-abbrev pub public_option : (is_giving is_taking : Bool) → List ℕ
-public_option is_giving is_taking =
-    if not is_giving then codes "--no-give" else
-    (if not is_taking then codes "--no-take" else [])
+-- the first of those for the folders that are open whose list is not the default one
+abbrev pub folder_option : (gives takes : List ℕ) → List ℕ
+folder_option gives takes =
+    if not (bytes_eq gives (codes "~")) then codes "--give" else
+    (if not (bytes_eq takes (codes "~")) then codes "--take" else [])
 
 -- the first that is given, and nothing where none is
 abbrev pub spool_option : CallTask → List ℕ
@@ -14,7 +15,7 @@ spool_option task =
     if is_some task.public then codes "--public" else
     (if is_some task.stats then codes "--stats" else
     (if is_some task.grade then codes "--grade" else
-    (if is_some task.port then codes "--port-name" else public_option task.is_giving task.is_taking)))
+    (if is_some task.port then codes "--port-name" else folder_option task.rules.gives.now task.rules.takes.now)))
 
 -- an end that is over no spool is given one
 abbrev pub lacks_spool : CallTask → Bool

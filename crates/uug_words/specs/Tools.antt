@@ -115,7 +115,7 @@ file_rules =
     ∷ number_rule (codes "keep-partials") (codes "30")
     ∷ flag_rule (codes "spool") ∷ word_rule (codes "public")
     ∷ word_rule (codes "stats") ∷ word_rule (codes "grade") ∷ word_rule (codes "port-name")
-    ∷ flag_rule (codes "no-give") ∷ flag_rule (codes "no-take")
+    ∷ folder_rule (codes "give") (codes "~") ∷ folder_rule (codes "take") (codes "~")
     ∷ verbose_rule ∷ []
 
 -- one end at a line: where it is, what it and the other one are called, and the options

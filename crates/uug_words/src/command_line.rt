@@ -13,7 +13,7 @@ use std::convert::AsStr;
 use uug_conversation::Side;
 use uug_disk::QueueTask;
 use uug_pending::{CancelTask, StatusTask};
-use uug_task::CallTask;
+use uug_task::{CallTask, FolderRules};
 
 /// The default packet size of an end. A smaller one lets more of what a line changes pass the checksum.
 const SIZE: u32 = 1_024;
@@ -176,8 +176,10 @@ fn end_task<'a>(side: Side, matches: &ArgMatches<'a>) -> CallTask<'a>
         stats: word(matches, "stats"),
         grade: word(matches, "grade"),
         port: word(matches, "port-name"),
-        is_giving: !is_given(matches, "no-give"),
-        is_taking: !is_given(matches, "no-take"),
+        rules: FolderRules {
+            gives: text(matches, "give"),
+            takes: text(matches, "take"),
+        },
         is_fail_status: is_given(matches, "fail-status"),
     }
 }

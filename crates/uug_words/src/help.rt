@@ -235,10 +235,11 @@ pub const GRADE: &str =
 
 pub const PORT: &str = "With --spool: the name of the line in the log; without it LINE";
 
-pub const NO_GIVE: &str = "With --spool: gives no file of the public folder that is asked for";
+pub const GIVE: &str =
+    "With --spool: the folders of which it gives files: ~ is the public one, ~/NAME one in it, and ! in front bars one; the last that holds a file decides; none gives none";
 
-pub const NO_TAKE: &str =
-    "With --spool: takes no file into the public folder but those it asks for";
+pub const TAKE: &str =
+    "With --spool: the folders into which it takes files that it does not ask for, in the same way";
 
 pub const FAIL_STATUS: &str = "Ends with status 1 if a job was given up in the session";
 

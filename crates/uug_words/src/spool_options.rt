@@ -1,6 +1,6 @@
 //! The options of one end that only a spool has.
 ghost use Rattle.std.specs.Prelude.{◌≡◌};
-ghost use Rattle.uug_words.specs.SpoolOptions.{lacks_spool, public_option, spool_option};
+ghost use Rattle.uug_words.specs.SpoolOptions.{folder_option, lacks_spool, spool_option};
 
 use uug_task::CallTask;
 
@@ -24,18 +24,18 @@ pub(crate) fn spool_option(task: &CallTask<'_>) -> &'static str
     } else if task.port.is_some() {
         "--port-name"
     } else {
-        public_option(task.is_giving, task.is_taking)
+        folder_option(task.rules.gives, task.rules.takes)
     }
 }
 
-/// Returns the first of the options that shut the public folder, by what they leave.
-fn public_option(is_giving: bool, is_taking: bool) -> &'static str
-    ensures { result.now ≡ public_option is_giving is_taking }
+/// Returns the first of the options for the folders that are open whose list is not the default one.
+fn folder_option(gives: &str, takes: &str) -> &'static str
+    ensures { result.now ≡ folder_option gives.now takes.now }
 {
-    if !is_giving {
-        "--no-give"
-    } else if !is_taking {
-        "--no-take"
+    if gives.as_bytes() != b"~".as_slice() {
+        "--give"
+    } else if takes.as_bytes() != b"~".as_slice() {
+        "--take"
     } else {
         ""
     }

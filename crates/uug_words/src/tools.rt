@@ -30,6 +30,9 @@ const SESSIONS: &str = "1";
 /// The default folder of the lock files of devices: that of Debian's programs.
 const LOCKS: &str = "/var/lock";
 
+/// The default of the folders that are open: the public folder of a spool.
+const HOME: &str = "~";
+
 /// Returns the program with its tools and their arguments.
 pub fn command<'a>(alloc: Global) -> Result<Command<'a>, AllocError>
     ensures { IfOk result (λ made. app_of made ≡ uucpair) }
@@ -252,8 +255,8 @@ fn with_files<'a>(alloc: Global, command: Command<'a>) -> Result<Command<'a>, Al
         .arg(named(alloc, "stats", "FILE", help::STATS))?
         .arg(named(alloc, "grade", "G", help::GRADE))?
         .arg(named(alloc, "port-name", "NAME", help::PORT))?
-        .arg(flag(alloc, "no-give", help::NO_GIVE))?
-        .arg(flag(alloc, "no-take", help::NO_TAKE))?
+        .arg(folder(alloc, "give", help::GIVE, HOME))?
+        .arg(folder(alloc, "take", help::TAKE, HOME))?
         .arg(verbose(
             alloc,
             "Says on standard error how each job goes, and what was lost on the line",

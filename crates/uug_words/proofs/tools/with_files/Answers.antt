@@ -16,6 +16,6 @@ returns c before is =
     let stats = adds_behind public c.in_ok-arg-10.ensures c.named-4.ensures in
     let grade = adds_behind stats c.in_ok-arg-11.ensures c.named-5.ensures in
     let port = adds_behind grade c.in_ok-arg-12.ensures c.named-6.ensures in
-    let giving = adds_behind port c.in_ok-arg-13.ensures c.flag-3.ensures in
-    let taking = adds_behind giving c.in_ok-arg-14.ensures c.flag-4.ensures in
+    let giving = adds_behind port c.in_ok-arg-13.ensures c.folder-2.ensures in
+    let taking = adds_behind giving c.in_ok-arg-14.ensures c.folder-3.ensures in
     IfOk-weaker c.arg-15.result _ _ (λ made step. (adds_behind taking step c.verbose.ensures).is) c.arg-15.ensures

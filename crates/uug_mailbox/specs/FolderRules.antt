@@ -1,0 +1,31 @@
+-- Which files below the public folder a list of folders allows (that the last folder which holds a file decides, and that an
+-- exclamation mark bars one, is Taylor UUCP's; that only the public folder and what is below it counts is this project's profile).
+use Rattle.std.specs.List.{ends_with}
+use Rattle.std.specs.Prelude.{◌==◌, ◌&&◌, ◌||◌, not, ℕ, Bool, false, List, [], ◌∷◌, length, drop, codes, nat_eq, if◌then◌else◌}
+use Rattle.std.specs.Str.{bytes_eq}
+use Rattle.uug_spool.specs.SpoolNames.{begins_with}
+use Rattle.uug_talk.specs.Words.{words}
+
+-- a path is that of a folder, or a slash comes behind that: the folder's own last one, or another
+abbrev pub is_in : (folder path : List ℕ) → Bool
+is_in folder path =
+    let rest = drop (length folder) path in
+    begins_with folder path && (length rest == 0 || (begins_with (codes "/") rest || ends_with nat_eq folder (codes "/")))
+
+-- ~ and ~/ are the public folder, and ~/PATH is what is below it
+abbrev pub holds : (folder path : List ℕ) → Bool
+holds folder path =
+    if begins_with (codes "~/") folder then (length folder == 2 || is_in (drop 2 folder) path)
+    else bytes_eq folder (codes "~")
+
+abbrev pub after_rule : (before : Bool) → (rule path : List ℕ) → Bool
+after_rule before rule path =
+    if begins_with (codes "!") rule then (before && not (holds (drop 1 rule) path)) else (before || holds rule path)
+
+abbrev pub allowed_by : (before : Bool) → (rules : List (List ℕ)) → (path : List ℕ) → Bool
+allowed_by before [] path = before
+allowed_by before (rule ∷ rules) path = allowed_by (after_rule before rule path) rules path
+
+-- The last folder of the list that holds the path decides, and a path that none holds is not allowed.
+abbrev pub is_allowed : (folders path : List ℕ) → Bool
+is_allowed folders path = allowed_by false (words folders) path

@@ -1,0 +1,51 @@
+//! A list of folders: the public folder, and folders in it, of which files are given or taken, or barred.
+ghost use Rattle.std.specs.Prelude.{◌≡◌};
+ghost use Rattle.uug_mailbox.specs.FolderRules.{after_rule, holds, is_allowed, is_in};
+
+use uug_talk::split_word;
+
+/// Returns whether a list of folders allows the file of this path below the public folder: the last folder that holds
+/// it decides. Taylor UUCP's lists `remote-send` and `remote-receive` mean the same.
+pub fn is_allowed(folders: &str, path: &[u8]) -> bool
+    ensures { result ≡ is_allowed folders.now path.now }
+{
+    let mut is_allowed = false;
+    let mut rest = folders.as_bytes();
+    while let Some((rule, behind)) = split_word(rest) {
+        is_allowed = after_rule(is_allowed, rule, path);
+        rest = behind;
+    }
+    is_allowed
+}
+
+/// Returns whether a path is allowed after this folder of a list, which was allowed before it or not.
+fn after_rule(before: bool, rule: &[u8], path: &[u8]) -> bool
+    ensures { result ≡ after_rule before rule.now path.now }
+{
+    if rule.starts_with(b"!") {
+        before && !holds(&rule[1..], path)
+    } else {
+        before || holds(rule, path)
+    }
+}
+
+/// Returns whether a folder of a list holds a path below the public folder, which is `~`. It may have a slash at its end.
+fn holds(folder: &[u8], path: &[u8]) -> bool
+    ensures { result ≡ holds folder.now path.now }
+{
+    if !folder.starts_with(b"~/") {
+        return folder == b"~".as_slice();
+    }
+    folder.len() == 2 || is_in(&folder[2..], path)
+}
+
+/// Returns whether a path is that of a folder, or of something in it.
+fn is_in(folder: &[u8], path: &[u8]) -> bool
+    ensures { result ≡ is_in folder.now path.now }
+{
+    if !path.starts_with(folder) {
+        return false;
+    }
+    let rest = &path[folder.len()..];
+    rest.is_empty() || rest.starts_with(b"/") || folder.ends_with(b"/")
+}
