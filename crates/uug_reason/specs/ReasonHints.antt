@@ -58,9 +58,12 @@ port_words address = codes ": give tcp:" ++ escaped address
 abbrev pub port_guess : (line : List ℕ) → List ℕ
 port_guess line = if has_byte line 58 && has_digit line then port_words (address_of line) else []
 
+abbrev pub device_words : (name : List ℕ) → List ℕ
+device_words name = codes ": give /dev/" ++ escaped name
+
 -- the line that is probably meant by a bare word: a device, or a port of a host
 abbrev pub guess_words : (line : List ℕ) → List ℕ
-guess_words line = if starts_with nat_eq line (codes "tty") then codes ": give /dev/" ++ escaped line else port_guess line
+guess_words line = if starts_with nat_eq line (codes "tty") then device_words line else port_guess line
 
 -- what a line may be, and what is probably meant by a bare word
 abbrev pub forms_words : (forms line : List ℕ) → List ℕ

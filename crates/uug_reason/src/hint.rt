@@ -1,6 +1,6 @@
 //! Hints about what to do after a call of the system that a known mistake makes fail.
 ghost use Rattle.std.specs.Prelude.{◌≡◌, ◌++◌, OnOk, string_bytes};
-ghost use Rattle.uug_reason.specs.ReasonHints.{absent_hint, address_of, are_exchanged, exchanged_hint, forms_words, got_hint, guess_words, has_byte, has_digit, hint_words};
+ghost use Rattle.uug_reason.specs.ReasonHints.{absent_hint, address_of, are_exchanged, device_words, exchanged_hint, forms_words, got_hint, guess_words, has_byte, has_digit, hint_words};
 ghost use Rattle.uug_reason.specs.ReasonHints.{host_hint, is_bare, line_hint, long_hint, names_line, port_guess, port_words, right_hint, send_hint, socket_hint, zero_hint};
 
 use crate::escape::add_escaped;
@@ -140,11 +140,19 @@ fn add_guess<A: Allocator>(text: &mut String<A>, line: &str) -> Result<(), Alloc
         (string_bytes text.new ≡ string_bytes text.old ++ guess_words line.now) }
 {
     if line.as_bytes().starts_with(b"tty") {
-        text.push_str(": give /dev/")?;
-        add_escaped(text, line.as_bytes())
+        add_device(text, line)
     } else {
         add_port_guess(text, line)
     }
+}
+
+/// Appends the device of this name.
+fn add_device<A: Allocator>(text: &mut String<A>, name: &str) -> Result<(), AllocError>
+    ensures { OnOk result
+        (string_bytes text.new ≡ string_bytes text.old ++ device_words name.now) }
+{
+    text.push_str(": give /dev/")?;
+    add_escaped(text, name.as_bytes())
 }
 
 /// Appends the port of a host that is probably meant by a bare word, if there are a colon and a digit in it.
