@@ -71,7 +71,7 @@ MEASURES = (
             rf"(\S.*?) +(\d+) +({SPREAD}) +({SPREAD}) +({SPREAD}) +({SPREAD}) *$"),
     Measure("call", "bench/call.sh 9 PROGRAM", "bench/call.sh 1 PROGRAM", "date,load,size,uucpair,uucico_pipes,uucico_socket,option",
             rf" *(\d+) +({SPREAD}) +({SPREAD}) +\S+ +({SPREAD}) +\S+ +\S+ +\S+ +\S+ +/\S+ (--no-digest)?$"),
-    Measure("memory", "bench/memory.py PROGRAM", "bench/memory.py PROGRAM", "files,uucpair,uucico"),
+    Measure("memory", "bench/memory.py PROGRAM 3", "bench/memory.py PROGRAM 1", "files,ends,clock,processor,caller,called"),
     Measure("half_duplex", "bench/half_duplex.py PROGRAM 3 1", "bench/half_duplex.py PROGRAM 1 10",
             "load,ends,7x64,7x256,3x1024,7x1024,3x4096,7x4096", double=0),
     Measure("slow_lines", "bench/slow_lines.py PROGRAM 10", "bench/slow_lines.py PROGRAM 10",

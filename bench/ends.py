@@ -225,14 +225,14 @@ def fresh(work):
 
 
 @contextlib.contextmanager
-def over_sockets(work, caller, called):
+def over_sockets(work, caller, called, seconds=20):
     """Starts both, each over a socket of its own. It gives the two processes, and a stream to each, which are closed behind
-    the block. Where the caller does not connect in twenty seconds both are ended, and that is raised."""
+    the block. Where the caller does not connect in so many seconds both are ended, and that is raised."""
     near, far = os.path.join(work, "near"), os.path.join(work, "far")
     with listening(near) as door:
-        door.settimeout(20)
+        door.settimeout(seconds)
         answering = called.answer(f"unix:{far}")
-        other = connected(far)
+        other = connected(far, seconds)
         calling = caller.call(f"unix:{near}")
         try:
             one, _ = door.accept()

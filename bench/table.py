@@ -99,6 +99,11 @@ def processor_rows() -> list[Row | Quotient]:
     for size in ("64", "1024"):
         alone = (("without", Figure("call", {"size": size, "option": "--no-digest"}, "{uucpair}")),)
         rows.append(Row(f"digests, 8 MiB, 7 x {short(size)}", Figure("call", {"size": size, "option": ""}, "{uucpair}"), alone))
+    for files in ("64 MiB", "64 MiB both ways"):
+        ours, plain, taylor = (
+            Figure("memory", {"files": files, "ends": ends}, "{processor}") for ends in ("uucpair", "uucpair --no-digest", "uucico")
+        )
+        rows.append(Row(f"`call`, {files}, 7 x 1,024", ours, (("socket", taylor), ("`--no-digest`", plain))))
     drawn, alone = (Figure("ladder", {"drawing": drawing}, "{seconds}") for drawing in ("--ladder", "alone"))
     return [*rows, Row("`play --ladder`, 100,000 events", drawn, (("`play`", alone),))]
 
@@ -172,9 +177,9 @@ def byte_rows() -> list[Row]:
             for name in ("uucpair", "uucico", "ZMODEM", "Kermit")
         )
         rows.append(Row(f"bytes, sessions: {told}", ours[1], tuple(others), False))
-    for files in ("1", "16"):
-        ours, taylor = (Figure("memory", {"files": files}, f"{{{name}}}") for name in ("uucpair", "uucico"))
-        rows.append(Row(f"KiB of memory, {files} MiB", ours, (("uucico", taylor),)))
+    for files in ("64 MiB", "64 MiB both ways"):
+        ours, taylor = (Figure("memory", {"files": files, "ends": ends}, "{caller}; {called}") for ends in ("uucpair", "uucico"))
+        rows.append(Row(f"KiB of memory: {files}", ours, (("uucico", taylor),)))
     sizes = [(name, Figure("size", {"program": name}, "{bytes}")) for name in ("uucico", "sz", "kermit")]
     rows.append(Row("bytes of the program", Figure("size", {"program": "uucpair"}, "{bytes}"), tuple(sizes)))
     return [*rows, Row("first build, seconds of all crates", Figure("build", {}, "{seconds}"))]

@@ -7,7 +7,7 @@ import shutil
 from disks import NOBODY
 from lines import Cable
 from spools import Nodes
-from suite import Ends, filler, names_in, read, report, scene, text_of, write
+from suite import Ends, fill_disk, filler, names_in, read, report, scene, text_of, write
 
 SIZE = 60_000
 QUICK = ("--timeout", "10")
@@ -225,6 +225,54 @@ def something_else_where_it_is_held(one):
                 text_of(ends.at("beta", "partial/notes"))), (0, (0, report("called"), ""), True, "mine\n", "mine\n"))
         {"pipe": os.remove, "folder": os.rmdir, "link": os.remove}[what](path)
         os.remove(ends.at("beta", "got/held"))
+
+
+@scene("root")
+def what_is_held_may_not_be_read(one):
+    """A front that belongs to another, or that its mode keeps from its end, is not read, and the file comes from its first byte on."""
+    text = filler("unread", 9000)
+    for what, owner, mode in (("of another", 0, 0o600), ("of no mode", 65534, 0o000)):
+        ends = ends_with(one, unread=text)
+        cut(one, ends, 5000)
+        os.chmod(one.work, 0o777)
+        for folder in ("", "got", "send", "partial"):
+            os.chmod(ends.at("beta", folder), 0o777)
+        for name in ("", "jobs", f"partial/{digest(text)}"):
+            if os.path.exists(ends.at("beta", name)):
+                os.chown(ends.at("beta", name), 65534, 65534)
+        path = ends.at("beta", f"partial/{digest(text)}")
+        os.chown(path, owner, owner)
+        os.chmod(path, mode)
+        called = ends.answer(one.line, *QUICK, front=NOBODY)
+        cable = Cable(one)
+        caller, called = ends.call(cable.line, *QUICK), called.end()
+        cable.mover.join()
+        one.row(f"a front {what}", (caller.all(), called.all(), text_of(ends.at("beta", "got/unread")) == text, held(ends, "beta")),
+                ((0, report("caller", struck=1), ""), (0, report("called"), ""), True, {}))
+        one.holds(f"the whole file passed behind a front {what}", cable.passed > 9000, cable.passed)
+        shutil.rmtree(ends.at("beta"))
+
+
+@scene("root")
+def a_full_disk_on_which_nothing_can_be_held(one):
+    """The end says so, and leaves nothing there; the file comes all the same, and once there is room it is held again."""
+    text = filler("no room", 60_000)
+    ends = ends_with(one, room=text)
+    os.mkdir(ends.at("beta", "partial"))
+    one.mount(ends.at("beta", "partial").rstrip("/"), "16k")
+    fill_disk(ends.at("beta", "partial/filler"))
+    caller, called, _ = cut(one, ends, 50_000)
+    one.row("a session that is cut", (caller.status, called.status, [line for line in called.err.splitlines() if "partial" in line]),
+            (1, 1, ["uucpair: beta/partial: no space left"]))
+    one.row("what is there", names_in(ends.at("beta", "partial")), ["filler"])
+    caller, called = ends.talk()
+    one.row("a session that is not", (caller.all(), called.all(), text_of(ends.at("beta", "got/room")) == text),
+            ((0, report("caller", struck=1), ""), (0, report("called"), ""), True))
+    os.remove(ends.at("beta", "partial/filler"))
+    ends.give("alpha", small=filler("small", 9000))
+    ends.jobs("alpha", "send small small u")
+    cut(one, ends, 5000)
+    one.row("once there is room", [line.split()[0] for line, _ in held(ends, "beta").values()], ["small"])
 
 
 @scene()
