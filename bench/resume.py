@@ -1,12 +1,13 @@
 #!/usr/bin/env python3
 """How many bytes a file takes over a line that ends again and again, each session going on where the last was cut off.
 
-    resume.py [PROGRAM [half-duplex]]
+    resume.py [PROGRAM [half-duplex [SCALE]]]
 
 A file of 60,000 bytes, and one of 1,000,000, over a fast line that ends after a tenth, a half and one and a half of so many bytes,
 both ways together: by `uucpair`, by Taylor UUCP (both with 7 packets of 1,024 bytes), by `rz -r` and `sz -r`, and by C-Kermit. Needs
 root, and the packages `uucp`, `socat`, `lrzsz` and `ckermit`. Prints a row for each: size, cut after, program, sessions, bytes.
-With `half-duplex` the first file alone goes over the line of half_duplex.py, in real time, all side by side.
+With `half-duplex` the first file alone goes over the line of half_duplex.py, in real time, all side by side; with SCALE both files do,
+over that line so many times as fast.
 Ends with status 1 where a file of `uucpair` has not arrived whole.
 """
 import os
@@ -18,13 +19,16 @@ import time
 sys.dont_write_bytecode = True
 
 from ends import Ours, Taylor, fresh, over_sockets, program_named, side_by_side
+import half_duplex
 import peers
 from half_duplex import channel
 from peers import Kermit, Zmodem, ended, session
 
 SIZES, SHARES = (60_000, 1_000_000), (0.1, 0.5, 1.5)
 SESSIONS_MAX = 40
-IS_HALF_DUPLEX = sys.argv[2:] == ["half-duplex"]
+IS_HALF_DUPLEX = sys.argv[2:3] == ["half-duplex"]
+SCALE = int(sys.argv[3]) if sys.argv[3:] else 1
+half_duplex.BYTES_A_SECOND, half_duplex.TURN, half_duplex.PIECE = 150 * SCALE, 1 / SCALE, 3 * SCALE
 # So long a session over the half-duplex line may take.
 SECONDS_MAX = 3_600
 
@@ -44,12 +48,12 @@ def of_uucp(kind):
         if kind is Taylor:
             caller, called = (Taylor(work, me, peer, 1_024, 7, 300 if IS_HALF_DUPLEX else 10) for me, peer in names)
         else:
-            options = ["--size", "1024", "--timeout", "10", *(["--speed", "1200"] if IS_HALF_DUPLEX else [])]
+            options = ["--size", "1024", "--timeout", "10", *(["--speed", str(1_200 * SCALE)] if IS_HALF_DUPLEX else [])]
             caller, called = (Ours(program_named(), work, me, peer, options) for me, peer in names)
         caller.queue({"file": contents})
         total = 0
         for count in range(1, SESSIONS_MAX + 1):
-            with over_sockets(work, caller, called) as (calling, answering, one, other):
+            with over_sockets(work, caller, called, 120) as (calling, answering, one, other):
                 total += carry(one, other, most)
             ended(calling, answering)
             if called.took("file") == contents:
@@ -87,7 +91,7 @@ def sent(work, size, most, name, send):
 
 
 def main():
-    sizes = SIZES[:1] if IS_HALF_DUPLEX else SIZES
+    sizes = SIZES[:1] if IS_HALF_DUPLEX and SCALE == 1 else SIZES
     cells = [(size, int(size * share), *sender) for size in sizes for share in SHARES for sender in SENDERS]
     if IS_HALF_DUPLEX:
         whole = side_by_side(sent, cells)

@@ -116,7 +116,7 @@ def slow_rows() -> list[Row]:
         others = [(name, Figure("peers", {"program": name}, "{half duplex}")) for name in ("ZMODEM", "Kermit")]
         peers = (("uucico", taylor), *(others if (load, packets) == ("file", "7x1024") else ()))
         rows.append(Row(f"1,200 bit/s half duplex, {load}, {told(packets)}", ours, peers))
-    for bits in ("300", "1200", "9600"):
+    for bits in ("1200", "9600"):
         for packets in ("7x64", "7x1024"):
             ours, taylor = (
                 Figure("slow_lines", {"bits": bits, "caller": ends, "called": ends}, f"{{{packets}}}") for ends in ("uucpair", "Taylor")
@@ -160,7 +160,7 @@ def noisy_rows() -> list[Row]:
 def byte_rows() -> list[Row]:
     """Bytes on the line, and sizes."""
     rows = []
-    for size in ("64", "1024", "4096"):
+    for size in ("64", "1024"):
         ours, called, taylor = (
             Figure("mails", {"size": size}, f"{{{ends}}}") for ends in ("uucpair calls Taylor", "Taylor calls uucpair", "Taylor calls Taylor")
         )
