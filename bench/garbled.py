@@ -11,6 +11,7 @@ left, ten times at most. A row each for
     ours, --size 64    two `uucpair` with packets of 64 bytes
     ours               with those that they announce by themselves
     .., --no-digest    the same, where no digests are told
+    ours, cut          the line ends in each call after 30,000 bytes, both ways together, and a file goes on in the next one
     Taylor, 64         Taylor UUCP calls, with packets of 64 bytes both ways and TAYLOR_SEEDS (2); its own limits of errors and
                        noise are lifted
 
@@ -18,6 +19,7 @@ with how many calls were made, how many bytes were garbled, how many files came 
 garbled bytes there were for each file that is wrong. `changes.py` says of how many garbled bytes of a field one passes its
 checksum. Timers are two seconds.
 """
+import math
 import os
 import random
 import select
@@ -31,8 +33,10 @@ from ends import Ours, Taylor, over_sockets, program_named, read, side_by_side, 
 ONE_IN = 1_000
 SAFE = 64
 SIZES = [0, 1, 31, 32, 33, 63, 64, 65, 127, 128, 129, 500, 1_000, 1_023, 1_024, 1_025, 2_048, 3_000, 4_096, 5_000, 10_000, 20_000]
-KINDS = ["ours, --size 64", "ours", "ours, --size 64, --no-digest", "ours, --no-digest", "Taylor, 64"]
+KINDS = ["ours, --size 64", "ours", "ours, --size 64, --no-digest", "ours, --no-digest", "ours, cut", "Taylor, 64"]
 CALLS_MAX = 10
+# The bytes after which a line is cut, and how many calls may be made over such lines.
+CUT, CUT_CALLS_MAX = 30_000, 60
 MOST = 300
 LETTERS = "abcdefghijklmnopqrstuvwxyz      ETAOIN.,\n"
 
@@ -69,13 +73,13 @@ class Way:
         return bool(came)
 
 
-def relay(one, other, seed, until):
-    """Hands on, until a side ends. The answer is how many bytes were garbled."""
+def relay(one, other, seed, until, most):
+    """Hands on, until a side ends or so many bytes have passed. The answer is how many bytes were garbled."""
     ways = {}
     for number, (here, there) in enumerate(((one, other), (other, one))):
         here.settimeout(60)
         ways[here] = Way(here, there, random.Random(f"{seed} {number}"))
-    while time.monotonic() < until:
+    while time.monotonic() < until and sum(way.taken for way in ways.values()) < most:
         for side in select.select(list(ways), [], [], 1)[0]:
             if not ways[side].pass_on():
                 return sum(way.garbled for way in ways.values())
@@ -123,10 +127,11 @@ def run(work, program, kind, seed):
     for giver, _, files in sent:
         giver.queue(files)
     calls = garbled = 0
-    while calls < CALLS_MAX and (caller.waits() or called.waits()):
+    most, calls_max = (CUT, CUT_CALLS_MAX) if "cut" in kind else (math.inf, CALLS_MAX)
+    while calls < calls_max and (caller.waits() or called.waits()):
         calls += 1
-        with over_sockets(work, caller, called) as (calling, answering, one, other):
-            garbled += relay(one, other, f"{seed} {calls}", time.monotonic() + MOST)
+        with over_sockets(work, caller, called, 120) as (calling, answering, one, other):
+            garbled += relay(one, other, f"{seed} {calls}", time.monotonic() + MOST, most)
         for process in (calling, answering):
             until = time.monotonic() + 30
             while process.poll() is None and time.monotonic() < until:
