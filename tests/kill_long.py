@@ -10,7 +10,8 @@ side by side. Prints, for both kinds of ends, the bytes on the line in sum as a 
 tenths, and the greatest, how many files needed more than 1.2 times, and how many sessions there were; and a line for each of those
 files, and of those that were stored again, with what was killed and when.
 
-Ends with status 1 where a file has not come whole, its job is left, or it was stored more often than there were kills, and once.
+Ends with status 1 where a file has not come whole, its job is left, it was stored more often than there were kills, and once, or more
+than 1.2 times its bytes passed though it was stored once.
 """
 import os
 import random
@@ -156,7 +157,7 @@ def tell(kind, came):
     for what, some in (("more than the bound", over), ("stored twice", twice), ("not whole", lost)):
         for one in some:
             print(f"  {what}: {one['bytes'] / SIZE:.3f} times, {one['sessions']} sessions, stored {one['stored']} times, {one['struck']}", flush=True)
-    return not lost and all(one["stored"] <= 1 + KILLS for one in came)
+    return not lost and all(one["stored"] <= 1 + KILLS for one in came) and all(one["stored"] > 1 for one in over)
 
 
 def main():
