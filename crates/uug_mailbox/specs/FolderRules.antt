@@ -1,21 +1,25 @@
 -- Which files below the public folder a list of folders allows (that the last folder which holds a file decides, and that an
 -- exclamation mark bars one, is Taylor UUCP's; that only the public folder and what is below it counts is this project's profile).
 use Rattle.std.specs.List.{ends_with}
-use Rattle.std.specs.Prelude.{◌==◌, ◌&&◌, ◌||◌, not, ℕ, Bool, false, List, [], ◌∷◌, length, drop, codes, nat_eq, if◌then◌else◌}
+use Rattle.std.specs.Prelude.{◌==◌, ◌-◌, ◌&&◌, ◌||◌, not, ℕ, Bool, false, List, [], ◌∷◌, length, take, drop, codes, nat_eq, if◌then◌else◌}
 use Rattle.std.specs.Str.{bytes_eq}
 use Rattle.uug_spool.specs.SpoolNames.{begins_with}
 use Rattle.uug_talk.specs.Words.{words}
 
--- a path is that of a folder, or a slash comes behind that: the folder's own last one, or another
+-- a name without a slash at its end
+abbrev pub without_slash : List ℕ → List ℕ
+without_slash name = if ends_with nat_eq name (codes "/") then take (length name - 1) name else name
+
+-- a path is that of a folder, or a slash comes behind that
 abbrev pub is_in : (folder path : List ℕ) → Bool
 is_in folder path =
     let rest = drop (length folder) path in
-    begins_with folder path && (length rest == 0 || (begins_with (codes "/") rest || ends_with nat_eq folder (codes "/")))
+    begins_with folder path && (length rest == 0 || begins_with (codes "/") rest)
 
 -- ~ and ~/ are the public folder, and ~/PATH is what is below it
 abbrev pub holds : (folder path : List ℕ) → Bool
 holds folder path =
-    if begins_with (codes "~/") folder then (length folder == 2 || is_in (drop 2 folder) path)
+    if begins_with (codes "~/") folder then (length folder == 2 || is_in (without_slash (drop 2 folder)) path)
     else bytes_eq folder (codes "~")
 
 abbrev pub after_rule : (before : Bool) → (rule path : List ℕ) → Bool

@@ -11,7 +11,7 @@ use Rattle.uug_spool.specs.declared.spool_names.Barred.{Barred}
 use Rattle.uug_spool.specs.declared.spool_names.Room.{Room}
 use Rattle.uug_spool.specs.declared.spool_names.Room.TheVariants as rooms
 use Rattle.uug_spool.specs.declared.spool_names.Spot.{Spot}
-use Rattle.uug_mailbox.specs.FolderRules.{is_allowed}
+use Rattle.uug_mailbox.specs.FolderRules.{is_allowed, without_slash}
 use Rattle.uug_mailbox.specs.declared.places.PublicFolder.{PublicFolder}
 
 -- the public folder, as it is when the session begins
@@ -110,9 +110,6 @@ temp_name target = unwrap_or (name_of (last_part target.name)) target.name
 abbrev pub is_spooled : Result Spot Barred → Bool
 is_spooled (Ok target) = not (is_public target.room)
 is_spooled (Err why) = false
-
-abbrev pub without_slash : List ℕ → List ℕ
-without_slash name = if ends_with nat_eq name (codes "/") then take (length name - 1) name else name
 
 -- what stands in front of the names in this folder: nothing in the public folder itself
 abbrev pub front_of : (folder : List ℕ) → List ℕ

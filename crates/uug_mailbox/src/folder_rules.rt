@@ -2,6 +2,7 @@
 ghost use Rattle.std.specs.Prelude.{◌≡◌};
 ghost use Rattle.uug_mailbox.specs.FolderRules.{after_rule, holds, is_allowed, is_in};
 
+use crate::places::without_slash;
 use uug_talk::split_word;
 
 /// Returns whether a list of folders allows the file of this path below the public folder: the last folder that holds
@@ -36,7 +37,7 @@ fn holds(folder: &[u8], path: &[u8]) -> bool
     if !folder.starts_with(b"~/") {
         return folder == b"~".as_slice();
     }
-    folder.len() == 2 || is_in(&folder[2..], path)
+    folder.len() == 2 || is_in(without_slash(&folder[2..]), path)
 }
 
 /// Returns whether a path is that of a folder, or of something in it.
@@ -47,5 +48,5 @@ fn is_in(folder: &[u8], path: &[u8]) -> bool
         return false;
     }
     let rest = &path[folder.len()..];
-    rest.is_empty() || rest.starts_with(b"/") || folder.ends_with(b"/")
+    rest.is_empty() || rest.starts_with(b"/")
 }

@@ -1,7 +1,8 @@
 //! The place of a file that another system sends, by what is in the public folder when the session begins.
 ghost use Rattle.std.specs.Path.{rsplit_once, slash};
 ghost use Rattle.std.specs.Prelude.{◌≡◌, ◌++◌, MatchOption, None, Some, codes};
-ghost use Rattle.uug_mailbox.specs.Places.{deep_by, deep_place, front_of, is_public_last, is_public_name, is_public_path, is_spooled, is_taken, landing, last_part, place_in, placed, shown_public, takes, temp_name, top_place, without_slash};
+ghost use Rattle.uug_mailbox.specs.FolderRules.{without_slash};
+ghost use Rattle.uug_mailbox.specs.Places.{deep_by, deep_place, front_of, is_public_last, is_public_name, is_public_path, is_spooled, is_taken, landing, last_part, place_in, placed, shown_public, takes, temp_name, top_place};
 ghost use Rattle.uug_spool.specs.SpoolNames.{local_name, spot_of};
 ghost use Rattle.uug_talk.specs.Name.{name_of};
 
@@ -188,7 +189,7 @@ fn is_spooled(target: &Name) -> bool
 }
 
 /// Returns a name without a slash at its end.
-fn without_slash(name: &[u8]) -> &[u8]
+pub(crate) fn without_slash(name: &[u8]) -> &[u8]
     ensures { result.now ≡ without_slash name.now }
 {
     match name.strip_suffix(b"/".as_slice()) {
