@@ -2,8 +2,7 @@
 -- file under its source's last name is what Taylor UUCP 1.07 does; which places are barred is this project's profile).
 use Rattle.std.specs.Option.{option_map, unwrap_or}
 use Rattle.std.specs.Path.{rsplit_once, slash}
-use Rattle.std.specs.Prelude.{◌==◌, ◌&&◌, ◌||◌, ◌-◌, not, ℕ, Bool, true, false, List, [], ◌++◌, length, take, codes, nat_eq, is_none, string_bytes, Option, Some, None, Result, Ok, Err, if◌then◌else◌}
-use Rattle.std.specs.List.{ends_with}
+use Rattle.std.specs.Prelude.{◌==◌, ◌&&◌, ◌||◌, not, ℕ, Bool, true, false, List, [], ◌++◌, length, codes, is_none, string_bytes, Option, Some, None, Result, Ok, Err, if◌then◌else◌}
 use Rattle.uug_conversation.specs.MemoryHoldings.{has_name}
 use Rattle.uug_talk.specs.Name.{name_of}
 use Rattle.uug_spool.specs.SpoolNames.{local_name, spot, spot_of}
