@@ -117,7 +117,6 @@ def pair_held_up(one, *more):
             return False
 
     wait_until(lambda: has_begun() or running.process.poll() is not None)
-    time.sleep(0.03)
     running.process.send_signal(signal.SIGSTOP)
     time.sleep(2.5)
     running.process.send_signal(signal.SIGCONT)
@@ -128,7 +127,7 @@ def pair_held_up(one, *more):
 @scene()
 def how_far_a_file_of_a_pair_is(one):
     """At a terminal there is such a line, with the size of the file in its folder; the report is what it is without one."""
-    size = 300_000
+    size = 1_000_000
     for end in "ab":
         for folder in ("got", "send"):
             os.makedirs(one.path(f"{end}/{folder}"))
