@@ -1,5 +1,6 @@
--- Which files below the public folder a list of folders allows (that the last folder which holds a file decides, and that an
--- exclamation mark bars one, is Taylor UUCP's; that only the public folder and what is below it counts is this project's profile).
+-- Says which files below the public folder a list of folders allows (that the last folder which holds a file decides, and that
+-- an exclamation mark bars one, is Taylor UUCP's; that only the public folder and what is below it counts is this project's
+-- profile).
 use Rattle.std.specs.List.{ends_with}
 use Rattle.std.specs.Prelude.{◌==◌, ◌-◌, ◌&&◌, ◌||◌, not, ℕ, Bool, false, List, [], ◌∷◌, length, take, drop, codes, nat_eq, if◌then◌else◌}
 use Rattle.std.specs.Str.{bytes_eq}

@@ -1,4 +1,4 @@
--- What stands on the disk of an end over a spool (this project's profile).
+-- Shows what stands on the disk of an end over a spool (this project's profile).
 use Rattle.std.specs.Prelude.{Some, None}
 use Rattle.uug_mailbox.specs.OpenLines.{jobs_of}
 use Rattle.uug_mailbox.specs.WorkStores.{lines_of}

@@ -1,4 +1,4 @@
--- Which files may be read for others, and in which folders (this project's profile).
+-- Says which files may be read for others, and in which folders (this project's profile).
 use Rattle.std.specs.Fs.{IsDir, IsFile, file_type, metadata_mode}
 use Rattle.std.specs.Prelude.{◌≡◌, ◌==◌, false, bit_and}
 use Rattle.std.specs.declared.fs.attrs.Metadata.{Metadata}

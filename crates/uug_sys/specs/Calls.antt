@@ -1,4 +1,4 @@
--- What a call comes to that is not given up (this project's profile).
+-- Says what a call comes to that is not given up (this project's profile).
 use Rattle.std.specs.Prelude.{◌≡◌, ◌⊎◌, ℕ, List, Option}
 use Rattle.uug_conversation.specs.declared.side.Side.TheVariants.{Caller}
 use Rattle.uug_transfer.specs.Reported.{IsReported}

@@ -1,4 +1,4 @@
--- What each call of a buffered node does to its end: events lead it on, and its jobs and what it asked for are kept.
+-- Shows what each call of a buffered node does to its end: events lead it on, and its jobs and what it asked for are kept.
 use Rattle.std.proofs.Common.{◌≡◌, ℕ, List, refl, sym, ap, subst, ◌∙◌}
 use Rattle.std.proofs.lemmas.List.Sorted.{IsPermutation-refl, IsPermutation-trans}
 use Rattle.uug_conversation.specs.DialogueState.{DialogueState}

@@ -1,4 +1,4 @@
--- What the session of an end comes to, one call behind another.
+-- Shows what the session of an end comes to, one call behind another.
 use Rattle.std.proofs.Common.{◌≡◌, ◌≤◌, ℕ, [], Option, Result, Ok, Err, refl, sym, ap, subst, ◌∙◌, arith}
 use Rattle.std.specs.Result.{IsErr, IsErrAnd}
 use Rattle.uug_folder.specs.NumberText.{holding_number}

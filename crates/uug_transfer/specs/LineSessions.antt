@@ -1,4 +1,4 @@
--- What the session of an end at its line comes to, by what it ended with (this project's profile).
+-- Says what the session of an end at its line comes to, by what it ended with (this project's profile).
 use Rattle.std.specs.Prelude.{◌≡◌, ◌≤◌, ℕ, zero, suc, [], Result, Ok, Err}
 use Rattle.uug_session.specs.Engine.{HasFailed, IsEnded, faults_max}
 use Rattle.uug_session.specs.NumberStanding.{KeepsNumber}
@@ -58,7 +58,7 @@ pub record IsSession {T : Type 0} (most : ℕ) (result : Result T SessionFault) 
 
 -- ---- with its report
 
--- What is answered behind a session that ended so: the status, or what became of the report where that failed. Where the line
+-- Answers a session that ended so: with the status, or with what became of the report where that failed. Where the line
 -- has failed before the session was done, or something could not be put on the disk, that is the answer; want of memory always is.
 abbrev pub answer_to : {T U : Type 0} → (ended : Result T SessionFault) → (status : ℕ) → (printed : Result U ToolFault)
     → Result ℕ ToolFault

@@ -1,4 +1,4 @@
--- What is printed of an end that has run its session, and what the program answers (this project's profile).
+-- Says what is printed of an end that has run its session, and what the program answers (this project's profile).
 use Rattle.std.specs.Prelude.{◌≡◌, ℕ, Bool, List, Option, if◌then◌else◌}
 use Rattle.uug_conversation.specs.Holdings.{Holdings, Kept}
 use Rattle.uug_conversation.specs.declared.side.Side.{Side}
