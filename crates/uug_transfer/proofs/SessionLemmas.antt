@@ -11,7 +11,7 @@ use Rattle.uug_transfer.proofs.SettlingLemmas.{FollowsNumber, is_now, loses_same
 use Rattle.uug_transfer.proofs.StallLemmas.{within_same}
 use Rattle.uug_transfer.proofs.UnsettledLemmas.{however_settled}
 use Rattle.uug_transfer.specs.Ends.{jobs_of_end, number_of_end}
-use Rattle.uug_transfer.specs.LineSessions.{IsSession, answer_to, SettlesJobs, UsesLine, WritesNumber}
+use Rattle.uug_transfer.specs.LineSessions.{IsSession, SettlesJobs, UsesLine, WritesNumber}
 use Rattle.uug_transfer.specs.Listening.{HearsLine}
 use Rattle.uug_transfer.specs.Moments.{DiskNow, EndNow, LineNow, Unsent}
 use Rattle.uug_transfer.specs.Received.{ReadsWithin}
@@ -22,8 +22,6 @@ use Rattle.uug_transfer.specs.Writing.{TalksAtLine}
 use Rattle.uug_transfer.specs.declared.read_budget.TheConstants.{SILENCES_MAX, STALLS_MAX}
 use Rattle.uug_transfer.specs.declared.session_fault.SessionFault.{SessionFault}
 use Rattle.uug_transfer.specs.declared.session_fault.SessionFault.TheVariants as fault
-use Rattle.uug_stream.specs.declared.fault.ToolFault.{ToolFault}
-use Rattle.uug_stream.specs.declared.fault.ToolFault.TheVariants as tool_fault
 
 -- a fault that is handed on
 pub handed_on : {T : Type 0} (r : Result T SessionFault) (f : SessionFault) → IsErr r × IsErrAnd r (λ other. other ≡ f) → r ≡ Err f
@@ -268,9 +266,3 @@ settles_refused {T = T} r a b x y is none_lost = subst (λ (t : Result T Session
   calm = tt;
   fault = λ is. absurd (cc is);
 })
-
--- want of memory is answered whatever is printed
-pub answered_memory : {T U : Type 0} (r : Result T SessionFault) (f : SessionFault) (status : ℕ) (printed : Result U ToolFault)
-    → r ≡ Err f → f ≡ fault.Memory → Err tool_fault.Memory ≡ answer_to r status printed
-answered_memory {T = T} r f status printed is memory =
-    subst (λ (t : Result T SessionFault). Err tool_fault.Memory ≡ answer_to t status printed) (sym (is ∙ ap Err memory)) refl
