@@ -1,5 +1,5 @@
 -- Shows what each call of a buffered node does to its end: events lead it on, and its jobs and what it asked for are kept.
-use Rattle.std.proofs.Common.{◌≡◌, ℕ, List, refl, sym, ap, subst, ◌∙◌}
+use Rattle.std.proofs.Common.{◌≡◌, ℕ, List, sym, ap, subst, ◌∙◌}
 use Rattle.std.proofs.lemmas.List.Sorted.{IsPermutation-refl, IsPermutation-trans}
 use Rattle.uug_conversation.specs.DialogueState.{DialogueState}
 use Rattle.uug_conversation.specs.DialogueValue.{DialogueValue, dialogue_has_parted}

@@ -1,4 +1,4 @@
-use Rattle.std.proofs.Common.{ap, sym, Ok, Err, subst, ◌∙◌, refl, arith}
+use Rattle.std.proofs.Common.{ap, sym, Err, subst, ◌∙◌, refl, arith}
 use Rattle.uug_session.specs.Engine.{HasFailed, faults_max}
 use Rattle.uug_conversation.specs.Jobs.{Lists}
 use Rattle.uug_folder.specs.NumberText.{holding_number}
@@ -6,7 +6,7 @@ use Rattle.uug_transfer.specs.BufferedNodes.{node_in}
 use Rattle.uug_transfer.specs.Ends.{jobs_of_end, number_of_end}
 use Rattle.uug_transfer.specs.Moments.{disk_now, end_now}
 use Rattle.uug_transfer.specs.Settling.{AreSettled}
-use Rattle.uug_transfer.proofs.NumberLemmas.{later, same, unless_refused}
+use Rattle.uug_transfer.proofs.NumberLemmas.{later, same}
 use Rattle.uug_transfer.proofs.LedLemmas.{led_later, led_same}
 use Rattle.uug_transfer.proofs.ListeningLemmas.{front_read, heard_then, line_at_first, line_read, line_same, talks_at_first, talks_noted, talks_over, talks_read, talks_some, talks_written}
 use Rattle.uug_transfer.proofs.ReceivedLemmas.{room_of, spends_at_start, spends_more, spends_same, within_then}

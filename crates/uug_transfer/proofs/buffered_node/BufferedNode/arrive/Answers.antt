@@ -1,6 +1,6 @@
 use Rattle.std.proofs.Common.{ap}
 use Rattle.uug_transfer.proofs.LedLemmas.{led_cleared, led_later, led_some, led_taken}
-use Rattle.uug_transfer.specs.Moments.{end_now, node_now}
+use Rattle.uug_transfer.specs.Moments.{node_now}
 use Rattle.uug_transfer.proofs.buffered_node.BufferedNode.arrive.Goals as goal
 
 pub returns-in_default-clause-led : goal.returns-in_default-clause-led
