@@ -8,6 +8,7 @@ mod device_lock;
 mod dir_lock;
 mod given_files;
 mod granted;
+mod held_part;
 pub mod laws;
 mod no_file;
 mod opened_jobs;

@@ -5,10 +5,9 @@ ghost use Rattle.std.specs.List.{list_all};
 ghost use Rattle.std.specs.Prelude.{◌≡◌, ◌≤◌, true};
 ghost use Rattle.uug_disk.specs.Partials.{is_partial};
 
-use crate::atomic_file::replace_private;
-use crate::part_path::{PartPath, is_part, remove_part};
+use crate::held_part::HeldPart;
+use crate::part_path::{is_part, remove_part};
 use crate::send_folder::read_file;
-use crate::written::see_written;
 use std::alloc::{AllocError, Allocator};
 use std::fs::{DirEntry, File, ReadDir};
 use std::io::ErrorKind;
@@ -16,15 +15,15 @@ use std::rt::Files;
 use std::time::Clock;
 use std::{fs, io};
 use uug_failure::Cause;
-use uug_folder::{Allowance, partial_text, read_partial};
+use uug_folder::{Allowance, HELD_LINE_MAX, into_partial};
 use uug_session::{PartialFile, Partials};
-use uug_talk::{FILE_LIMIT_MAX, FileDigest, TELLING_MAX};
+use uug_talk::{FILE_LIMIT_MAX, FileDigest, NamedDigest};
 
 /// The length of the name of such a file: a digest in hexadecimal digits.
 const DIGITS: usize = 64;
 
-/// The maximum number of bytes of such a file: a line, and its end, and the bytes of a file.
-const PARTIAL_MAX: usize = TELLING_MAX + 1 + FILE_LIMIT_MAX;
+/// The maximum number of bytes of such a file: a line, and the bytes of a file.
+const PARTIAL_MAX: usize = HELD_LINE_MAX + FILE_LIMIT_MAX;
 
 /// The seconds of a day.
 const DAY: u64 = 86_400;
@@ -81,7 +80,7 @@ pub(crate) fn entries_in<R: Files + Alloc + Clone + Drop>(
 }
 
 /// Checks that a folder is at `path`, and not a link to one: a link could lead to the files of others.
-fn see_no_link<R: Files>(rt: &R, path: &str) -> io::Result<()> {
+pub(crate) fn see_no_link<R: Files>(rt: &R, path: &str) -> io::Result<()> {
     if fs::symlink_metadata(rt, path)?.is_dir() {
         Ok(())
     } else {
@@ -102,7 +101,7 @@ fn read_entry<A: Allocator + Copy, R: Files + Clock + Drop, B: Allocator>(
         return Ok(None);
     }
     match read_file(alloc, rt, entry.path().as_str(), PARTIAL_MAX) {
-        Ok(Some(text)) => read_partial(alloc, text.as_slice()),
+        Ok(Some(text)) => Ok(into_partial(text)),
         Ok(None) => Ok(None),
         Err(error) if error.kind() == ErrorKind::OutOfMemory => Err(AllocError),
         Err(_) => Ok(None),
@@ -136,8 +135,9 @@ fn is_of_use<R: Files + Clock + Drop, B: Allocator>(
     Ok(true)
 }
 
-/// Holds what is left of a file in the folder at `path` for the next session, in place of what was held of it. The file
-/// is on disk then. A missing folder is created. After an error the next session begins with what was held before.
+/// Holds what is left of a file in the folder at `path` for the next session. What that folder has of it stays, and the
+/// rest is appended and synced to disk; if it has more, it is replaced. A missing folder is created. After an error the
+/// next session begins with what stayed.
 pub fn hold_partial<A: Allocator + Copy, R: Files<File = File>>(
     alloc: A,
     rt: &R,
@@ -147,27 +147,30 @@ pub fn hold_partial<A: Allocator + Copy, R: Files<File = File>>(
     if file.bytes.is_empty() {
         return Ok(());
     }
-    match write_partial(alloc, rt, path, file) {
+    let named = NamedDigest {
+        name: file.source,
+        told: file.told,
+    };
+    match hold_bytes(alloc, rt, path, &named, file.bytes.as_slice()) {
         Ok(()) => Ok(()),
         Err(error) => Err(Cause::of(&error)),
     }
 }
 
-/// Writes the file in which this one is held.
-pub(crate) fn write_partial<A: Allocator + Copy, R: Files<File = File>>(
+/// Holds these first bytes of a file. If that fails, no file that holds nothing is left.
+fn hold_bytes<A: Allocator + Copy, R: Files<File = File>>(
     alloc: A,
     rt: &R,
     path: &str,
-    file: &PartialFile<A>,
+    named: &NamedDigest,
+    bytes: &[u8],
 ) -> io::Result<()> {
-    let text = partial_text(alloc, file)?;
-    let to = path_of(alloc, path, &file.told)?;
-    fs::create_dir_all(rt, path)?;
-    see_no_link(rt, path)?;
-    let mut part = PartPath::new(alloc, rt, path)?;
-    let written = replace_private(rt, &mut part, path, to.as_str(), text.as_slice())?;
-    see_written(written, text.as_slice());
-    Ok(())
+    let mut part = HeldPart::open(alloc, rt, path, named, bytes.len())?;
+    let held = part.finish(bytes);
+    if held.is_err() && part.is_empty() {
+        drop_partials(alloc, rt, path, &[named.told]);
+    }
+    held
 }
 
 /// Removes the files in the folder at `path` with these digests, which are over. What can't be removed is held on.

@@ -1,24 +1,12 @@
 //! Writes down what comes of a file, as it comes, so that it isn't lost if the end is killed.
 
-use crate::partial_folder::{drop_partials, path_of, write_partial};
+use crate::held_part::{HeldPart, STEP};
+use crate::partial_folder::drop_partials;
 use std::alloc::Allocator;
-use std::fs::{File, OpenFile, OpenOptions};
-use std::io::ErrorKind;
+use std::fs::File;
 use std::rt::Files;
-use std::{fs, io};
-use uug_failure::write_again;
 use uug_folder::Notebook;
-use uug_session::PartialFile;
 use uug_talk::{FileDigest, Name, NamedDigest};
-
-/// The bytes that are written down at once.
-const STEP: usize = 16_384;
-
-/// The bytes that are synced to disk at once, at least. Of a file that grows they are a sixteenth.
-const SYNC_STEP: usize = 65_536;
-
-/// The part of a file's bytes that is synced to disk at once.
-const SYNC_PART: usize = 16;
 
 /// The folder at a path in which an end holds the first bytes of files that were cut off.
 #[derive(Drop)]
@@ -34,18 +22,8 @@ pub struct PartialNotes<'a, R, A: Allocator> {
 #[derive(Drop)]
 struct Growing {
     told: FileDigest,
-    /// The part that is written, unless that has failed.
-    written: Option<WrittenPart>,
-}
-
-/// The part of a file that is written down.
-#[derive(Drop)]
-struct WrittenPart {
-    file: File,
-    /// The bytes of this session that are written.
-    count: usize,
-    /// Those of them that are synced to disk.
-    synced: usize,
+    /// What is written of it, unless that has failed.
+    part: Option<HeldPart>,
 }
 
 impl<'a, R: Files<File = File>, A: Allocator + Copy> PartialNotes<'a, R, A> {
@@ -59,66 +37,17 @@ impl<'a, R: Files<File = File>, A: Allocator + Copy> PartialNotes<'a, R, A> {
         }
     }
 
-    /// Opens the file in which this one is held, to append to. If nothing was held of it, writes it.
-    fn open(
-        &self,
-        source: &Name,
-        told: &FileDigest,
-        front: &[u8],
-        bytes: &[u8],
-    ) -> io::Result<WrittenPart> {
-        let path = path_of(self.alloc, self.path.as_str(), told)?;
-        let count = if front.is_empty() { bytes.len() } else { 0 };
-        if front.is_empty() {
-            let file = PartialFile {
-                source: *source,
-                told: *told,
-                bytes: bytes.to_vec(self.alloc)?,
-            };
-            write_partial(self.alloc, self.rt, self.path.as_str(), &file)?;
+    /// Returns this file, of which `held` bytes came before this session.
+    fn growing(&self, source: &Name, told: &FileDigest, held: usize) -> Growing {
+        let named = NamedDigest {
+            name: *source,
+            told: *told,
+        };
+        let part = HeldPart::open(self.alloc, self.rt, self.path.as_str(), &named, held);
+        Growing {
+            told: *told,
+            part: part.ok(),
         }
-        let found = fs::symlink_metadata(self.rt, path.as_str())?;
-        let held = line_length(source, told)
-            .saturating_add(front.len() as u64)
-            .saturating_add(count as u64);
-        if !found.is_file() || found.len() != held {
-            return Err(io::Error::from(ErrorKind::InvalidData));
-        }
-        let file = OpenOptions::new()
-            .append(true)
-            .open(self.rt, path.as_str())?;
-        Ok(WrittenPart {
-            file,
-            count,
-            synced: count,
-        })
-    }
-}
-
-/// Returns the bytes before those of the file in the text in which it is held.
-fn line_length(source: &Name, told: &FileDigest) -> u64 {
-    let named = NamedDigest {
-        name: *source,
-        told: *told,
-    };
-    named.line().as_slice().len() as u64 + 1
-}
-
-impl WrittenPart {
-    /// Appends what has come since, if it is enough.
-    fn append(&mut self, bytes: &[u8]) -> io::Result<()> {
-        let new = &bytes[self.count.min(bytes.len())..];
-        if new.len() < STEP {
-            return Ok(());
-        }
-        let count = write_again(&mut self.file, new)?;
-        self.count = self.count.saturating_add(count);
-        let waits = self.count.saturating_sub(self.synced);
-        if waits >= SYNC_STEP && waits >= self.count / SYNC_PART {
-            self.file.sync_data()?;
-            self.synced = self.count;
-        }
-        Ok(())
     }
 }
 
@@ -128,13 +57,11 @@ impl<R: Files<File = File>, A: Allocator + Copy> Notebook for PartialNotes<'_, R
             return;
         }
         match &mut self.growing {
-            Some(growing) if growing.told.hash == told.hash => growing.append(bytes),
+            Some(growing) if growing.told.hash == told.hash => growing.append(front, bytes),
             _ => {
-                let written = self.open(source, told, front, bytes).ok();
-                self.growing = Some(Growing {
-                    told: *told,
-                    written,
-                });
+                let mut growing = self.growing(source, told, front.len());
+                growing.append(front, bytes);
+                self.growing = Some(growing);
             }
         }
     }
@@ -147,10 +74,10 @@ impl<R: Files<File = File>, A: Allocator + Copy> Notebook for PartialNotes<'_, R
 
 impl Growing {
     /// Appends what has come since. Once that has failed nothing more is written.
-    fn append(&mut self, bytes: &[u8]) {
-        if let Some(written) = &mut self.written {
-            if written.append(bytes).is_err() {
-                self.written = None;
+    fn append(&mut self, front: &[u8], bytes: &[u8]) {
+        if let Some(part) = &mut self.part {
+            if part.append(front, bytes).is_err() {
+                self.part = None;
             }
         }
     }

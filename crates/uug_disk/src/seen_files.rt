@@ -16,12 +16,9 @@ use std::rt::Files;
 use std::time::Clock;
 use std::{fs, io};
 use uug_failure::{EndDir, RunFault};
-use uug_folder::read_partial;
+use uug_folder::{HELD_LINE_MAX, into_partial};
 use uug_session::Job;
-use uug_talk::{Name, TELLING_MAX};
-
-/// The maximum number of bytes before those of the file in the text in which it is held: a line and its end.
-const HELD_LINE_MAX: u64 = TELLING_MAX as u64 + 1;
+use uug_talk::Name;
 
 /// The size and the age of a file.
 #[derive(Clone, Copy, Debug, PartialEq, Eq)]
@@ -146,7 +143,7 @@ fn see_entry<A: Allocator + Copy, R: Files + Clock + Drop, B: Allocator>(
         return Ok(None);
     }
     match front_of(alloc, rt, entry.path().as_str()) {
-        Ok(front) => held_by(alloc, front.as_slice(), seen(rt, &metadata)),
+        Ok(front) => Ok(held_by(front, seen(rt, &metadata))),
         Err(error) if error.kind() == ErrorKind::OutOfMemory => Err(AllocError),
         Err(_) => Ok(None),
     }
@@ -155,31 +152,26 @@ fn see_entry<A: Allocator + Copy, R: Files + Clock + Drop, B: Allocator>(
 /// Returns the first bytes of a file, among which is its line.
 fn front_of<A: Allocator, R: Files>(alloc: A, rt: &R, path: &str) -> io::Result<Vec<u8, A>> {
     let mut front = Vec::new(alloc);
-    let mut reader = File::open(rt, path)?.take(HELD_LINE_MAX);
+    let mut reader = File::open(rt, path)?.take(HELD_LINE_MAX as u64);
     reader.read_to_end(&mut front)?;
     Ok(front)
 }
 
 /// Returns the file that is held in a text of this size and age, of which these are the first bytes.
-fn held_by<A: Allocator + Copy>(
-    alloc: A,
-    front: &[u8],
-    text: SeenFile,
-) -> Result<Option<HeldFile>, AllocError>
-    ensures { IfOk result (λ found. found ≡ held_by (length front.now) (partial_in front.now) text) }
+fn held_by<A: Allocator>(front: Vec<u8, A>, text: SeenFile) -> Option<HeldFile>
+    ensures { result ≡ held_by (length front.items) (partial_in front.items) text }
 {
-    let Some(file) = read_partial(alloc, front)? else {
-        return Ok(None);
-    };
-    let line = front.len().saturating_sub(file.bytes.len()) as u64;
-    Ok(Some(HeldFile {
+    let front_len = front.len();
+    let file = into_partial(front)?;
+    let line = front_len.saturating_sub(file.bytes.len()) as u64;
+    Some(HeldFile {
         name: file.source,
         whole: file.told.size,
         held: SeenFile {
             size: text.size.saturating_sub(line),
             age: text.age,
         },
-    }))
+    })
 }
 
 /// Returns the place of a file among others, which are in order.

@@ -1,19 +1,17 @@
 -- What was kept is what was put in the folder last.
 use Rattle.std.proofs.Common.{◌≡◌, List, [], ◌∷◌, ◌++◌, map, Option, Some, None, sym, ap, subst, ◌∙◌, append_assoc}
 use Rattle.std.proofs.lemmas.List.{append-nil, map-append}
-use Rattle.uug_conversation.specs.declared.stored.Stored.{Stored}
 use Rattle.uug_conversation.specs.Holdings.{Kept}
-use Rattle.uug_conversation.specs.MemoryHoldings.{kept_of}
 use Rattle.uug_folder.specs.Folders.{Placed, EndsWith, also_placed, placed_of}
 
 nothing_is_placed : (placed : Option (List Placed)) → EndsWith placed []
 nothing_is_placed None = tt
 nothing_is_placed (Some files) = (files, sym (append-nil files))
 
-pub none_is_placed : {A : Type 0} (stored : List (Stored A)) (placed : Option (List Placed)) → stored ≡ [] →
-    EndsWith placed (map placed_of (map kept_of stored))
+pub none_is_placed : (stored : List Kept) (placed : Option (List Placed)) → stored ≡ [] →
+    EndsWith placed (map placed_of stored)
 none_is_placed stored placed none =
-    subst (λ l. EndsWith placed (map placed_of (map kept_of l))) (sym none) (nothing_is_placed placed)
+    subst (λ l. EndsWith placed (map placed_of l)) (sym none) (nothing_is_placed placed)
 
 also_ends_with : (file : Placed) (before : Option (List Placed)) (files : List Placed) → EndsWith before files → EndsWith (also_placed file before) (files ++ file ∷ [])
 also_ends_with file None files h = tt

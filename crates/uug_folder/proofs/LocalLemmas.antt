@@ -41,12 +41,12 @@ pub kept_more : {F A : Type 0} (files files_after : FolderFiles F A) (names name
     (now : LocalFiles F A) (name local : List ℕ) (mode : ℕ) (bytes : List ℕ)
     → record { files = files; names = names; delayed = delayed; partials = partials; lenient = lenient; digests = digests; limit = limit } ≡ now
     → length names ≡ length files.stored → names_after ≡ names ++ name ∷ []
-    → map kept_of files_after.stored ≡ map kept_of files.stored ++ kept_file local mode bytes ∷ []
-    → renamed names_after (map kept_of files_after.stored) ≡ kept_here now ++ kept_file name mode bytes ∷ []
+    → files_after.stored ≡ files.stored ++ kept_file local mode bytes ∷ []
+    → renamed names_after files_after.stored ≡ kept_here now ++ kept_file name mode bytes ∷ []
 kept_more files files_after names names_after delayed partials lenient digests limit now name local mode bytes view same named kept =
-    let whole = one_more names (map kept_of files.stored) name (kept_file local mode bytes) (same ∙ sym (length-map files.stored kept_of)) in
-    subst (λ (s : LocalFiles _ _). renamed names_after (map kept_of files_after.stored) ≡ kept_here s ++ kept_file name mode bytes ∷ []) view
-    (ap (λ (n : List (List ℕ)). renamed n (map kept_of files_after.stored)) named
+    let whole = one_more names files.stored name (kept_file local mode bytes) same in
+    subst (λ (s : LocalFiles _ _). renamed names_after files_after.stored ≡ kept_here s ++ kept_file name mode bytes ∷ []) view
+    (ap (λ (n : List (List ℕ)). renamed n files_after.stored) named
     ∙ ap (λ (k : List Kept). renamed (names ++ name ∷ []) k) kept ∙ whole)
 
 -- ---- the name in the folder of a file that is asked for

@@ -6,6 +6,7 @@ pub mod JobsAfter
 pub mod JobsFile
 pub mod JobsPlan
 pub mod JobsText
+pub mod KeptFiles
 pub mod LocalFiles
 pub mod LocalNames
 pub mod Notices

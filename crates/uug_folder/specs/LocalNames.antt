@@ -92,4 +92,4 @@ abbrev pub holdings_here : {F A : Type 0} → (barred : F → List ℕ → Bool)
 holdings_here barred s = local_holdings s.lenient s.digests s.limit.bytes s.delayed s.partials (folder_holdings (barred s.files.folder) (map kept_of s.files.files))
 
 abbrev pub kept_here : {F A : Type 0} → LocalFiles F A → List Kept
-kept_here s = renamed s.names (map kept_of s.files.stored)
+kept_here s = renamed s.names s.files.stored

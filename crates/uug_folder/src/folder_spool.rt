@@ -5,8 +5,10 @@ ghost use Rattle.uug_conversation.specs.MemoryHoldings.{first_named, kept_of};
 ghost use Rattle.uug_conversation.specs.Code.StandardLimit.{standard_limit};
 ghost use Rattle.uug_conversation.specs.Code.StoredModes.{modes_in_range};
 ghost use Rattle.uug_folder.specs.Folders.{EndsWith, folder_holdings, is_hidden, placed_of};
+ghost use Rattle.uug_folder.specs.KeptFiles.{shown_kept};
 
 use crate::folder::Folder;
+use crate::kept_file::{KeptFile, push_kept};
 use std::alloc::{AllocError, Allocator};
 use std::marker::Model;
 use std::snapshot::Snapshot;
@@ -19,26 +21,29 @@ use uug_talk::{FILE_MAX, FileDigest, MODE_MAX, Name};
 pub struct FolderSpool<F: Folder, A: Allocator> {
     files: Vec<Stored<A>, A>,
     /// The files that were kept, for clauses alone: the bytes are in the folder, and no longer in memory.
-    stored: Vec<Snapshot<Stored<A>>, A>,
+    stored: Vec<Snapshot<KeptFile<A>>, A>,
     folder: F,
     alloc: A,
 }
 
 impl<F: Folder, A: Allocator> Model for FolderSpool<F, A> {
     ghost use Rattle.std.specs.Prelude.{map};
-    ghost use Rattle.uug_conversation.specs.MemoryHoldings.{kept_of};
     ghost use Rattle.uug_folder.specs.FolderFiles.{FolderFiles};
     ghost use Rattle.uug_folder.specs.Folders.{EndsWith, placed_of};
+    ghost use Rattle.uug_folder.specs.KeptFiles.{shown_kept};
 
     ghost Value = { FolderFiles F A };
 
-    ghost view = { λ s.
-        record { files = s.files.items; stored = map (λ f. f.value) s.stored.items; folder = s.folder } };
+    ghost view = { λ s. record {
+      files = s.files.items;
+      stored = map (λ f. shown_kept f.value) s.stored.items;
+      folder = s.folder;
+    } };
 
     // What was kept is what was put in the folder.
     ghost invariant = { λ s.
         EndsWith (F.placed s.folder)
-        (map placed_of (map kept_of (map (λ f. f.value) s.stored.items))) };
+        (map placed_of (map (λ f. shown_kept f.value) s.stored.items)) };
 }
 
 impl<F: Folder, A: Allocator + Copy> FolderSpool<F, A> {
@@ -58,7 +63,7 @@ impl<F: Folder, A: Allocator + Copy> FolderSpool<F, A> {
     pub fn folder(&self) -> &F
         ensures folder { result.now ≡ self.now.folder }
         ensures placed { EndsWith (F.placed result.now)
-            (map placed_of (map kept_of self.now.stored)) }
+            (map placed_of self.now.stored) }
     {
         &self.folder
     }
@@ -83,7 +88,7 @@ impl<F: Folder, A: Allocator + Copy> FolderSpool<F, A> {
 impl<F: Folder, A: Allocator + Copy> Spool for FolderSpool<F, A> {
     ghost holdings = { λ s. folder_holdings (F.barred s.folder) (map kept_of s.files) };
 
-    ghost kept = { λ s. map kept_of s.stored };
+    ghost kept = { λ s. s.stored };
 
     ghost faults = { λ s. F.fault_count s.folder };
 
@@ -166,7 +171,7 @@ pub(crate) fn is_hidden(name: &[u8]) -> bool
 /// Puts a file in the folder, and adds it to those that were kept.
 fn put_and_store<F: Folder, A: Allocator + Copy>(
     folder: &mut F,
-    stored: &mut Vec<Snapshot<Stored<A>>, A>,
+    stored: &mut Vec<Snapshot<KeptFile<A>>, A>,
     alloc: A,
     name: &Name,
     mode: u16,
@@ -174,14 +179,14 @@ fn put_and_store<F: Folder, A: Allocator + Copy>(
 ) -> Result<(), KeepFault>
     requires mode { mode ≤ MODE_MAX }
     requires ends { EndsWith (F.placed folder.old)
-        (map placed_of (map kept_of (map (λ f. f.value) stored.old.items))) }
+        (map placed_of (map (λ f. shown_kept f.value) stored.old.items)) }
     ensures ends { EndsWith (F.placed folder.new)
-        (map placed_of (map kept_of (map (λ f. f.value) stored.new.items))) }
-    ensures ok { OnOk result (map kept_of (map (λ f. f.value) stored.new.items)
-        ≡ map kept_of (map (λ f. f.value) stored.old.items)
+        (map placed_of (map (λ f. shown_kept f.value) stored.new.items)) }
+    ensures ok { OnOk result (map (λ f. shown_kept f.value) stored.new.items
+        ≡ map (λ f. shown_kept f.value) stored.old.items
         ++ kept_file name.now mode bytes.now ∷ []) }
-    ensures err { OnErr result (map kept_of (map (λ f. f.value) stored.new.items)
-        ≡ map kept_of (map (λ f. f.value) stored.old.items)) }
+    ensures err { OnErr result (map (λ f. shown_kept f.value) stored.new.items
+        ≡ map (λ f. shown_kept f.value) stored.old.items) }
     ensures no_refusal { result ≢ Err KeepFault.Refused }
     ensures stands { result ≢ Err KeepFault.Device
         → F.fault_count folder.new ≡ F.fault_count folder.old }
@@ -192,44 +197,30 @@ fn put_and_store<F: Folder, A: Allocator + Copy>(
     ensures barred { F.barred folder.new ≡ F.barred folder.old }
 {
     // All memory is taken before the folder is touched.
-    let Ok(file) = copy_beside_room(stored, alloc, name, mode, bytes) else {
+    let Ok(file) = kept_beside_room(stored, alloc, name, mode, bytes) else {
         return Err(KeepFault::Memory);
     };
     if folder.put(name, bytes).is_err() {
         return Err(KeepFault::Device);
     }
-    push_stored(stored, &file);
+    push_kept(stored, &file);
     Ok(())
 }
 
-/// Makes room for one more file, and makes a file of these bytes.
-fn copy_beside_room<A: Allocator + Copy>(
-    stored: &mut Vec<Snapshot<Stored<A>>, A>,
+/// Makes room for one more file, and describes it.
+fn kept_beside_room<A: Allocator + Copy>(
+    stored: &mut Vec<Snapshot<KeptFile<A>>, A>,
     alloc: A,
     name: &Name,
     mode: u16,
     bytes: &[u8],
-) -> Result<Stored<A>, AllocError>
-    requires { mode ≤ MODE_MAX }
+) -> Result<KeptFile<A>, AllocError>
     ensures stored { stored.new.items ≡ stored.old.items }
     ensures room { OnOk result (vec_len stored.new < vec_capacity stored.new) }
-    ensures file { IfOk result (λ file. kept_of file ≡ kept_file name.now mode bytes.now) }
+    ensures file { IfOk result (λ file. shown_kept file ≡ kept_file name.now mode bytes.now) }
 {
     stored.reserve(1)?;
-    Ok(Stored {
-        name: *name,
-        mode,
-        bytes: bytes.to_vec(alloc)?,
-    })
-}
-
-/// Adds a file to those that were kept, in reserved room.
-fn push_stored<A: Allocator>(stored: &mut Vec<Snapshot<Stored<A>>, A>, file: &Stored<A>)
-    requires { vec_len stored.old < vec_capacity stored.old }
-    ensures { map kept_of (map (λ f. f.value) stored.new.items)
-        ≡ map kept_of (map (λ f. f.value) stored.old.items) ++ kept_of file.now ∷ [] }
-{
-    stored.push_reserved(Snapshot::of(file));
+    KeptFile::of(alloc, name, mode, bytes)
 }
 
 fn first_named<'a, A: Allocator>(files: &'a [Stored<A>], name: &[u8]) -> Option<FileView<'a>>

@@ -12,6 +12,7 @@ mod job_texts;
 mod jobs_file;
 mod jobs_plan;
 mod jobs_text;
+mod kept_file;
 pub mod laws;
 mod local_names;
 mod meanwhile;
@@ -32,6 +33,7 @@ pub use job_texts::JobTexts;
 pub use jobs_file::{JobsFile, settle_text};
 pub use jobs_plan::JobsPlan;
 pub use jobs_text::{JobsFault, read_jobs, write_jobs};
+pub use kept_file::{KeptFile, push_kept};
 pub use local_names::{LocalNames, local_source};
 pub use meanwhile::{jobs_after, take_first};
 pub use notebook::{NoNotebook, Notebook};
@@ -39,7 +41,7 @@ pub use notices::{WhyFailed, why_failed, write_notices};
 pub use number_text::{
     BadNumber, NUMBER_LINE_MAX, number_at_start, number_beside, number_line, read_number_text,
 };
-pub use partial_file::{partial_text, read_partial};
+pub use partial_file::{HELD_LINE_MAX, held_line, into_partial};
 pub use queued::{
     OrderFault, appended_job, default_user, is_among, is_given_by, is_given_in, nth_name,
     ordered_job, queued_line, sends_any, with_source,

@@ -33,8 +33,6 @@ pub struct LocalNames<F: Folder, N: Notebook, A: Allocator> {
 }
 
 impl<F: Folder, N: Notebook, A: Allocator> Model for LocalNames<F, N, A> {
-    ghost use Rattle.std.specs.Prelude.{map};
-    ghost use Rattle.uug_conversation.specs.MemoryHoldings.{kept_of};
     ghost use Rattle.uug_folder.specs.LocalFiles.{LocalFiles};
     ghost use Rattle.uug_folder.specs.LocalNames.{StandUnder};
 
@@ -51,7 +49,7 @@ impl<F: Folder, N: Notebook, A: Allocator> Model for LocalNames<F, N, A> {
     } };
 
     // Each file that was kept stands in the folder under the name there of the one under which it came.
-    ghost invariant = { λ s. StandUnder s.names.items (map kept_of s.files.stored) };
+    ghost invariant = { λ s. StandUnder s.names.items s.files.stored };
 }
 
 impl<F: Folder, N: Notebook, A: Allocator + Copy> LocalNames<F, N, A> {
@@ -120,7 +118,7 @@ impl<F: Folder, N: Notebook, A: Allocator + Copy> LocalNames<F, N, A> {
     /// of the one under which it came.
     pub fn files(&self) -> &FolderSpool<F, A>
         ensures files { result.now ≡ self.now.files }
-        ensures names { StandUnder self.now.names (map kept_of result.now.stored) }
+        ensures names { StandUnder self.now.names result.now.stored }
     {
         &self.files
     }

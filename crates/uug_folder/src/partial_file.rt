@@ -1,62 +1,55 @@
 //! The file in which an end holds the first bytes of a file that was cut off, as a text.
 ghost use Rattle.std.specs.List.{position};
-ghost use Rattle.std.specs.Prelude.{◌≡◌, ◌∷◌, ◌++◌, IfOk, Some};
-ghost use Rattle.uug_conversation.specs.PartialView.{partial_of, shown_partial};
+ghost use Rattle.std.specs.Prelude.{◌≡◌, ◌≤◌, ◌∷◌, ◌++◌, [], ℕ, List, Some, length};
+ghost use Rattle.uug_conversation.specs.PartialView.{key_of, shown_partial};
 ghost use Rattle.uug_folder.specs.PartialTexts.{partial_in, partial_text};
 ghost use Rattle.uug_talk.specs.Lines.{is_line_feed};
 
-use std::alloc::{AllocError, Allocator};
+use arrayvec::ArrayVec;
+use std::alloc::Allocator;
 use uug_session::PartialFile;
-use uug_talk::NamedDigest;
+use uug_talk::{NamedDigest, TELLING_MAX};
 
-/// Returns the text of that file: a line with the name, size and digest of the whole file, then the bytes that have come.
-pub fn partial_text<A: Allocator + Copy>(
-    alloc: A,
-    file: &PartialFile<A>,
-) -> Result<Vec<u8, A>, AllocError>
-    ensures text { IfOk result (λ text. text.items ≡ partial_text (partial_of file.now)) }
+/// The longest line of such a text, in bytes, with its end.
+pub const HELD_LINE_MAX: usize = TELLING_MAX + 1;
+
+/// Returns the line of that file: the name, size and digest of the whole file. The bytes that have come follow it.
+pub fn held_line(named: &NamedDigest) -> ArrayVec<u8, HELD_LINE_MAX>
+    ensures text { (bytes : List ℕ) → result.items ++ bytes
+        ≡ partial_text (record { key = key_of named.now.name named.now.told; bytes = bytes }) }
     // It is read back.
-    ensures back { IfOk result (λ text. partial_in text.items ≡ Some (partial_of file.now)) }
+    ensures back { (bytes : List ℕ) → partial_in (result.items ++ bytes)
+        ≡ Some (record { key = key_of named.now.name named.now.told; bytes = bytes }) }
 {
-    let named = NamedDigest {
-        name: file.source,
-        told: file.told,
-    };
-    let text = line_and_bytes(alloc, named.line().as_slice(), file.bytes.as_slice())?;
-    Ok(text)
+    let mut line = ArrayVec::new();
+    add_line(&mut line, named.line().as_slice());
+    line
 }
 
-fn line_and_bytes<A: Allocator>(
-    alloc: A,
-    line: &[u8],
-    bytes: &[u8],
-) -> Result<Vec<u8, A>, AllocError>
-    ensures { IfOk result (λ text. text.items ≡ line.now ++ 10 ∷ bytes.now) }
+/// Adds a line and its end.
+fn add_line(text: &mut ArrayVec<u8, HELD_LINE_MAX>, line: &[u8])
+    requires empty { text.old.items ≡ [] }
+    requires fits { length line.now ≤ TELLING_MAX }
+    ensures { text.new.items ≡ line.now ++ 10 ∷ [] }
 {
-    let mut text = line.to_vec(alloc)?;
-    text.push(b'\n')?;
-    text.extend_from_slice(bytes)?;
-    Ok(text)
+    let Ok(()) = text.try_extend_from_slice(line) else {
+        unreachable!();
+    };
+    text.push(b'\n');
 }
 
 /// Returns what such a text holds of a file. Returns `None` if it is no such text.
-pub fn read_partial<A: Allocator + Copy>(
-    alloc: A,
-    text: &[u8],
-) -> Result<Option<PartialFile<A>>, AllocError>
-    ensures { IfOk result (λ found. shown_partial found ≡ partial_in text.now) }
+pub fn into_partial<A: Allocator>(mut text: Vec<u8, A>) -> Option<PartialFile<A>>
+    ensures { shown_partial result ≡ partial_in text.items }
 {
-    let Some(at) = line_feed(text) else {
-        return Ok(None);
-    };
-    match NamedDigest::of_line(&text[..at]) {
-        Some(named) => Ok(Some(PartialFile {
-            source: named.name,
-            told: named.told,
-            bytes: text[at + 1..].to_vec(alloc)?,
-        })),
-        None => Ok(None),
-    }
+    let at = line_feed(text.as_slice())?;
+    let named = NamedDigest::of_line(&text[..at])?;
+    text.drain(..at + 1);
+    Some(PartialFile {
+        source: named.name,
+        told: named.told,
+        bytes: text,
+    })
 }
 
 /// Returns the place of the first line feed.

@@ -3,6 +3,7 @@ ghost use Rattle.std.specs.Prelude.{◌≡◌, ◌≢◌, ◌<◌, ◌≤◌, �
 ghost use Rattle.uug_conversation.specs.FileView.{shown_file};
 ghost use Rattle.uug_conversation.specs.Holdings.{kept_file};
 ghost use Rattle.uug_conversation.specs.MemoryHoldings.{first_named, kept_of};
+ghost use Rattle.uug_folder.specs.KeptFiles.{shown_kept};
 ghost use Rattle.uug_folder.specs.LocalNames.{local_source};
 ghost use Rattle.uug_mailbox.specs.Code.MailModes.{mail_modes};
 ghost use Rattle.uug_mailbox.specs.Keeping.{keep_marks, keep_ops, place_for};
@@ -17,7 +18,7 @@ use crate::spool_folder::SpoolFolder;
 use std::alloc::{AllocError, Allocator};
 use std::snapshot::Snapshot;
 use uug_conversation::has_name;
-use uug_folder::{Notebook, local_source};
+use uug_folder::{KeptFile, Notebook, local_source, push_kept};
 use uug_session::{FileLimit, FileView, KeepFault, Partials, Spool, Stored, Verdict};
 use uug_spool::{Disk, local_name};
 use uug_talk::{FileDigest, MODE_MAX, Name};
@@ -44,7 +45,7 @@ pub struct MailSpool<D, N, A: Allocator> {
     /// The notebook for what comes of a file, if the end resumes.
     notebook: N,
     /// The files that were kept, for clauses alone: the bytes are in the spool, and no longer in memory.
-    kept: Vec<Snapshot<Stored<A>>, A>,
+    kept: Vec<Snapshot<KeptFile<A>>, A>,
     /// The folders of the spool.
     pub folder: SpoolFolder<D, A>,
     settings: MailSettings,
@@ -97,7 +98,7 @@ impl<D: Disk, N: Notebook, A: Allocator + Copy> Spool for MailSpool<D, N, A> {
     ghost holdings = { λ s. mail_holdings s.settings.is_lenient s.settings.tells_digests
         s.settings.limit.bytes (shown_public s.public) s.partials (map kept_of s.given.items) };
 
-    ghost kept = { λ s. map kept_of (map (λ f. f.value) s.kept.items) };
+    ghost kept = { λ s. map (λ f. shown_kept f.value) s.kept.items };
 
     ghost faults = { λ s. s.faults };
 
@@ -156,7 +157,7 @@ impl<D: Disk, N: Notebook, A: Allocator + Copy> Spool for MailSpool<D, N, A> {
             return Err(KeepFault::Refused);
         };
         // All memory is taken before the disk is touched.
-        let Ok(file) = copy_beside_room(&mut self.kept, self.alloc, name, mode, bytes) else {
+        let Ok(file) = kept_beside_room(&mut self.kept, self.alloc, name, mode, bytes) else {
             return Err(KeepFault::Memory);
         };
         if self.folder.place(&target, bytes).is_err() {
@@ -253,32 +254,18 @@ fn first_named<'a, A: Allocator>(files: &'a [Stored<A>], name: &Name) -> Option<
     None
 }
 
-/// Makes room for one more file, and makes a file of these bytes.
-fn copy_beside_room<A: Allocator + Copy>(
-    kept: &mut Vec<Snapshot<Stored<A>>, A>,
+/// Makes room for one more file, and describes it.
+fn kept_beside_room<A: Allocator + Copy>(
+    kept: &mut Vec<Snapshot<KeptFile<A>>, A>,
     alloc: A,
     name: &Name,
     mode: u16,
     bytes: &[u8],
-) -> Result<Stored<A>, AllocError>
-    requires { mode ≤ MODE_MAX }
+) -> Result<KeptFile<A>, AllocError>
     ensures kept { kept.new.items ≡ kept.old.items }
     ensures room { OnOk result (vec_len kept.new < vec_capacity kept.new) }
-    ensures file { IfOk result (λ file. kept_of file ≡ kept_file name.now mode bytes.now) }
+    ensures file { IfOk result (λ file. shown_kept file ≡ kept_file name.now mode bytes.now) }
 {
     kept.reserve(1)?;
-    Ok(Stored {
-        name: *name,
-        mode,
-        bytes: bytes.to_vec(alloc)?,
-    })
-}
-
-/// Adds a file to those that were kept, in reserved room.
-fn push_kept<A: Allocator>(kept: &mut Vec<Snapshot<Stored<A>>, A>, file: &Stored<A>)
-    requires { vec_len kept.old < vec_capacity kept.old }
-    ensures { map kept_of (map (λ f. f.value) kept.new.items)
-        ≡ map kept_of (map (λ f. f.value) kept.old.items) ++ kept_of file.now ∷ [] }
-{
-    kept.push_reserved(Snapshot::of(file));
+    KeptFile::of(alloc, name, mode, bytes)
 }

@@ -2,9 +2,9 @@
 
 use crate::assertions::{assert_same_at, assert_so_at, name};
 use std::alloc::{AllocError, Global};
-use uug_folder::{partial_text, read_partial};
+use uug_folder::{held_line, into_partial};
 use uug_session::{PartialFile, Partials};
-use uug_talk::{FileDigest, Name};
+use uug_talk::{FileDigest, Name, NamedDigest};
 
 /// The text that holds `ab` of the file `x`, which is `abc`.
 const TEXT: &str =
@@ -41,17 +41,22 @@ const TEXTS: &[(&str, Option<usize>)] = &[
 ];
 
 /// Returns how many bytes a text holds of a file.
-fn bytes_in(alloc: Global, text: &str) -> Option<usize> {
-    match read_partial(alloc, text.as_bytes()) {
-        Ok(Some(file)) => Some(file.bytes.len()),
-        _ => None,
+fn bytes_in(alloc: Global, text: &str) -> Result<Option<usize>, AllocError> {
+    match into_partial(text.as_bytes().to_vec(alloc)?) {
+        Some(file) => Ok(Some(file.bytes.len())),
+        None => Ok(None),
     }
 }
 
 #[test]
 fn reads_what_a_text_holds(rt: HostRuntime) {
     for (text, bytes) in TEXTS {
-        assert_same_at(&rt, bytes_in(rt.alloc(), text), *bytes, text);
+        assert_same_at(
+            &rt,
+            bytes_in(rt.alloc(), text).unwrap_or(None),
+            *bytes,
+            text,
+        );
     }
 }
 
@@ -64,16 +69,14 @@ fn front(alloc: Global, source: &Name, bytes: &[u8]) -> Result<PartialFile<Globa
     })
 }
 
-fn is_written(alloc: Global, source: &Name) -> Result<bool, AllocError> {
-    let file = front(alloc, source, b"ab")?;
-    let text = partial_text(alloc, &file)?;
-    Ok(text.as_slice() == TEXT.as_bytes())
-}
-
 #[test]
 fn writes_what_it_holds(rt: HostRuntime) {
-    let source = name(&rt, "x");
-    assert_so_at(&rt, is_written(rt.alloc(), &source).unwrap_or(false), "x");
+    let line = held_line(&NamedDigest {
+        name: name(&rt, "x"),
+        told: FileDigest::of(b"abc"),
+    });
+    let is_so = TEXT.as_bytes().strip_suffix(b"ab") == Some(line.as_slice());
+    assert_so_at(&rt, is_so, "x");
 }
 
 /// Holds `a`, then `ab` of the first file, and `abc` of the second one.

@@ -4,16 +4,16 @@ use crate::assertions::{assert_same_at, assert_so_at, name};
 use crate::logs::moment;
 use std::alloc::{AllocError, Global};
 use std::process::Abort;
-use uug_folder::{partial_text, read_partial};
+use uug_folder::{held_line, into_partial};
 use uug_mailbox::{WorkStore, add_file, queue_of};
 use uug_refusal::Refusing;
-use uug_session::{PartialFile, Partials};
+use uug_session::Partials;
 use uug_spool::{
     Amount, CallState, Command, Course, LogEvent, LogHead, MemoryDisk, StatsHead, Status,
     add_command_line, execution_text, log_line, name_said, quoted, read_command, stats_line,
     status_line,
 };
-use uug_talk::{FileDigest, Name};
+use uug_talk::{FileDigest, Name, NamedDigest};
 
 type Heap<'a> = &'a Refusing<Global>;
 
@@ -105,16 +105,14 @@ fn settle_mail(heap: Heap<'_>, node: &Name) -> bool {
         .is_ok()
 }
 
-/// Writes what is held of a file, reads it back, and holds it.
+/// Holds what a text holds of a file.
 fn hold_partial(heap: Heap<'_>, source: &Name) -> Result<(), AllocError> {
-    let file = PartialFile {
-        source: *source,
+    let line = held_line(&NamedDigest {
+        name: *source,
         told: FileDigest::of(LINE),
-        bytes: LINE.to_vec(heap)?,
-    };
-    let text = partial_text(heap, &file)?;
+    });
     let mut partials = Partials::new(heap);
-    match read_partial(heap, text.as_slice())? {
+    match into_partial(line.as_slice().to_vec(heap)?) {
         Some(file) => partials.put(file),
         None => Ok(()),
     }

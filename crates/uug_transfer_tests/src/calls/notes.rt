@@ -95,7 +95,7 @@ fn hold(rt: &(impl Files<File = File> + Abort + AllocGlobal), dir: &str, count: 
     assert_same(rt, held.is_ok(), true);
 }
 
-/// Notes what comes behind a front that is not the one on the disk.
+/// Notes what comes behind a front that is shorter than the one on the disk.
 fn note_behind_another(rt: &(impl Files<File = File> + Abort + AllocGlobal), dir: &str) {
     let mut notes = notes(rt, dir);
     let bytes = filled(rt, 40_000);
@@ -104,8 +104,8 @@ fn note_behind_another(rt: &(impl Files<File = File> + Abort + AllocGlobal), dir
     notes.note(&source(rt), &told(), &front, &bytes);
 }
 
-// what has come of a file that nothing was held of; what comes behind a front; a front of another length, to which
-// nothing is appended
+// what has come of a file that nothing was held of; what comes behind a front; a shorter front than the one on the disk,
+// which takes its place
 #[test]
 fn writes_down_what_comes(rt: HostRuntime) {
     let dir = folder_path(&rt, process::id(rt.process()), "notes");
@@ -114,7 +114,18 @@ fn writes_down_what_comes(rt: HostRuntime) {
     note_all(&rt, dir.as_str(), 100);
     hold(&rt, dir.as_str(), 100);
     note_behind_another(&rt, dir.as_str());
-    assert_held(&rt, dir.as_str(), 100, 0);
+    assert_held(&rt, dir.as_str(), 99, 40_000);
+    remove(&rt, dir.as_str());
+}
+
+// what is left at a session's end: nothing was held of it, some of it, more than all of it
+#[test]
+fn holds_what_is_left(rt: HostRuntime) {
+    let dir = folder_path(&rt, process::id(rt.process()), "left");
+    for count in [1, 100, 50_000, 40_000] {
+        hold(&rt, dir.as_str(), count);
+        assert_held(&rt, dir.as_str(), 0, count);
+    }
     remove(&rt, dir.as_str());
 }
 

@@ -1,4 +1,3 @@
-use Rattle.std.proofs.lemmas.List.{length-map}
 use Rattle.uug_conversation.specs.MemoryHoldings.{kept_of}
 use Rattle.std.proofs.Common.{map, ap, ◌∙◌, ◌++◌, ◌∷◌, [], ℕ, List}
 use Rattle.uug_folder.specs.Folders.{folder_holdings}
@@ -9,7 +8,7 @@ pub returns-clause-ok : goal.returns-clause-ok
 returns-clause-ok g c =
     kept_more c.self.inside.files c.keep.new.self c.self.inside.names.items c.push_name.new.names.items c.self.inside.delayed.items c.self.inside.partials c.self.inside.lenient c.self.inside.digests c.self.inside.limit c.args.self.now
     c.args.name.now c.in-Some.local c.args.mode c.args.bytes.now c.self.view_is
-    (as_many c.self.inside.names.items (map kept_of c.self.inside.files.stored) c.self.invariant ∙ length-map c.self.inside.files.stored kept_of)
+    (as_many c.self.inside.names.items c.self.inside.files.stored c.self.invariant)
     (c.push_name.ensures ∙ ap (λ (names : List (List ℕ)). names ++ c.args.name.now ∷ []) c.reserve.ensures.items)
     c.in_ok-keep.ensures.ok
 
