@@ -207,7 +207,7 @@ fn unless_gone(answer: io::Result<()>) -> io::Result<()>
     }
 }
 
-/// Creates a file, and writes it.
+/// Creates a file, and writes it. One that can't be written whole is removed: it would keep a full disk full.
 pub(crate) fn make_file<A: Allocator + Copy, R: Files<File = File>>(
     alloc: A,
     rt: &R,
@@ -224,7 +224,11 @@ pub(crate) fn make_file<A: Allocator + Copy, R: Files<File = File>>(
             new_file(rt, path.as_str(), mode)?
         }
     };
-    file.write_all(bytes)
+    let written = file.write_all(bytes);
+    if written.is_err() {
+        let _ = fs::remove_file(rt, path.as_str());
+    }
+    written
 }
 
 /// Returns the mode of a file before the mask of the process. Everybody may read what goes into the public folder, and
