@@ -369,9 +369,26 @@ def a_file_that_is_cut_short_over_a_spool(one):
     caller, called = nodes.call("alpha", own=False), called.end()
     one.row("who calls", (caller.status, caller.out), (1, report("caller", "peerclosed", pending=2)))
     one.row("who is called", (called.status, called.out), (1, report("called", "spoolfault")))
+    one.row("what is incomplete", names_in(nodes.at("beta", "spool/.Temp/alpha")), [])
     caller, called = nodes.talk()
     one.row("the next session", (caller.all(), called.all(), text_of(nodes.at("beta", "spool/alpha/D./D.alphaN0003"))),
             ((0, report("caller", struck=2), ""), (0, report("called"), ""), filler("mail", 9000)))
+
+
+@scene()
+def more_over_a_spool_than_a_session_offers(one):
+    """--most: what waits behind the first jobs whose files have so many bytes is told, in the log too."""
+    nodes = Nodes(one)
+    for number in ("0003", "0004"):
+        nodes.mail("alpha", number, filler(number, 600_000))
+    nodes.known("beta", "alpha")
+    words = "more jobs wait for the next session"
+    caller, called = nodes.talk(call=["--most", "1048576"])
+    one.row("the first session", (caller.all(), called.all()), ((0, report("caller", struck=2), said(words)), (0, report("called"), "")))
+    one.row("its log", sum(f"ERROR: {words}" in line for line in nodes.log("alpha")), 1)
+    one.row("what waits", [name for name in nodes.there("alpha") if "/C./" in name], ["beta/C./C.N0004"])
+    caller, called = nodes.talk(call=["--most", "1048576"])
+    one.row("the next one", (caller.all(), nodes.there("alpha")), ((0, report("caller", struck=2), ""), {}))
 
 
 @scene("root")

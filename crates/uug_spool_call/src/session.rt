@@ -36,6 +36,9 @@ use uug_spool_disk::{PublicListing, SpoolPaths, is_known, linked_room};
 use uug_stream::{Output, ToolFault, write_all};
 use uug_transfer::{BYTES_MAX, EndLine, PatienceLimits, SessionFault, run_session};
 
+/// What is said if more jobs wait than a session offers.
+const MORE: &str = "more jobs wait for the next session";
+
 /// Runs the session of an end over a spool at its line. What was left between its arrival and its place is put there
 /// first. A job that is over is taken off the disk before anything is written that acknowledges it.
 pub fn talk_over_spool<A, R, L, O>(
@@ -183,6 +186,9 @@ where
     };
     let Arrivals { came, aside } = finish_arrivals(alloc, rt, paths, &mut public)?;
     let mut work = read_work(alloc, rt, paths, &place.me, call.allowance, call.grade)?;
+    if work.is_more {
+        tell_more(alloc, rt, call, paths);
+    }
     work.came = came;
     work.aside = aside;
     // A caller that the spool does not know is given nothing.
@@ -194,6 +200,16 @@ where
     work.ungiven = ungiven;
     work.partials = read_held(alloc, rt, call, paths)?;
     Ok(SpoolEnd::begin(alloc, rt, call, place, paths, work, public)?)
+}
+
+/// Says, in the log too, that more jobs wait than the session offers.
+fn tell_more<A, R>(alloc: A, rt: &R, call: &SpoolCall<'_>, paths: &SpoolPaths<A>)
+where
+    A: Allocator + Copy,
+    R: Files<File = File> + Clock + Env + Eprint + AllocGlobal,
+{
+    let _ = eprint!(rt; "uucpair: {MORE}\n");
+    tell_fault(alloc, rt, call, *paths.system(), MORE);
 }
 
 /// Refuses a session if a link is in the place of a folder of the spool's own, as it could lead anywhere. Says, in the log

@@ -116,6 +116,8 @@ pub(crate) struct Work<A: Allocator> {
     pub(crate) aside: Vec<Unread, A>,
     /// Holds the first bytes of files that were cut off, if the end resumes such files.
     pub(crate) partials: Option<Partials<A>>,
+    /// Set if more jobs wait than a session offers.
+    pub(crate) is_more: bool,
 }
 
 impl<A: Allocator + Copy> Work<A> {
@@ -133,6 +135,7 @@ impl<A: Allocator + Copy> Work<A> {
             came: Vec::new(alloc),
             aside: Vec::new(alloc),
             partials: None,
+            is_more: false,
         }
     }
 }
@@ -181,6 +184,7 @@ pub(crate) fn read_work<A: Allocator + Copy, R: Files<File = File> + Alloc + Clo
         add_commands(&mut work, &reader, name, &mut budget)?;
     }
     see_lines(alloc, rt, paths, work.lines.as_slice())?;
+    work.is_more = budget.is_full;
     Ok(work)
 }
 
