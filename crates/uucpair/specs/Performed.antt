@@ -10,9 +10,8 @@ use Rattle.uug_words.specs.Asked.{Asks}
 use Rattle.uug_words.specs.Tools.{uucpair}
 use Rattle.uug_words.specs.declared.command_line.Task.{Task}
 use Rattle.uug_words.specs.declared.command_line.Task.TheVariants.{Version, Scan, ScanVerbose, Play, PlayVerbose, PlaySettled, PlayDrawn, Pair, Call, Queue, Cancel, Status}
-use Rattle.uug_conversation.specs.declared.side.Side.TheVariants.{Caller}
 use Rattle.uug_pending.specs.Status.{WritesStatus}
-use Rattle.uug_sys.specs.Calls.{HasCalled}
+use Rattle.uug_sys.specs.Calls.{HasTalked}
 use Rattle.uug_task.specs.declared.task.CallTask.{CallTask}
 use Rattle.uug_transfer.specs.LineNames.{line_of, standard}
 use Rattle.uug_input.specs.Inputs.{DoesOn, StaysUnread, StaysUnwritten, Streams}
@@ -39,17 +38,17 @@ pub record Pairs (s : Streams) (answer : Result ℕ RunFault) : Type 0 where
 
 -- its report goes to standard output, which is not its line
 pub record PrintsReport (task : CallTask) : Type 0 where
-  pub calls : task.side ≡ Caller
   pub no_file : task.report ≡ None
   pub apart : line_of task.line.now ≢ Some standard
 
 -- `call` and `answer`: the same. Where a caller prints its report, that is the report of an end that has run its session to its
--- end, and the status is that of this session; or another run talks with that system, and nothing is printed.
+-- end, and the status is that of this session; or another run talks with that system, and nothing is printed. A called end
+-- prints one or more such reports, one behind the other, and its status is the greatest.
 pub record Calls (task : CallTask) (s : Streams) (answer : Result ℕ RunFault) : Type 0 where
   pub status : IfOk answer (λ status. status ≤ 1)
   pub reads : StaysUnread s
   pub no_other : IfErr answer IsRunFault
-  pub reported : PrintsReport task → IfOk answer (λ status. HasCalled status s.before s.after)
+  pub reported : PrintsReport task → IfOk answer (λ status. HasTalked task.side status s.before s.after)
 
 -- `queue`: the same as `pair`
 pub record Queues (s : Streams) (answer : Result ℕ RunFault) : Type 0 where

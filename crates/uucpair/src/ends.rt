@@ -3,7 +3,7 @@ ghost use Rattle.std.specs.Prelude.{◌≡◌, ◌≤◌, IfErr, IfOk};
 ghost use Rattle.uug_failure.specs.Faults.{IsFolderFault, IsRunFault};
 ghost use Rattle.uug_stop.specs.declared.of_end.TheConstants.{LOG};
 ghost use Rattle.uug_stream.specs.Streams.{CountsFault};
-ghost use Rattle.uug_sys.specs.Calls.{HasCalled};
+ghost use Rattle.uug_sys.specs.Calls.{HasTalked};
 ghost use Rattle.uucpair.specs.Performed.{PrintsReport};
 
 use crate::bad_jobs::jobs_remark;
@@ -106,7 +106,7 @@ where
     ensures status { IfOk result.answer (λ status. status ≤ 1) }
     ensures no_other { IfErr result.answer IsRunFault }
     ensures reported { PrintsReport call.now → IfOk result.answer (λ status.
-        HasCalled status (O.written output.old) (O.written output.new)) }
+        HasTalked call.now.side status (O.written output.old) (O.written output.new)) }
 {
     if lacks_spool(call) {
         return Outcome::of(rt.alloc(), Err(RunFault::Tool(ToolFault::Usage)));
@@ -115,13 +115,30 @@ where
         return Outcome::of(rt.alloc(), Err(fault));
     }
     match call.report_place() {
+        ReportPlace::Output => do_call_over(rt, call, console, output),
+        place => do_call_beside(rt, call, console, place),
+    }
+}
+
+/// Does the same, with its report to this place, which is not the output.
+fn do_call_beside<R>(
+    rt: &R,
+    call: &CallTask<'_>,
+    console: Console,
+    place: ReportPlace<'_>,
+) -> Outcome<u8, Global>
+where
+    R: System,
+    ensures status { IfOk result.answer (λ status. status ≤ 1) }
+    ensures no_other { IfErr result.answer IsRunFault }
+{
+    match place {
         ReportPlace::File(path) if call.may_run() => do_call_reporting(rt, call, console, path),
-        ReportPlace::Errors => {
+        // Bad usage opens no file.
+        _ => {
             let mut report = SystemOutput::new(console.streams.errors);
             do_call_over(rt, call, console, &mut report)
         }
-        // Bad usage opens no file.
-        ReportPlace::File(_) | ReportPlace::Output => do_call_over(rt, call, console, output),
     }
 }
 
@@ -205,8 +222,8 @@ where
     ensures write { result.answer ≡ Err (RunFault.Tool ToolFault.Write)
         → CountsFault (O.fault_count output.old) (O.fault_count output.new) }
     ensures no_other { IfErr result.answer IsRunFault }
-    ensures reported { call.now.side ≡ Side.Caller → IfOk result.answer (λ status.
-        HasCalled status (O.written output.old) (O.written output.new)) }
+    ensures reported { IfOk result.answer (λ status. HasTalked call.now.side status
+        (O.written output.old) (O.written output.new)) }
 {
     let observer = match observer_of(rt, call, console) {
         Ok(observer) => observer,

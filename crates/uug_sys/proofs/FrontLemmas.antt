@@ -3,7 +3,7 @@ use Rattle.std.proofs.Common.{◌≡◌, ℕ, zero, suc, List, [], ◌∷◌, �
 use Rattle.std.proofs.lemmas.List.{take-append-drop}
 use Rattle.uug_conversation.specs.declared.job.Job.{Job}
 use Rattle.uug_conversation.specs.Jobs.{Lists, at_start, pending}
-use Rattle.uug_folder.specs.JobsText.{IsFrontOf, IsQueueOf, jobs_of}
+use Rattle.uug_folder.specs.JobsText.{IsFrontOf, IsQueueOf}
 
 -- where none is in front, none is behind
 none_behind : (n : ℕ) (jobs : List Job) → (n ≡ 0 → length jobs ≡ 0) → take n jobs ≡ [] → drop n jobs ≡ []

@@ -1,8 +1,10 @@
 //! An end that is called at a socket. It listens until its last caller has been let in.
-ghost use Rattle.std.specs.Prelude.{◌≡◌, ◌≢◌, ◌≤◌, Err, IfErr, IfNone, IfOk, IfSome, IsErr, Ok, OnOk, max};
+ghost use Rattle.std.specs.Prelude.{◌≡◌, ◌≢◌, ◌≤◌, [], Err, IfErr, IfNone, IfOk, IfSome, IsErr, IsSome, Ok, OnErr, OnOk, Some, max, true};
 ghost use Rattle.uug_failure.specs.Faults.{IsSessionFault, IsSystemFault};
-ghost use Rattle.uug_stream.specs.Streams.{CountsFault};
+ghost use Rattle.uug_stream.specs.Streams.{Appends, CountsFault};
+ghost use Rattle.uug_sys.specs.Calls.{AreReported};
 ghost use Rattle.uug_sys.specs.HubFaults.{is_in_folder, is_of_folder, is_of_session};
+ghost use Rattle.uug_transfer.specs.Reported.{IsReported};
 
 use crate::bad_jobs::jobs_remark_at;
 use crate::call::{stream_line, talk_over};
@@ -60,6 +62,9 @@ where
     ensures write { result.answer ≡ Err (RunFault.Tool ToolFault.Write)
         → CountsFault (O.fault_count output.old) (O.fault_count output.new) }
     ensures no_other { IfErr result.answer IsSessionFault }
+    // The report of one session at least is printed.
+    ensures reported { IfOk result.answer (λ status. AreReported run.now.task.now.side status
+        (O.written output.old) (O.written output.new)) }
 {
     match opened {
         Ok(listening) => answer_calls(run, listening, observer, output),
@@ -87,12 +92,14 @@ where
     ensures write { result.answer ≡ Err (RunFault.Tool ToolFault.Write)
         → CountsFault (O.fault_count output.old) (O.fault_count output.new) }
     ensures no_other { IfErr result.answer IsSessionFault }
+    ensures reported { IfOk result.answer (λ status. AreReported run.now.task.now.side status
+        (O.written output.old) (O.written output.new)) }
 {
     let sessions = sessions_of(&run.station);
     let mut doorkeeper = Doorkeeper::new(observer, listening, sessions);
     let mut remark = String::new(run.alloc);
     let mut tally = Tally::none();
-    for _ in 0..sessions {
+    for _past in 0..sessions {
         tell(run.rt, remark.as_str());
         let (served, keeper) = next_served(run, doorkeeper);
         doorkeeper = keeper;
@@ -102,20 +109,14 @@ where
             remark: said,
         } = outcome;
         remark = said;
-        match give(answer, report, output) {
-            Ok(next) => tally.status = greater(tally.status, next),
-            Err(fault) if is_of_session(&fault) => {
-                tally.add(&fault);
-                report_fault(run, fault);
-            }
-            Err(fault) => {
-                doorkeeper.close();
-                drop(doorkeeper);
-                return Outcome {
-                    answer: Err(fault),
-                    remark,
-                };
-            }
+        let given = give(answer, report, output);
+        if let Err(fault) = tally.count(run, given) {
+            doorkeeper.close();
+            drop(doorkeeper);
+            return Outcome {
+                answer: Err(fault),
+                remark,
+            };
         }
         if !doorkeeper.is_open() {
             break;
@@ -150,9 +151,39 @@ impl Tally {
         }
     }
 
+    /// Counts a session with this answer. A bad line of jobs, or a fault on the files of the end, is reported at once,
+    /// and counts. Any other fault is returned.
+    fn count<A: Allocator + Copy, R: System>(
+        &mut self,
+        run: &EndRun<'_, A, R>,
+        answer: Result<u8, RunFault>,
+    ) -> Result<(), RunFault>
+        ensures greatest { IfOk answer (λ status.
+            self.new ≡ record self.old { status = max self.old.status status }) }
+        ensures status { OnErr answer (self.new.status ≡ self.old.status) }
+        ensures failed { OnErr answer (OnOk result
+            (IfNone self.new.failed (IsSome self.new.bad_line))) }
+        ensures err { IfErr result (λ fault. answer ≡ Err fault) }
+    {
+        match answer {
+            Ok(status) => {
+                self.status = greater(self.status, status);
+                Ok(())
+            }
+            Err(fault) if is_of_session(&fault) => {
+                self.add(&fault);
+                report_fault(run, fault);
+                Ok(())
+            }
+            Err(fault) => Err(fault),
+        }
+    }
+
     /// Adds why a session has ended.
     fn add(&mut self, fault: &RunFault)
-        ensures { self.new.status ≡ self.old.status }
+        ensures status { self.new.status ≡ self.old.status }
+        ensures failed { is_of_session fault.now ≡ true
+            → IfNone self.new.failed (IsSome self.new.bad_line) }
     {
         match fault {
             RunFault::System(failure) => self.failed = self.failed.or(Some(*failure)),
@@ -257,11 +288,11 @@ fn report_failure<A: Allocator + Copy, R: System>(
     }
 }
 
-/// Returns the maximum number of the end's sessions.
+/// Returns the maximum number of the end's sessions, one at least.
 fn sessions_of(station: &Station) -> u32
-    ensures { result ≡ station.now.sessions }
+    ensures { result ≡ max 1 station.now.sessions }
 {
-    station.sessions
+    station.sessions.max(1)
 }
 
 /// Returns the greater of two statuses.
@@ -286,6 +317,8 @@ where
     ensures no_other { IfErr result.0.outcome.answer IsSessionFault }
     // What is held is in memory, whose faults are no refused writes.
     ensures no_write { result.0.outcome.answer ≢ Err (RunFault.Tool ToolFault.Write) }
+    ensures reported { IfOk result.0.outcome.answer (λ status.
+        IsReported run.now.task.now.side status (Some []) (Some result.0.report.bytes.items)) }
 {
     let station = &run.station;
     let deadline = match Deadline::after(run.rt, station.wait_at_socket()) {
@@ -383,6 +416,8 @@ where
     ensures status { IfOk result.0.outcome.answer (λ status. status ≤ 1) }
     ensures no_other { IfErr result.0.outcome.answer IsSessionFault }
     ensures no_write { result.0.outcome.answer ≢ Err (RunFault.Tool ToolFault.Write) }
+    ensures reported { IfOk result.0.outcome.answer (λ status.
+        IsReported run.now.task.now.side status (Some []) (Some result.0.report.bytes.items)) }
 {
     let mut report = HeldOutput::new(run.alloc);
     let (outcome, doorkeeper) = talk_over(run, None, line, doorkeeper, &mut report);
@@ -428,6 +463,9 @@ fn give<A: Allocator, O: Output>(
         → CountsFault (O.fault_count output.old) (O.fault_count output.new) }
     ensures no_other { IfErr result IsSessionFault }
     ensures first { IfErr answer (λ fault. result ≡ Err fault) }
+    ensures same { IfOk result (λ status. answer ≡ Ok status) }
+    ensures prints { OnOk result
+        (Appends report.bytes.items (O.written output.old) (O.written output.new)) }
     ensures calm { OnOk result (O.fault_count output.new ≡ O.fault_count output.old) }
     ensures grows { O.fault_count output.old ≤ O.fault_count output.new }
 {

@@ -4,7 +4,7 @@ ghost use Rattle.uug_failure.specs.Faults.{IsFaultAtLine, IsFolderFault, IsReadi
 ghost use Rattle.uug_stream.specs.Streams.{CountsFault};
 ghost use Rattle.uug_sys.specs.EndAnswers.{answer_with, failure_to_tell, status_of};
 ghost use Rattle.uug_sys.specs.JobRemarks.{has_failed};
-ghost use Rattle.uug_sys.specs.Calls.{HasCalled};
+ghost use Rattle.uug_sys.specs.Calls.{AreReported, HasTalked};
 ghost use Rattle.uug_task.specs.Tasks.{IsTask};
 ghost use Rattle.uug_transfer.specs.Reported.{IsReported};
 
@@ -72,9 +72,10 @@ where
         → CountsFault (O.fault_count output.old) (O.fault_count output.new) }
     ensures usage { (result.answer ≡ Err (RunFault.Tool ToolFault.Usage)) ↔ (IsTask task.now → ⊥) }
     // A caller's report is printed, of an end that has run its session to its end, with its status. Else another run
-    // talks with that system over its spool: then nothing is printed, and the status is 1.
-    ensures reported { task.now.side ≡ Side.Caller → IfOk result.answer (λ status.
-        HasCalled status (O.written output.old) (O.written output.new)) }
+    // talks with that system over its spool: then nothing is printed, and the status is 1. A called end prints one or
+    // more such reports, one behind the other, and its status is the greatest.
+    ensures reported { IfOk result.answer (λ status. HasTalked task.now.side status
+        (O.written output.old) (O.written output.new)) }
     // A call of the system that failed is named.
     ensures no_other { IfErr result.answer IsRunFault }
 {
@@ -113,6 +114,8 @@ where
     ensures no_other { IfErr result.answer IsSessionFault }
     ensures reported { run.now.task.now.side ≡ Side.Caller → IfOk result.answer (λ status.
         IsReported Side.Caller status (O.written output.old) (O.written output.new)) }
+    ensures sessions { IfOk result.answer (λ status. AreReported run.now.task.now.side status
+        (O.written output.old) (O.written output.new)) }
 {
     let lock = match lock_and_look(run.alloc, run.rt, run.task) {
         Ok(lock) => lock,
@@ -209,6 +212,8 @@ where
     // A caller has one session, of which the report is printed.
     ensures reported { run.now.task.now.side ≡ Side.Caller → IfOk result.answer (λ status.
         IsReported Side.Caller status (O.written output.old) (O.written output.new)) }
+    ensures sessions { IfOk result.answer (λ status. AreReported run.now.task.now.side status
+        (O.written output.old) (O.written output.new)) }
 {
     let (alloc, rt, time) = (run.alloc, run.rt, run.station.time());
     match (line, run.task.side) {

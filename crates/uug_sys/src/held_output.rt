@@ -1,5 +1,5 @@
 //! An output that is held back until it is known whether it is wanted.
-ghost use Rattle.std.specs.Prelude.{◌≡◌, Some};
+ghost use Rattle.std.specs.Prelude.{◌≡◌, [], Some};
 
 use std::alloc::Allocator;
 use uug_stream::{Output, WriteFailed};
@@ -12,7 +12,9 @@ pub(crate) struct HeldOutput<A: Allocator> {
 
 impl<A: Allocator> HeldOutput<A> {
     /// Creates an empty output. Allocates nothing.
-    pub(crate) fn new(alloc: A) -> Self {
+    pub(crate) fn new(alloc: A) -> Self
+        ensures { result.bytes.items ≡ [] }
+    {
         HeldOutput {
             bytes: Vec::new(alloc),
         }

@@ -5,7 +5,7 @@ ghost use Rattle.uug_spool.specs.SpoolNames.{is_system_name};
 ghost use Rattle.uug_transfer.specs.Reported.{IsReported};
 ghost use Rattle.uug_stream.specs.Streams.{CountsFault};
 ghost use Rattle.uug_sys.specs.Callers.{other_than};
-ghost use Rattle.uug_sys.specs.Calls.{HasCalled};
+ghost use Rattle.uug_sys.specs.Calls.{AreReported, HasCalled};
 ghost use Rattle.uug_sys.specs.SpoolCalls.{IsCallOf, line_fault, port_of};
 ghost use Rattle.uug_sys.specs.SpoolLocks.{CallsLater, Says, is_locked, lock_words};
 ghost use Rattle.uug_transfer.specs.Writing.{TakesFront};
@@ -60,6 +60,8 @@ where
     ensures no_other { IfErr result.answer IsSessionFault }
     ensures reported { run.now.task.now.side ≡ Side.Caller → IfOk result.answer (λ status.
         HasCalled status (O.written output.old) (O.written output.new)) }
+    ensures sessions { run.now.task.now.side ≡ Side.Called → IfOk result.answer (λ status.
+        AreReported Side.Called status (O.written output.old) (O.written output.new)) }
 {
     if let Err(fault) = see_spool(run.alloc, run.rt, run.task) {
         drop(observer);

@@ -1,4 +1,4 @@
-use Rattle.std.proofs.Common.{◌≡◌, take, sym, ap, subst, ◌∙◌}
+use Rattle.std.proofs.Common.{take, sym, ap, subst, ◌∙◌}
 use Rattle.uug_folder.specs.JobsText.{IsFrontOf}
 use Rattle.uug_sys.proofs.FrontLemmas.{first_are_front}
 use Rattle.uug_sys.proofs.parts.make_parts.Goals as goal
