@@ -23,7 +23,7 @@ sys.path[:0] = [os.path.join(HERE, "real"), HERE, os.path.join(ROOT, "interop")]
 import suite  # noqa: E402
 
 # The longest begin first.
-MODULES = ("scripts", "refusals", "kills", "folders", "resumes", "spools", "lines", "disks", "queues", "callers",
+MODULES = ("scripts", "refusals", "kills", "folders", "resumes", "spools", "lines", "disks", "noisy", "queues", "callers",
         "statuses", "terminals", "tools")
 
 
