@@ -17,8 +17,8 @@ Of single documents:
     - in PROOFS, a cell below "Contract" has functions, as `CRATE::FUNCTION`, and after a colon clauses of theirs. What is in
       brackets is in the sources. The clauses rest on a definition of each file below "Rests on";
     - PERFORMANCE has the table that bench/all.py makes of bench/results;
-    - in OPERATING's limits a row has the value of each constant that it names, and a law `limits` names the constant
-      where the row says *law*. In PROTOCOL a sentence has the value of each constant that it names in brackets.
+    - OPERATING's table of limits has a row for each of LIMITS, with the values of its constants, which a law `limits` names.
+      In PROTOCOL a sentence has the value of each constant that it names in brackets.
 
 Of the sources: at most CLAUSES_MAX comments of items (`///`, `//!`) begin with a noun clause ("What ..", "Whether ..").
 
@@ -51,6 +51,32 @@ ENDINGS = tuple(".rt .antt .edit .sh .py .c .md .script .report .ladder .bytes .
 FOLDERS = tuple("crates src specs proofs must-fail tests tools interop bench examples docs packaging .ci".split())
 WORDS = "zero one two three four five six seven eight nine ten eleven twelve thirteen fourteen fifteen sixteen".split()
 ORDINALS = "zeroth first second third fourth fifth sixth seventh eighth ninth tenth".split()
+
+# The constants of each of OPERATING's limits.
+LIMITS = {
+    "a packet size": "SIZE_MIN MESSAGE_MAX",
+    "a window": "WINDOW_MAX",
+    "timeouts in a row": "TIMEOUTS_MAX",
+    "a name": "NAME_MAX",
+    "a command": "COMMAND_MAX",
+    "a text of the greeting": "HAIL_MAX",
+    "a file": "FILE_LIMIT_MAX FILE_MAX",
+    "pending jobs": "JOBS_MAX",
+    "a C. file": "COMMANDS_MAX",
+    "a line of `jobs`": "LINE_MAX",
+    "files in `send` beside those of jobs": "OTHERS_MAX",
+    "`--most`": "MOST_MIN",
+    "`--keep-partials`": "KEEP_MAX",
+    "`jobs`, `number`": "TEXT_MAX",
+    "a greeting in which bytes arrive": "GREETING_SECONDS GREETING_TIMERS",
+    "bytes without progress": "SESSION_TIMERS",
+    "`--timeout`": "SECONDS_MAX",
+    "`--speed`": "SPEED_MIN SPEED_MAX",
+    "`--sessions`": "SESSIONS_MAX",
+    "`--wait`": "WAIT_MAX",
+}
+# No law names these.
+WITHOUT_LAW = {"COMMANDS_MAX"}
 
 # Words of the standard library, and options of other programs, that documents name.
 OF_OTHERS = {"std", "make_contiguous", "--inetd"}
@@ -349,18 +375,19 @@ def check_value(path, number, name, crate, text):
 
 @functools.lru_cache(None)
 def pinned():
-    """The constants that laws of limits name, with their crates."""
-    laws = [(crate, f) for crate in sources.crates() for f in sources.functions_of(crate) if f.name == "limits"]
-    return {(crate, name) for crate, law in laws for name in re.findall(r"\b[A-Z][A-Z_]+\b", law.contract)}
+    """The constants that laws of limits name."""
+    laws = [f for crate in sources.crates() for f in sources.functions_of(crate) if f.name == "limits"]
+    return {name for law in laws for name in re.findall(r"\b[A-Z][A-Z_]+\b", law.contract)}
 
 
 def check_limits():
-    for number, row in rows_of(OPERATING):
-        told = row.get("Constant", "")
-        for name, crate in re.findall(r"`([A-Z][A-Z_]+)`(?: of `(\w+)`)?", told):
-            others = " ".join(cell for head, cell in row.items() if head != "Constant")
-            check_value(OPERATING, number, name, crate, others)
-            if "*law*" in told and not any(name == law and crate in ("", home) for home, law in pinned()):
+    limits = [(number, row) for number, row in rows_of(OPERATING) if "Limit" in row]
+    for what in LIMITS.keys() ^ {row["What"] for _, row in limits}:
+        complain(OPERATING, 0, f"the limits of this table and of tools/docs_check.py are not the same: {what}")
+    for number, row in limits:
+        for name in LIMITS.get(row["What"], "").split():
+            check_value(OPERATING, number, name, None, " ".join(row.values()))
+            if name not in WITHOUT_LAW | pinned():
                 complain(OPERATING, number, f"{name} is in no law of limits")
     for number, line in lines_of(PROTOCOL):
         for sentence in re.split(r"(?<=[.;])\s", line):
