@@ -42,7 +42,7 @@ def wanted(names):
         else:
             found.append(function)
     if others:
-        print(f"left out: {others} scenes that need a command or root", flush=True)
+        print(f"left out: {others} scenes that need a command, root or minutes", flush=True)
     return found
 
 

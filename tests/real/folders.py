@@ -220,7 +220,7 @@ def one_line(lock, caller):
     return text_of(lock)
 
 
-@scene()
+@scene("minutes")
 def large_files(one):
     """Files of more than a MiB go both ways; one over the limit of its taker is refused before it comes, and one over that of its giver
     is not sent."""
@@ -248,7 +248,7 @@ def large_files(one):
             ((0, report("caller", struck=1), ""), 0, True))
 
 
-@scene()
+@scene("minutes")
 def files_about_as_large_as_they_may_be(one):
     """Around each limit: what one end may give, and what the other may take."""
     for limit in (1, 100, 1_048_576, 1_200_000):
