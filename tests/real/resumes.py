@@ -101,7 +101,7 @@ def where_a_file_goes_on(one):
         job = f"uucpair: N s: {whose}send long long"
         one.row(f"what the end says {who}", job_lines(ended), [job, f"{job}: resumed at {start}", f"{job}: done {9000 - start} bytes in N s"])
     for name, verb in (("alpha", "Sending"), ("beta", "Receiving")):
-        one.row(f"the log of {name}", file_lines(ends.at(name, "log")), [f"{verb} long (resume at {start})", f"{verb} long ({9000 - start} bytes)"])
+        one.row(f"the log of {name}", file_lines(ends.at(name, "log")), [f"{verb} long (9000 bytes resume at {start})", f"{verb} long ({9000 - start} bytes)"])
 
 
 @scene()
@@ -399,7 +399,7 @@ def a_file_that_is_cut_off_over_a_spool(one):
                 one.row(f"what is held of {giver}", names_in(nodes.at(taker, f"spool/.Partial/{giver}")), [digest(text)])
         for node, verb, name in ((giver, "Sending", "~/src"), (taker, "Receiving", "~/came")):
             goes_on = [line for line in file_lines(nodes.at(node, "Log")) if "resume at" in line]
-            one.holds(f"the log of {node} says where it goes on", goes_on and all(line.startswith(f"{verb} {name} (resume at ") for line in goes_on), goes_on)
+            one.holds(f"the log of {node} says where it goes on", goes_on and all(line.startswith(f"{verb} {name} ({len(text)} bytes resume at ") for line in goes_on), goes_on)
         one.holds(f"each byte of {giver} passes once", passed <= 1.3 * len(text), (passed, sessions))
         one.row(f"it comes, from {giver}", (text_of(nodes.at(taker, "pub/came")) == text, names_in(nodes.at(taker, f"spool/.Partial/{giver}"))), (True, []))
         for node in nodes.names:

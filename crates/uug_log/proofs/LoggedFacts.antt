@@ -1,5 +1,5 @@
 -- What an end has in its log of sessions and jobs, so that a wrong definition does not check.
-use Rattle.std.proofs.Common.{◌≡◌, ◌∷◌, [], true, false, codes, Some, refl}
+use Rattle.std.proofs.Common.{◌≡◌, ◌∷◌, [], true, false, codes, Some, None, refl}
 use Rattle.uug_conversation.specs.declared.side.Side.TheVariants.{Caller, Called}
 use Rattle.uug_log.specs.declared.transfer.Outcome.TheVariants.{Done, Never, TooLarge, Later, Differs}
 use Rattle.uug_log.specs.declared.transfer.Transfer.{Transfer}
@@ -21,8 +21,8 @@ record AreLogged : Type 0 where
   a_file_for_us : job_entry (job Out Request) Done 20 ≡ receives (codes "y") (Some 20)
   their_file : job_entry (job In Send) Done 20 ≡ receives (codes "y") (Some 20)
   a_file_for_them : job_entry (job In Request) Done 20 ≡ sends (codes "~/x") 20
-  ours_goes_on : resumed_entry true (codes "~/x") (codes "y") 30720 ≡ sends_from (codes "~/x") 30720
-  theirs_goes_on : resumed_entry false (codes "~/x") (codes "y") 1 ≡ receives_from (codes "y") 1
+  ours_goes_on : resumed_entry true (codes "~/x") (codes "y") (Some 60000) 30720 ≡ sends_from (codes "~/x") (Some 60000) 30720
+  theirs_goes_on : resumed_entry false (codes "~/x") (codes "y") None 1 ≡ receives_from (codes "y") None 1
   refused : job_entry (job Out Send) Never 20 ≡ fault (codes "send ~/x y: refused")
   too_large : job_entry (job In Send) TooLarge 0 ≡ fault (codes "send ~/x y: refused, maybe for its size")
   put_off : job_entry (job In Request) Later 0 ≡ fault (codes "request ~/x y: put off")

@@ -68,7 +68,7 @@ record AreLines : Type 0 where
   ends : news_line 12 9 (Ends theirs Done 400) ≡ codes "uucpair: 12 s: peer's request ~/q q: done 400 bytes in 9 s\n"
   differs : news_line 12 9 (Ends ours Differs 400) ≡ codes "uucpair: 12 s: send x y: wrong digest 400 bytes in 9 s\n"
   too_large : news_line 1 0 (Ends ours TooLarge 0) ≡ codes "uucpair: 1 s: send x y: refused, maybe for its size 0 bytes in 0 s\n"
-  resumes : news_line 2 0 (Resumes ours 30720) ≡ codes "uucpair: 2 s: send x y: resumed at 30720\n"
+  resumes : news_line 2 0 (Resumes ours (Some 60000) 30720) ≡ codes "uucpair: 2 s: send x y: resumed at 30720\n"
   goes_on : progress_line 95 118 (so_far ours 30720 (Some 60000))
       ≡ codes "uucpair: 95 s: send x: 30720 of 60000 bytes, 51%, 118 B/s, 248 s left"
   stands : progress_line 95 0 (so_far ours 30720 (Some 60000)) ≡ codes "uucpair: 95 s: send x: 30720 of 60000 bytes, 51%, 0 B/s"

@@ -57,7 +57,7 @@ end_line seconds took job outcome bytes = job_line seconds job (outcome_words to
 
 abbrev pub news_line : (seconds took : ℕ) → News → List ℕ
 news_line seconds took (Begins job) = begin_line seconds job
-news_line seconds took (Resumes job position) = resume_line seconds job position
+news_line seconds took (Resumes job size position) = resume_line seconds job position
 news_line seconds took (Ends job outcome bytes) = end_line seconds took job outcome bytes
 
 -- how long the rest of a file takes at a rate, if anything goes

@@ -1,5 +1,5 @@
 -- What an end has in its log (this project's profile, in the form of Taylor UUCP 1.07).
-use Rattle.std.specs.Prelude.{◌/◌, ◌%◌, ℕ, Bool, true, false, List, [], ◌∷◌, ◌++◌, Some, codes, unsigned_abs}
+use Rattle.std.specs.Prelude.{◌/◌, ◌%◌, ℕ, Bool, true, false, List, [], ◌∷◌, ◌++◌, Option, Some, codes, unsigned_abs}
 use Rattle.jiff_core.specs.declared.civil.datetime.DateTime.{DateTime}
 use Rattle.uug_conversation.specs.declared.side.Side.{Side}
 use Rattle.uug_conversation.specs.declared.side.Side.TheVariants.{Caller, Called}
@@ -56,10 +56,10 @@ job_entry job TooLarge bytes = fault (unfinished job TooLarge)
 job_entry job Later bytes = fault (unfinished job Later)
 job_entry job Differs bytes = fault (unfinished job Differs)
 
--- a file that was cut off goes on here
-abbrev pub resumed_entry : (sent : Bool) → (source target : List ℕ) → (position : ℕ) → Entry
-resumed_entry true source target position = sends_from (escaped source) position
-resumed_entry false source target position = receives_from (escaped target) position
+-- a file of this size, if that was told, was cut off and goes on here
+abbrev pub resumed_entry : (sent : Bool) → (source target : List ℕ) → (size : Option ℕ) → (position : ℕ) → Entry
+resumed_entry true source target size position = sends_from (escaped source) size position
+resumed_entry false source target size position = receives_from (escaped target) size position
 
 -- the other end was refused a job that ended so
 abbrev pub is_refused_to_it : Way → Outcome → Bool

@@ -130,7 +130,7 @@ impl Exchange {
         if self.start == 0 {
             return None;
         }
-        Some(News::Resumes(job, self.start))
+        Some(News::Resumes(job, self.size(), self.start))
     }
 
     /// Returns whether the announced size of the file is more than the end takes whose answer went this way. The limit

@@ -75,26 +75,31 @@ fn done_line<A: Allocator + Copy>(
     }
 }
 
-/// Returns the line of a file that was cut off and goes on at this position.
+/// Returns the line of a file that was cut off and goes on at this position, with its whole size, if that was announced.
 pub fn resumed_line<A: Allocator + Copy>(
     alloc: A,
     head: &LogHead<'_>,
     job: &Transfer,
+    size: Option<u64>,
     position: u64,
 ) -> Result<Vec<u8, A>, AllocError>
     ensures { IfOk result (λ made. made.items
         ≡ log_line (shown_head head.now) (resumed_entry (is_sent job.now.way job.now.wish)
-        job.now.source job.now.target position)) }
+        job.now.source job.now.target size position)) }
 {
     if is_sent(job) {
         let file = escaped(alloc, job.source.as_bytes())?;
-        log_line(alloc, head, &LogEvent::SendsFrom(file.as_bytes(), position))
+        log_line(
+            alloc,
+            head,
+            &LogEvent::SendsFrom(file.as_bytes(), size, position),
+        )
     } else {
         let file = escaped(alloc, job.target.as_bytes())?;
         log_line(
             alloc,
             head,
-            &LogEvent::ReceivesFrom(file.as_bytes(), position),
+            &LogEvent::ReceivesFrom(file.as_bytes(), size, position),
         )
     }
 }

@@ -24,7 +24,7 @@ pub fn news_line<A: Allocator + Copy>(
 {
     match news {
         News::Begins(job) => begin_line(alloc, seconds, job),
-        News::Resumes(job, position) => resume_line(alloc, seconds, job, *position),
+        News::Resumes(job, _, position) => resume_line(alloc, seconds, job, *position),
         News::Ends(job, outcome, bytes) => end_line(alloc, seconds, took, job, *outcome, *bytes),
     }
 }

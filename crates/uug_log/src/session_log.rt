@@ -128,10 +128,10 @@ impl<'a, R: Clock, A: Allocator + Copy> SessionLog<'a, R, A> {
         self.file.append(fault_line(self.alloc, &head, text));
     }
 
-    /// Logs that the file of a job goes on at this position.
-    fn resume(&mut self, job: &Transfer, position: u64) {
+    /// Logs that the file of a job, which has this size if one was announced, goes on at this position.
+    fn resume(&mut self, job: &Transfer, size: Option<u64>, position: u64) {
         let head = self.file.head(system_of(&self.caller, self.system));
-        let line = resumed_line(self.alloc, &head, job, position);
+        let line = resumed_line(self.alloc, &head, job, size, position);
         self.file.append(line);
     }
 
@@ -167,8 +167,8 @@ fn is_refused_to_it(way: Way, outcome: Outcome) -> bool
 
 impl<R: Clock, A: Allocator + Copy> Journal for SessionLog<'_, R, A> {
     fn note(&mut self, news: &News) {
-        if let News::Resumes(job, position) = news {
-            self.resume(job, u64::from(*position));
+        if let News::Resumes(job, size, position) = news {
+            self.resume(job, size.map(u64::from), u64::from(*position));
         }
         if let News::Ends(job, outcome, bytes) = news {
             if self.file.is_spool() && !is_refused_to_it(job.way, *outcome) {

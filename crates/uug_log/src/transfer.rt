@@ -62,8 +62,9 @@ pub enum Outcome {
 #[derive(Clone, Copy, Debug, PartialEq, Eq)]
 pub enum News {
     Begins(Transfer),
-    /// Its file is sent from this position on: an earlier session has brought what is before it.
-    Resumes(Transfer, u32),
+    /// The announced size of its whole file, and the position from which that is sent: an earlier session has brought
+    /// what is before it.
+    Resumes(Transfer, Option<u32>, u32),
     /// The outcome, and the number of bytes of its file that have passed in this session.
     Ends(Transfer, Outcome, u64),
 }

@@ -39,8 +39,9 @@ record AreEntries : Type 0 where
   sent : entry_text (codes "beta") (sends (codes "/etc/hostname") 3) ≡ codes "Sending /etc/hostname (3 bytes)"
   received : entry_text (codes "alpha") (receives (codes "/srv/beta/pub/h1") (Some 3)) ≡ codes "Receiving /srv/beta/pub/h1 (3 bytes)"
   untold : entry_text (codes "alpha") (receives (codes "/srv/beta/pub/h1") None) ≡ codes "Receiving /srv/beta/pub/h1"
-  sent_on : entry_text (codes "beta") (sends_from (codes "x") 30720) ≡ codes "Sending x (resume at 30720)"
-  received_on : entry_text (codes "alpha") (receives_from (codes "y") 1) ≡ codes "Receiving y (resume at 1)"
+  sent_on : entry_text (codes "beta") (sends_from (codes "D.0001") (Some 60000) 28672) ≡ codes "Sending D.0001 (60000 bytes resume at 28672)"
+  received_on : entry_text (codes "alpha") (receives_from (codes "y") (Some 60000) 1) ≡ codes "Receiving y (60000 bytes resume at 1)"
+  untold_on : entry_text (codes "alpha") (receives_from (codes "y") None 1) ≡ codes "Receiving y (resume at 1)"
   counted : entry_text (codes "beta") (packets 52 0 41) ≡ codes "Protocol 'g' packets: sent 52, resent 0, received 41"
   short : entry_text (codes "beta") (over 0 1533) ≡ codes "Call complete (0 seconds 1533 bytes 0 bps)"
   long : entry_text (codes "beta") (over 4 20000) ≡ codes "Call complete (4 seconds 20000 bytes 5000 bps)"
@@ -57,6 +58,7 @@ entries = record {
   untold = refl;
   sent_on = refl;
   received_on = refl;
+  untold_on = refl;
   counted = refl;
   short = refl;
   long = refl;

@@ -21,8 +21,8 @@ pub data Entry : Type 0 where
   agreed : (size window far_size far_window : ℕ) → Entry
   sends : (file : List ℕ) → (bytes : ℕ) → Entry
   receives : (file : List ℕ) → (bytes : Option ℕ) → Entry
-  sends_from : (file : List ℕ) → (position : ℕ) → Entry
-  receives_from : (file : List ℕ) → (position : ℕ) → Entry
+  sends_from : (file : List ℕ) → (size : Option ℕ) → (position : ℕ) → Entry
+  receives_from : (file : List ℕ) → (size : Option ℕ) → (position : ℕ) → Entry
   packets : (sent resent received : ℕ) → Entry
   over : (seconds bytes : ℕ) → Entry
   fault : (text : List ℕ) → Entry
@@ -50,9 +50,10 @@ abbrev pub size_text : Option ℕ → List ℕ
 size_text None = []
 size_text (Some bytes) = bytes_text bytes
 
--- where a file goes on that was cut off
-abbrev pub position_text : ℕ → List ℕ
-position_text position = codes " (resume at " ++ decimal position ++ codes ")"
+-- where a file goes on that was cut off, behind its whole size, which the other system may not have told
+abbrev pub position_text : (size : Option ℕ) → (position : ℕ) → List ℕ
+position_text None position = codes " (resume at " ++ decimal position ++ codes ")"
+position_text (Some size) position = codes " (" ++ decimal size ++ codes " bytes resume at " ++ decimal position ++ codes ")"
 
 -- of a system
 abbrev pub entry_text : (system : List ℕ) → Entry → List ℕ
@@ -64,8 +65,8 @@ entry_text system (agreed size window far_size far_window) =
     ++ codes " receiving " ++ decimal far_size ++ codes "/" ++ decimal far_window ++ codes ")"
 entry_text system (sends file bytes) = codes "Sending " ++ file ++ bytes_text bytes
 entry_text system (receives file bytes) = codes "Receiving " ++ file ++ size_text bytes
-entry_text system (sends_from file position) = codes "Sending " ++ file ++ position_text position
-entry_text system (receives_from file position) = codes "Receiving " ++ file ++ position_text position
+entry_text system (sends_from file size position) = codes "Sending " ++ file ++ position_text size position
+entry_text system (receives_from file size position) = codes "Receiving " ++ file ++ position_text size position
 entry_text system (packets sent resent received) =
     codes "Protocol 'g' packets: sent " ++ decimal sent ++ codes ", resent " ++ decimal resent
     ++ codes ", received " ++ decimal received

@@ -37,10 +37,11 @@ pub enum LogEvent<'a> {
     Sends(&'a [u8], u64),
     /// The file of this name is received: its number of bytes, if that was announced.
     Receives(&'a [u8], Option<u64>),
-    /// The file of this name goes on: it is sent from this position on.
-    SendsFrom(&'a [u8], u64),
-    /// The file of this name goes on: it is received from this position on.
-    ReceivesFrom(&'a [u8], u64),
+    /// The file of this name goes on: its whole size, if that was announced, and the position from which it is sent.
+    SendsFrom(&'a [u8], Option<u64>, u64),
+    /// The file of this name goes on: its whole size, if that was announced, and the position from which it is
+    /// received.
+    ReceivesFrom(&'a [u8], Option<u64>, u64),
     /// The number of packets sent, of those sent again, and of those received.
     Packets(u64, u64, u64),
     /// The session is over: its seconds, and the bytes of files that went.
@@ -150,11 +151,21 @@ fn add_size<A: Allocator>(line: &mut Vec<u8, A>, bytes: Option<u64>) -> Result<(
     }
 }
 
-/// Appends the position at which a file goes on.
-fn add_position<A: Allocator>(line: &mut Vec<u8, A>, position: u64) -> Result<(), AllocError>
-    ensures { OnOk result (line.new.items ≡ line.old.items ++ position_text position) }
+/// Appends the position at which a file goes on, behind its whole size, if that was announced.
+fn add_position<A: Allocator>(
+    line: &mut Vec<u8, A>,
+    size: Option<u64>,
+    position: u64,
+) -> Result<(), AllocError>
+    ensures { OnOk result (line.new.items ≡ line.old.items ++ position_text size position) }
 {
-    add_number(line, b" (resume at ", position)?;
+    match size {
+        Some(size) => {
+            add_number(line, b" (", size)?;
+            add_number(line, b" bytes resume at ", position)?;
+        }
+        None => add_number(line, b" (resume at ", position)?,
+    }
     add_text(line, b")")
 }
 
@@ -210,13 +221,13 @@ fn add_event<A: Allocator>(
             add_named(line, b"Receiving ", file)?;
             add_size(line, *bytes)
         }
-        LogEvent::SendsFrom(file, position) => {
+        LogEvent::SendsFrom(file, size, position) => {
             add_named(line, b"Sending ", file)?;
-            add_position(line, *position)
+            add_position(line, *size, *position)
         }
-        LogEvent::ReceivesFrom(file, position) => {
+        LogEvent::ReceivesFrom(file, size, position) => {
             add_named(line, b"Receiving ", file)?;
-            add_position(line, *position)
+            add_position(line, *size, *position)
         }
         LogEvent::Packets(sent, resent, received) => {
             add_packets(line, system, *sent, *resent, *received)

@@ -23,7 +23,7 @@ pub(crate) fn moment(second: u8, hundredths: u8) -> Moment {
 type Place<'a> = (&'a str, &'a str, u8, u8, u32);
 
 /// The lines of two sessions, as uucico wrote them.
-const LINES: [(Place<'_>, LogEvent<'_>, &str); 15] = [
+const LINES: [(Place<'_>, LogEvent<'_>, &str); 16] = [
     (
         ("beta", "", 19, 52, 23544),
         LogEvent::Calls(b"line"),
@@ -63,13 +63,19 @@ const LINES: [(Place<'_>, LogEvent<'_>, &str); 15] = [
     // a file that was cut off goes on
     (
         ("beta", "", 19, 53, 23544),
-        LogEvent::SendsFrom(b"x", 30720),
-        "uucico beta - (2026-11-26 02:09:19.53 23544) Sending x (resume at 30720)\n",
+        LogEvent::SendsFrom(b"D.0001", Some(60000), 28672),
+        "uucico beta - (2026-11-26 02:09:19.53 23544) Sending D.0001 (60000 bytes resume at 28672)\n",
     ),
     (
         ("alpha", "", 19, 53, 23545),
-        LogEvent::ReceivesFrom(b"y", 1),
-        "uucico alpha - (2026-11-26 02:09:19.53 23545) Receiving y (resume at 1)\n",
+        LogEvent::ReceivesFrom(b"y", Some(60000), 1),
+        "uucico alpha - (2026-11-26 02:09:19.53 23545) Receiving y (60000 bytes resume at 1)\n",
+    ),
+    // its size too is said only where it was told
+    (
+        ("beta", "", 19, 53, 23544),
+        LogEvent::SendsFrom(b"x", None, 30720),
+        "uucico beta - (2026-11-26 02:09:19.53 23544) Sending x (resume at 30720)\n",
     ),
     (
         ("beta", "uucp", 19, 57, 23544),

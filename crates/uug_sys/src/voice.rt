@@ -151,7 +151,7 @@ impl<'a, R: Eprint + Clock, A: Allocator + Copy> Voice<'a, R, A> {
                 self.begun = seconds;
                 self.begin_file(seconds, 0);
             }
-            News::Resumes(_, position) => self.begin_file(seconds, u64::from(*position)),
+            News::Resumes(_, _, position) => self.begin_file(seconds, u64::from(*position)),
             News::Ends(..) => self.wipe(),
         }
     }

@@ -24,7 +24,7 @@ impl Journal for Notes {
     fn note(&mut self, news: &News) {
         match news {
             News::Begins(_) => self.begun = self.begun.saturating_add(1),
-            News::Resumes(_, _) => {}
+            News::Resumes(..) => {}
             News::Ends(_, outcome, bytes) => {
                 self.bytes = self.bytes.saturating_add(*bytes);
                 match outcome {
@@ -496,6 +496,92 @@ fn assert_told(rt: &impl Abort, alloc: Global, said: &[Said], text: &str) {
 fn news_of_several_jobs_come_in_order(rt: HostRuntime) {
     for (said, text) in ORDERS {
         assert_told(&rt, rt.alloc(), said, text);
+    }
+}
+
+/// The announced size of the file that goes on, and where it does: 0 if none goes on.
+#[derive(Clone, Copy, Debug, PartialEq, Eq)]
+struct Rest {
+    size: Option<u32>,
+    position: u32,
+}
+
+impl Journal for Rest {
+    fn note(&mut self, news: &News) {
+        if let News::Resumes(_, size, position) = news {
+            self.size = *size;
+            self.position = *position;
+        }
+    }
+}
+
+const NO_REST: Rest = Rest {
+    size: None,
+    position: 0,
+};
+
+/// The messages on the line, and what goes on.
+const RESTS: &[(&[Said], Rest)] = &[
+    // this end's file, whose whole size its command announces
+    (
+        &[
+            (Way::Out, b"S x y u - x 0644 \"\" 0x14 "),
+            (Way::Out, HASH),
+            (Way::Out, HASH_GOES_ON),
+            (Way::Out, HASH_ENDS),
+            (Way::In, b"SY 0x0000000a\0"),
+        ],
+        Rest {
+            size: Some(20),
+            position: 10,
+        },
+    ),
+    // the other end's file
+    (
+        &[
+            (Way::In, b"S p w u - p 0644 \"\" 0x14 "),
+            (Way::In, HASH),
+            (Way::In, HASH_GOES_ON),
+            (Way::In, HASH_ENDS),
+            (Way::Out, b"SY 0x00000013\0"),
+        ],
+        Rest {
+            size: Some(20),
+            position: 19,
+        },
+    ),
+    // one whose size was not announced, after another that began with its size
+    (
+        &[
+            (Way::Out, b"S x y u - x 0644 \"\" 0x14 "),
+            (Way::Out, HASH),
+            (Way::Out, HASH_GOES_ON),
+            (Way::Out, HASH_ENDS),
+            (Way::In, b"SN2\0"),
+            SEND_Q,
+            (Way::In, b"SY 0x00000003\0"),
+        ],
+        Rest {
+            size: None,
+            position: 3,
+        },
+    ),
+    // one that is sent from its start
+    (&[SEND, (Way::In, b"SY 0x00000000\0")], NO_REST),
+];
+
+fn assert_rest(rt: &impl Abort, alloc: Global, said: &[Said], expected: Rest, place: usize) {
+    let mut observer = Observer::new(alloc, false, LIMIT).expect(rt, "memory for both ways");
+    let mut seen = NO_REST;
+    show(rt, said, &mut observer, &mut seen);
+    drop(observer);
+    assert_same_at(rt, seen, expected, place);
+}
+
+#[test]
+fn a_file_that_goes_on_has_its_whole_size(rt: HostRuntime) {
+    for (place, (said, rest)) in RESTS.iter().enumerate() {
+        assert_rest(&rt, rt.alloc(), said, *rest, place);
     }
 }
 

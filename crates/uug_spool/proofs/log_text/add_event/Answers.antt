@@ -11,7 +11,7 @@ returns-in_ok-add_named-in-SendsFrom g c =
     subst (λ (e : LogEvent). OnOk c.add_position.result (c.add_position.new.line.items ≡ before ++ entry_text c.args.system.now (shown_event e)))
     (sym c.in-SendsFrom.is)
     (then_one _ before c.add_named-in-SendsFrom.new.line.items c.add_position.new.line.items (codes "Sending " ++ c.in-SendsFrom.file.now)
-    (position_text c.in-SendsFrom.position)
+    (position_text c.in-SendsFrom.size c.in-SendsFrom.position)
     (two_first before c.add_named-in-SendsFrom.new.line.items (codes "Sending ") c.in-SendsFrom.file.now c.in_ok-add_named-in-SendsFrom.ensures)
     c.add_position.ensures)
 
@@ -22,7 +22,7 @@ returns-in_ok-add_named-in-ReceivesFrom g c =
     ≡ before ++ entry_text c.args.system.now (shown_event e)))
     (sym c.in-ReceivesFrom.is)
     (then_one _ before c.add_named-in-ReceivesFrom.new.line.items c.add_position-in-ReceivesFrom.new.line.items
-    (codes "Receiving " ++ c.in-ReceivesFrom.file.now) (position_text c.in-ReceivesFrom.position)
+    (codes "Receiving " ++ c.in-ReceivesFrom.file.now) (position_text c.in-ReceivesFrom.size c.in-ReceivesFrom.position)
     (two_first before c.add_named-in-ReceivesFrom.new.line.items (codes "Receiving ") c.in-ReceivesFrom.file.now
     c.in_ok-add_named-in-ReceivesFrom.ensures)
     c.add_position-in-ReceivesFrom.ensures)
