@@ -271,7 +271,7 @@ def files_about_as_large_as_they_may_be(one):
                 os.remove(ends.at("beta", f"got/{name}"))
 
 
-@scene()
+@scene("minutes")
 def the_sizes_of_files(one):
     """Files of no byte, of one, of the most that may go, and of one more; each way."""
     ends = Ends(one)

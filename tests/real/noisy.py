@@ -166,5 +166,5 @@ def sent_once(one):
 
 
 for number in range(FEW):
-    part(f"noisy_lists_{number}", (), noisy_lists, first=number)
+    part(f"noisy_lists_{number}", ("minutes",) if number >= FEW // 4 else (), noisy_lists, first=number)
 part("noisy_lists_sent_once", (), sent_once)

@@ -226,7 +226,7 @@ def the_same_job_twice(one):
     one.row("as many lines are left as were not done", text_of(ends.at("alpha", "jobs")).count("send x x me") + struck, 2)
 
 
-@scene()
+@scene("minutes")
 def more_than_a_session_offers(one):
     """--most: the jobs behind the first whose files have so many bytes wait, which is said."""
     ends = Ends(one)

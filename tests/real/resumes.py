@@ -364,7 +364,7 @@ def kill_at(one, ends, giver, who, most):
     return cable.passed
 
 
-@scene()
+@scene("minutes")
 def ends_that_are_killed(one):
     """What comes is written down as it comes: behind a kill the next session goes on there, but for a little."""
     text = filler("killed", 600_000)

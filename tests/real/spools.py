@@ -375,7 +375,7 @@ def a_file_that_is_cut_short_over_a_spool(one):
             ((0, report("caller", struck=2), ""), (0, report("called"), ""), filler("mail", 9000)))
 
 
-@scene()
+@scene("minutes")
 def more_over_a_spool_than_a_session_offers(one):
     """--most: what waits behind the first jobs whose files have so many bytes is told, in the log too."""
     nodes = Nodes(one)
