@@ -2,8 +2,8 @@
 
 use std::rt::Files;
 use uug_failure::RunFault;
+use uug_observe::jobs_remark_at;
 use uug_stream::ToolFault;
-use uug_sys::jobs_remark_at;
 use uug_words::full_remark;
 
 /// Returns what is wrong with a line of the jobs in this folder, if that is the fault. It is empty if none is bad. A

@@ -19,12 +19,13 @@ use uug_disk::is_named_pipe;
 use uug_failure::{Cause, Outcome, Resource, RunFault, SystemFailure};
 use uug_folder::BadNumber;
 use uug_log::{LogFile, SessionLog, end_text, words_of};
+use uug_observe::{PairObserver, SystemObserver, line_held_remark, log_fault};
 use uug_pair::{PairRun, pair_run_with_reason};
 use uug_port::{ReportFile, SystemOutput};
 use uug_reason::{locks_line, reason_line};
 use uug_stop::{LOG, REPORT, STATS, is_refused_lock};
 use uug_stream::{Output, ToolFault};
-use uug_sys::{PairObserver, SystemObserver, call_run, line_held_remark, log_fault};
+use uug_sys::call_run;
 use uug_task::{CallTask, ReportPlace, System};
 use uug_words::{PairTask, lacks_spool};
 
@@ -225,7 +226,7 @@ where
     ensures reported { IfOk result.answer (λ status. HasTalked call.now.side status
         (O.written output.old) (O.written output.new)) }
 {
-    let observer = match observer_of(rt, call, console) {
+    let mut observer = match observer_of(rt, call, console) {
         Ok(observer) => observer,
         Err(fault) => return Outcome::of(rt.alloc(), Err(fault)),
     };
@@ -234,9 +235,10 @@ where
         rt,
         call,
         console.streams,
-        observer,
+        &mut observer,
         output,
     );
+    drop(observer);
     if let Err(fault) = &answer {
         let said = fault_remark(rt, call, fault).unwrap_or(String::new(rt.alloc()));
         let _ = remark.push_str(said.as_str());

@@ -1,5 +1,5 @@
 //! The lines of an end's log.
-ghost use Rattle.std.specs.Prelude.{◌≡◌, ◌++◌, IfOk, OnOk, string_bytes};
+ghost use Rattle.std.specs.Prelude.{◌≡◌, IfOk, string_bytes};
 ghost use Rattle.uug_log.specs.Logged.{end_text, is_sent, job_entry, resumed_entry, start_entry, unfinished};
 ghost use Rattle.uug_scan.specs.Detailed.{escaped};
 ghost use Rattle.uug_spool.specs.LogLines.{fault as fault_entry, log_line, over as over_entry};

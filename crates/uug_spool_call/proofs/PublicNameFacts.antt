@@ -1,5 +1,5 @@
 -- Public folders, and names in them, that are known, so that a wrong definition does not check.
-use Rattle.std.proofs.Common.{◌≡◌, codes, true, false, Some, None, refl}
+use Rattle.std.proofs.Common.{◌≡◌, codes, true, false, None, refl}
 use Rattle.std.specs.Path.{rsplit_once}
 use Rattle.uug_conversation.specs.declared.job.Job.TheVariants.{Request, Send}
 use Rattle.uug_spool_call.specs.PublicNames.{is_given, named_job, public_beside, public_name, without_slash}

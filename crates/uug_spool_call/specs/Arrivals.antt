@@ -1,5 +1,5 @@
 -- Where a file goes in the public folder whose session was stopped before it got there (this project's profile).
-use Rattle.std.specs.Prelude.{ℕ, Bool, true, false, List, Option, Some, None, if◌then◌else◌}
+use Rattle.std.specs.Prelude.{ℕ, List, Option, Some, None, if◌then◌else◌}
 use Rattle.std.specs.Str.{bytes_eq}
 use Rattle.uug_mailbox.specs.Places.{Public, place_in, temp_name}
 use Rattle.uug_spool.specs.declared.spool_names.Spot.{Spot}

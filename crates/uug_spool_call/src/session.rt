@@ -1,7 +1,7 @@
 //! The session of an end over a spool.
-ghost use Rattle.std.specs.Prelude.{◌≡◌, ◌≢◌, ◌<◌, ◌≤◌, IfErr, IfOk, IsErr, OnOk, is_some, string_bytes};
+ghost use Rattle.std.specs.Prelude.{◌≡◌, ◌≢◌, ◌≤◌, IfErr, IfOk, IsErr, OnOk, is_some, string_bytes};
 ghost use Rattle.uug_failure.specs.Faults.{IsFaultAtLine, IsFolderFault};
-ghost use Rattle.uug_session.specs.Engine.{HasFailed, IsEnded};
+ghost use Rattle.uug_session.specs.Engine.{IsEnded};
 ghost use Rattle.uug_session.specs.Node.{node_of};
 ghost use Rattle.uug_transfer.specs.Reported.{HasRunSoundly, IsReported, status_with};
 ghost use Rattle.uug_spool_call.specs.Stores.{store_now};
@@ -63,7 +63,7 @@ where
         → CountsFault (O.fault_count output.old) (O.fault_count output.new) }
     ensures no_other { IfErr result IsFaultAtLine }
     // A call on the spool that failed is named.
-    ensures line { result ≡ Err (RunFault.Tool ToolFault.Device) → 0 < L.fault_count line.new }
+    ensures named { result ≢ Err (RunFault.Tool ToolFault.Device) }
 {
     let paths = paths_of(alloc, call, place.peer)?;
     let paths = &paths;
@@ -128,9 +128,6 @@ where
         ⟦<SpoolFiles<'a, 'p, R, A> as Spool>⟧.kept end.new.buffered)
         (store_now end.old.store) (store_now end.new.store) }
     ensures no_number { result ≢ Err SessionFault.Number }
-    ensures line { result ≡ Err SessionFault.Line
-        → HasFailed u64.MAX (L.fault_count line.old) (L.fault_count line.new) }
-    ensures grows { L.fault_count line.old ≤ L.fault_count line.new }
 {
     let mut number = NoFile;
     run_session(
@@ -269,12 +266,13 @@ fn answer_of<S: Spool, A: Allocator + Copy, O: Output>(
         return Err(ToolFault::Memory);
     }
     let printed = print_report(alloc, side, end, output);
-    let is_done = end.phase().is_done();
-    let status = if is_done && !is_left { 0 } else { 1 };
+    let status = if end.phase().is_done() && !is_left {
+        0
+    } else {
+        1
+    };
     match (session, printed) {
-        (Err(SessionFault::Line), Err(ToolFault::Memory)) => Err(ToolFault::Memory),
         (Err(SessionFault::Jobs | SessionFault::Number), _) => Err(ToolFault::Device),
-        (Err(SessionFault::Line), _) if !is_done => Err(ToolFault::Device),
         (_, Err(fault)) => Err(fault),
         (_, Ok(())) => Ok(status),
     }

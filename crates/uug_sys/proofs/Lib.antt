@@ -1,6 +1,3 @@
-mod JobRemarkFacts
-mod LineEndFacts
-mod NumberRemarkFacts
 pub mod AnsweredLemmas
 pub mod EndAnswerLemmas
 pub mod FrontLemmas

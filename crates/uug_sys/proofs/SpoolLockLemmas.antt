@@ -1,13 +1,12 @@
 -- What a called end whose caller is locked has written.
-use Rattle.std.proofs.Common.{◌≡◌, inl, inr, ℕ, List, [], ◌∷◌, ◌++◌, ◌-◌, drop, length, take, Option, Some, None, refl, sym, ap, subst, ◌∙◌, append_assoc}
+use Rattle.std.proofs.Common.{◌≡◌, inl, inr, ℕ, List, [], ◌∷◌, ◌++◌, ◌-◌, drop, length, take, Option, Some, None, refl, sym, ap, ◌∙◌, append_assoc}
 use Rattle.std.proofs.lemmas.List.{append-nil, take_rest}
 use Rattle.std.specs.Prelude.{⊤}
-use Rattle.uug_session.specs.Engine.{HasFailed, faults_max}
 use Rattle.uug_sys.specs.SpoolLocks.{Says, TakesNone}
-use Rattle.uug_transfer.proofs.ListeningLemmas.{Wrote, wrote_all, wrote_more, wrote_some}
+use Rattle.uug_transfer.proofs.ListeningLemmas.{Wrote, wrote_all, wrote_more}
 use Rattle.uug_transfer.proofs.StallLemmas.{wrote_front}
 use Rattle.uug_transfer.specs.WriteSilences.{also_wrote}
-use Rattle.uug_transfer.specs.Writing.{TakesFront, also_taken}
+use Rattle.uug_transfer.specs.Writing.{also_taken}
 
 -- ---- how many bytes its writes took
 
@@ -39,25 +38,18 @@ goes_on words rest n u v w wrote took =
 
 -- ---- the last one
 
-pub says_all : (words rest : List ℕ) (u v writes writes_after : Option (List ℕ)) (faults faults_after : ℕ) → Wrote words rest u v → rest ≡ []
-    → Says words u v writes writes_after faults faults_after
-says_all words rest u v writes writes_after faults faults_after wrote none = record {
+pub says_all : (words rest : List ℕ) (u v writes writes_after : Option (List ℕ)) → Wrote words rest u v → rest ≡ []
+    → Says words u v writes writes_after
+says_all words rest u v writes writes_after wrote none = record {
   front = wrote_front words rest u v wrote;
   all = inl (wrote_all words rest u v wrote none);
 }
 
-pub says_until : (words rest : List ℕ) (n : ℕ) (u v w before mid after : Option (List ℕ)) (faults faults_after : ℕ) → Wrote words rest u v
-    → n ≡ 0 → w ≡ also_taken (take n rest) v → Since before mid → after ≡ also_wrote n mid → Says words u w before after faults faults_after
-says_until words rest n u v w before mid after faults faults_after wrote none took since stalled = record {
+pub says_until : (words rest : List ℕ) (n : ℕ) (u v w before mid after : Option (List ℕ)) → Wrote words rest u v
+    → n ≡ 0 → w ≡ also_taken (take n rest) v → Since before mid → after ≡ also_wrote n mid → Says words u w before after
+says_until words rest n u v w before mid after wrote none took since stalled = record {
   front = wrote_front words (drop n rest) u w (wrote_more words rest (drop n rest) n u v w wrote refl took);
-  all = inr (inl (took_none before mid after since (stalled ∙ ap (λ (k : ℕ). also_wrote k mid) none)));
-}
-
-pub says_some : (words rest : List ℕ) (u v w writes writes_after : Option (List ℕ)) (faults before after : ℕ) → Wrote words rest u v
-    → TakesFront rest v w → before ≡ faults → HasFailed faults_max before after → Says words u w writes writes_after faults after
-says_some words rest u v w writes writes_after faults before after wrote some calm failed = record {
-  front = wrote_some words rest u v w wrote some;
-  all = inr (inr (subst (λ (n : ℕ). HasFailed faults_max n after) calm failed));
+  all = inr (took_none before mid after since (stalled ∙ ap (λ (k : ℕ). also_wrote k mid) none));
 }
 
 -- ---- a remark in three parts

@@ -1,11 +1,6 @@
 pub mod Callers
 pub mod Calls
 pub mod EndAnswers
-pub mod HeldLines
 pub mod HubFaults
-pub mod JobRemarks
-pub mod LineEnds
-pub mod NumberRemarks
 pub mod SpoolCalls
 pub mod SpoolLocks
-pub mod UnreadRemarks

@@ -7,7 +7,6 @@ use Rattle.uug_failure.specs.declared.run_fault.RunFault.{RunFault}
 use Rattle.uug_failure.specs.declared.run_fault.RunFault.TheVariants.{System, Tool}
 use Rattle.uug_locks.specs.DeviceLocks.{lock_path}
 use Rattle.uug_scan.specs.Detailed.{escaped}
-use Rattle.uug_session.specs.Engine.{HasFailed, faults_max}
 use Rattle.uug_session.specs.Greeting.{called_text}
 use Rattle.uug_stream.specs.declared.fault.ToolFault.TheVariants.{Memory}
 use Rattle.uug_sys.specs.declared.spool_lock.TheConstants.{LOCKS}
@@ -66,7 +65,7 @@ abbrev pub TakesNone : (writes writes_after : Option (List ℕ)) → Type 0
 TakesNone None after = ⊤
 TakesNone (Some before) after = (since : List ℕ) × (after ≡ Some ((before ++ since) ++ 0 ∷ []))
 
--- These words are written from the front, and nothing else: all of them, unless a write took none, or failed.
-pub record Says (words : List ℕ) (taken taken_after writes writes_after : Option (List ℕ)) (faults faults_after : ℕ) : Type 0 where
+-- These words are written from the front, and nothing else: all of them, unless a write took none.
+pub record Says (words : List ℕ) (taken taken_after writes writes_after : Option (List ℕ)) : Type 0 where
   pub front : TakesFront words taken taken_after
-  pub all : (taken_after ≡ also_taken words taken) ⊎ (TakesNone writes writes_after ⊎ HasFailed faults_max faults faults_after)
+  pub all : (taken_after ≡ also_taken words taken) ⊎ TakesNone writes writes_after

@@ -6,23 +6,20 @@ ghost use Rattle.uug_sys.specs.Calls.{AreReported};
 ghost use Rattle.uug_sys.specs.HubFaults.{is_in_folder, is_of_folder, is_of_session};
 ghost use Rattle.uug_transfer.specs.Reported.{IsReported};
 
-use crate::bad_jobs::jobs_remark_at;
-use crate::call::{stream_line, talk_over};
-use crate::door_line::DoorLine;
+use crate::call::{stream_port, talk_over};
+use crate::door_port::DoorPort;
 use crate::doorkeeper::Doorkeeper;
 use crate::end_run::EndRun;
-use crate::fault_log::log_fault;
 use crate::held_output::HeldOutput;
-use crate::silent_caller::silent_words;
 use std::alloc::Allocator;
 use std::io;
 use std::os::fd::AsRawFd;
 use std::time::{Clock, Instant};
 use uug_failure::{Cause, Outcome, Resource, RunFault, SystemFailure};
 use uug_log::words_of;
+use uug_observe::{jobs_remark_at, log_fault, silent_words};
 use uug_port::{
-    Deadline, Listener, Listening, PolledStream, SilentLine, StreamLine, SystemLine, TimedStream,
-    Waiters,
+    Deadline, Listener, Listening, PolledStream, Port, SilentPort, StreamPort, TimedStream, Waiters,
 };
 use uug_reason::reason_line;
 use uug_stream::{Output, ToolFault, write_all};
@@ -49,14 +46,14 @@ struct Served<A: Allocator> {
 pub(crate) fn answer_at<A, R, T, W, O>(
     run: &EndRun<'_, A, R>,
     opened: io::Result<Listening<'_, '_, T, R, A>>,
-    observer: W,
+    observer: &mut W,
     output: &mut O,
 ) -> Outcome<u8, A>
 where
     A: Allocator + Copy,
     R: System,
     T: Listener + Drop,
-    W: SessionObserver + Drop,
+    W: SessionObserver,
     O: Output,
     ensures status { IfOk result.answer (λ status. status ≤ 1) }
     ensures write { result.answer ≡ Err (RunFault.Tool ToolFault.Write)
@@ -68,10 +65,7 @@ where
 {
     match opened {
         Ok(listening) => answer_calls(run, listening, observer, output),
-        Err(error) => {
-            drop(observer);
-            Outcome::of(run.alloc, Err(no_socket(&error)))
-        }
+        Err(error) => { Outcome::of(run.alloc, Err(no_socket(&error))) }
     }
 }
 
@@ -79,14 +73,14 @@ where
 fn answer_calls<A, R, T, W, O>(
     run: &EndRun<'_, A, R>,
     listening: Listening<'_, '_, T, R, A>,
-    observer: W,
+    observer: &mut W,
     output: &mut O,
 ) -> Outcome<u8, A>
 where
     A: Allocator + Copy,
     R: System,
     T: Listener + Drop,
-    W: SessionObserver + Drop,
+    W: SessionObserver,
     O: Output,
     ensures status { IfOk result.answer (λ status. status ≤ 1) }
     ensures write { result.answer ≡ Err (RunFault.Tool ToolFault.Write)
@@ -101,9 +95,7 @@ where
     let mut tally = Tally::none();
     for _past in 0..sessions {
         tell(run.rt, remark.as_str());
-        let (served, keeper) = next_served(run, doorkeeper);
-        doorkeeper = keeper;
-        let Served { outcome, report } = served;
+        let Served { outcome, report } = next_served(run, &mut doorkeeper);
         let Outcome {
             answer,
             remark: said,
@@ -303,41 +295,39 @@ fn greater(first: u8, second: u8) -> u8
 }
 
 /// Serves the next caller that is let in. If none comes in time, closes the socket and runs a session with nobody.
-/// Returns the doorkeeper too.
-fn next_served<'a, 'p, A, R, T, W>(
+fn next_served<A, R, T, W>(
     run: &EndRun<'_, A, R>,
-    mut doorkeeper: Doorkeeper<'a, 'p, W, T, R, A>,
-) -> (Served<A>, Doorkeeper<'a, 'p, W, T, R, A>)
+    doorkeeper: &mut Doorkeeper<'_, '_, W, T, R, A>,
+) -> Served<A>
 where
     A: Allocator + Copy,
     R: System,
     T: Listener + Drop,
-    W: SessionObserver + Drop,
-    ensures status { IfOk result.0.outcome.answer (λ status. status ≤ 1) }
-    ensures no_other { IfErr result.0.outcome.answer IsSessionFault }
+    W: SessionObserver,
+    ensures status { IfOk result.outcome.answer (λ status. status ≤ 1) }
+    ensures no_other { IfErr result.outcome.answer IsSessionFault }
     // What is held is in memory, whose faults are no refused writes.
-    ensures no_write { result.0.outcome.answer ≢ Err (RunFault.Tool ToolFault.Write) }
-    ensures reported { IfOk result.0.outcome.answer (λ status.
-        IsReported run.now.task.now.side status (Some []) (Some result.0.report.bytes.items)) }
+    ensures no_write { result.outcome.answer ≢ Err (RunFault.Tool ToolFault.Write) }
+    ensures reported { IfOk result.outcome.answer (λ status.
+        IsReported run.now.task.now.side status (Some []) (Some result.report.bytes.items)) }
 {
     let station = &run.station;
     let deadline = match Deadline::after(run.rt, station.wait_at_socket()) {
         Ok(deadline) => deadline,
-        Err(error) => return (broken(run.alloc, &error), doorkeeper),
+        Err(error) => return broken(run.alloc, &error),
     };
     doorkeeper.wait_for_next();
     for _ in 0..CALLERS_MAX {
         let stream = match doorkeeper.next_caller(&deadline, station.time()) {
             Ok(Some(stream)) => stream,
             Ok(None) => break,
-            Err(error) => return (broken(run.alloc, &error), doorkeeper),
+            Err(error) => return broken(run.alloc, &error),
         };
         let since = Instant::now(run.rt).ok();
-        let line = door_line(run, stream, doorkeeper.waiters(run.alloc));
-        let (served, keeper) = serve(run, line, doorkeeper);
-        doorkeeper = keeper;
+        let port = door_port(run, stream, doorkeeper.waiters(run.alloc));
+        let served = serve(run, port, doorkeeper);
         if doorkeeper.has_let_in() || served.outcome.answer.is_err() {
-            return (served, doorkeeper);
+            return served;
         }
         tell(run.rt, served.outcome.remark.as_str());
         if doorkeeper.was_silent() {
@@ -345,7 +335,7 @@ where
         }
     }
     doorkeeper.close();
-    serve(run, Ok(SilentLine), doorkeeper)
+    serve(run, Ok(SilentPort), doorkeeper)
 }
 
 /// Reports, in the log too, that a caller who came then has said nothing. Others may wait behind it.
@@ -381,19 +371,19 @@ fn do_others_wait<A: Allocator>(waiters: Option<Waiters<A>>) -> bool {
     }
 }
 
-/// Returns the line of a caller at the door, behind whom others may wait.
-fn door_line<A, R, T>(
+/// Returns the port of a caller at the door, behind whom others may wait.
+fn door_port<A, R, T>(
     run: &EndRun<'_, A, R>,
     stream: T,
     waiters: Option<Waiters<A>>,
-) -> Result<DoorLine<StreamLine<PolledStream<T, A>>, A>, Cause>
+) -> Result<DoorPort<StreamPort<PolledStream<T, A>>, A>, Cause>
 where
     A: Allocator + Copy,
     R: System,
     T: TimedStream + AsRawFd + Drop,
 {
-    match stream_line(run.alloc, run.rt, Ok(stream)) {
-        Ok(line) => Ok(DoorLine::new(line, run.station.time(), waiters)),
+    match stream_port(run.alloc, run.rt, Ok(stream)) {
+        Ok(port) => Ok(DoorPort::new(port, run.station.time(), waiters)),
         Err(cause) => {
             drop(waiters);
             Err(cause)
@@ -401,27 +391,27 @@ where
     }
 }
 
-/// Runs the session at a line, and holds its report back. Returns the doorkeeper too.
-fn serve<'a, 'p, A, R, L, T, W>(
+/// Runs the session at a port, and holds its report back.
+fn serve<A, R, P, T, W>(
     run: &EndRun<'_, A, R>,
-    line: Result<L, Cause>,
-    doorkeeper: Doorkeeper<'a, 'p, W, T, R, A>,
-) -> (Served<A>, Doorkeeper<'a, 'p, W, T, R, A>)
+    port: Result<P, Cause>,
+    doorkeeper: &mut Doorkeeper<'_, '_, W, T, R, A>,
+) -> Served<A>
 where
     A: Allocator + Copy,
     R: System,
-    L: SystemLine + Drop,
+    P: Port + Drop,
     T: Listener + Drop,
-    W: SessionObserver + Drop,
-    ensures status { IfOk result.0.outcome.answer (λ status. status ≤ 1) }
-    ensures no_other { IfErr result.0.outcome.answer IsSessionFault }
-    ensures no_write { result.0.outcome.answer ≢ Err (RunFault.Tool ToolFault.Write) }
-    ensures reported { IfOk result.0.outcome.answer (λ status.
-        IsReported run.now.task.now.side status (Some []) (Some result.0.report.bytes.items)) }
+    W: SessionObserver,
+    ensures status { IfOk result.outcome.answer (λ status. status ≤ 1) }
+    ensures no_other { IfErr result.outcome.answer IsSessionFault }
+    ensures no_write { result.outcome.answer ≢ Err (RunFault.Tool ToolFault.Write) }
+    ensures reported { IfOk result.outcome.answer (λ status.
+        IsReported run.now.task.now.side status (Some []) (Some result.report.bytes.items)) }
 {
     let mut report = HeldOutput::new(run.alloc);
-    let (outcome, doorkeeper) = talk_over(run, None, line, doorkeeper, &mut report);
-    (Served { outcome, report }, doorkeeper)
+    let outcome = talk_over(run, None, port, doorkeeper, &mut report);
+    Served { outcome, report }
 }
 
 /// Prints the remark on a session before the next one.

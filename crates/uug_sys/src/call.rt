@@ -1,29 +1,21 @@
 //! One end over a folder, and the line to the other one.
-ghost use Rattle.std.specs.Prelude.{◌≡◌, ◌<◌, ◌≤◌, ◌↔◌, Err, IfErr, IfOk};
+ghost use Rattle.std.specs.Prelude.{◌≡◌, ◌≢◌, ◌≤◌, ◌↔◌, Err, IfErr, IfOk};
 ghost use Rattle.uug_failure.specs.Faults.{IsFaultAtLine, IsFolderFault, IsReadingFault, IsRunFault, IsSessionFault, IsSystemFault};
 ghost use Rattle.uug_stream.specs.Streams.{CountsFault};
 ghost use Rattle.uug_sys.specs.EndAnswers.{answer_with, failure_to_tell, status_of};
-ghost use Rattle.uug_sys.specs.JobRemarks.{has_failed};
+ghost use Rattle.uug_observe.specs.JobRemarks.{has_failed};
 ghost use Rattle.uug_sys.specs.Calls.{AreReported, HasTalked};
 ghost use Rattle.uug_task.specs.Tasks.{IsTask};
 ghost use Rattle.uug_transfer.specs.Reported.{IsReported};
 
 use crate::answer::answer_at;
 use crate::end_run::EndRun;
-use crate::failing_line::{FailingLine, failure_remark};
-use crate::fault_log::{log_failed, log_failure, log_fault};
 use crate::folder_kind::see_no_spool;
-use crate::hailed_line::HailedLine;
-use crate::job_remark::{failed_remark, put_off_remark};
-use crate::large_files::{large_files, tell_large_files};
-use crate::number_remark::numbers_remark;
 use crate::numbers::{Numbers, meet, read_numbers};
 use crate::parts::{SystemParts, failure_of, read_parts};
 use crate::resumed::hold_left_in;
-use crate::session_mark::{mark_session, unmark_session};
 use crate::spool_call::{call_over_spool, talk_in_spool};
 use crate::spool_lock::tell_unlocked;
-use crate::waking_line::WakingLine;
 use std::alloc::{AllocError, Allocator};
 use std::fs::File;
 use std::io;
@@ -37,15 +29,19 @@ use uug_disk::{
 };
 use uug_failure::{Cause, EndDir, Ended, Outcome, Resource, RunFault, SystemFailure};
 use uug_log::words_of;
+use uug_observe::{
+    failed_remark, failure_remark, large_files, log_failed, log_failure, log_fault, mark_session,
+    numbers_remark, put_off_remark, tell_large_files, unmark_session,
+};
 use uug_port::{
-    DeviceLine, PolledStream, SessionLine, SilentLine, StandardLine, StandardStreams, StreamLine,
-    SystemLine, TimedLine, TimedStream, call_tcp, call_unix, listen_tcp, listen_unix,
+    DevicePort, PolledStream, Port, PortLine, SilentPort, StandardPort, StandardStreams,
+    StreamPort, TimedStream, call_tcp, call_unix, listen_tcp, listen_unix,
 };
 use uug_session::{Job, Node, Side, Spool};
 use uug_stream::{Output, ToolFault};
 use uug_talk::Name;
 use uug_task::{CallTask, FinishedEnd, System, Terms, read_terms};
-use uug_transfer::{EndLine, GreetedLine, LineMonitor, LineName, SessionObserver};
+use uug_transfer::{EndLine, LineName, SessionLine, SessionObserver};
 
 /// Runs one end over its folder and its line, for one session, or at a socket where it is called for several, one after
 /// the other. `docs/OPERATING.md` describes what is in a folder. The folder is locked before anything in it is read; if
@@ -59,13 +55,13 @@ pub fn call_run<'a, A, R, W, O>(
     rt: &'a R,
     task: &'a CallTask<'a>,
     streams: StandardStreams,
-    observer: W,
+    observer: &mut W,
     output: &mut O,
 ) -> Outcome<u8, A>
 where
     A: Allocator + Copy,
     R: System,
-    W: SessionObserver + Drop,
+    W: SessionObserver,
     O: Output,
     ensures status { IfOk result.answer (λ status. status ≤ 1) }
     ensures write { result.answer ≡ Err (RunFault.Tool ToolFault.Write)
@@ -100,13 +96,13 @@ fn call_over_folder<A, R, W, O>(
     run: &EndRun<'_, A, R>,
     line: LineName<'_>,
     streams: StandardStreams,
-    observer: W,
+    observer: &mut W,
     output: &mut O,
 ) -> Outcome<u8, A>
 where
     A: Allocator + Copy,
     R: System,
-    W: SessionObserver + Drop,
+    W: SessionObserver,
     O: Output,
     ensures status { IfOk result.answer (λ status. status ≤ 1) }
     ensures write { result.answer ≡ Err (RunFault.Tool ToolFault.Write)
@@ -120,7 +116,6 @@ where
     let lock = match lock_and_look(run.alloc, run.rt, run.task) {
         Ok(lock) => lock,
         Err(fault) => {
-            drop(observer);
             return Outcome::of(run.alloc, Err(fault));
         }
     };
@@ -197,13 +192,13 @@ pub(crate) fn talk_at<A, R, W, O>(
     line: LineName<'_>,
     streams: StandardStreams,
     held: Option<DirLock<A>>,
-    observer: W,
+    observer: &mut W,
     output: &mut O,
 ) -> Outcome<u8, A>
 where
     A: Allocator + Copy,
     R: System,
-    W: SessionObserver + Drop,
+    W: SessionObserver,
     O: Output,
     ensures status { IfOk result.answer (λ status. status ≤ 1) }
     ensures write { result.answer ≡ Err (RunFault.Tool ToolFault.Write)
@@ -218,12 +213,12 @@ where
     let (alloc, rt, time) = (run.alloc, run.rt, run.station.time());
     match (line, run.task.side) {
         (LineName::Unix(path), Side::Caller) => {
-            let line = stream_line(alloc, rt, call_unix(rt, path, time));
-            talk_once(run, held, line, observer, output)
+            let port = stream_port(alloc, rt, call_unix(rt, path, time));
+            talk_over(run, held, port, observer, output)
         }
         (LineName::Tcp(host, port), Side::Caller) => {
-            let line = stream_line(alloc, rt, call_tcp(alloc, rt, host, port, time));
-            talk_once(run, held, line, observer, output)
+            let port = stream_port(alloc, rt, call_tcp(alloc, rt, host, port, time));
+            talk_over(run, held, port, observer, output)
         }
         (LineName::Unix(path), Side::Called) => {
             drop(held);
@@ -234,8 +229,8 @@ where
             answer_at(run, listen_tcp(alloc, rt, host, port), observer, output)
         }
         (LineName::Standard, _) => {
-            let line = StandardLine::new(alloc, rt, streams, time).map_err(no_line);
-            let outcome = talk_once(run, held, line, observer, output);
+            let port = StandardPort::new(alloc, rt, streams, time).map_err(no_port);
+            let outcome = talk_over(run, held, port, observer, output);
             streams.release();
             outcome
         }
@@ -243,28 +238,28 @@ where
     }
 }
 
-/// Returns why the standard streams are no line. A file can't be waited for, which the system reports as
+/// Returns why the standard streams are no port. A file can't be waited for, which the system reports as
 /// `PermissionDenied`; this becomes `NoStream`.
-fn no_line(cause: Cause) -> Cause {
+fn no_port(cause: Cause) -> Cause {
     match cause {
         Cause::Refused(ErrorKind::PermissionDenied, _) => Cause::NoStream,
         cause => cause,
     }
 }
 
-/// Returns the line over a stream, or why there is none.
-pub(crate) fn stream_line<A, R, T>(
+/// Returns the port over a stream, or why there is none.
+pub(crate) fn stream_port<A, R, T>(
     alloc: A,
     rt: &R,
     stream: io::Result<T>,
-) -> Result<StreamLine<PolledStream<T, A>>, Cause>
+) -> Result<StreamPort<PolledStream<T, A>>, Cause>
 where
     A: Allocator + Copy,
     R: Net,
     T: TimedStream + AsRawFd + Drop,
 {
     match polled(alloc, rt, stream) {
-        Ok(stream) => Ok(StreamLine::new(stream)),
+        Ok(stream) => Ok(StreamPort::new(stream)),
         Err(error) => Err(Cause::of(&error)),
     }
 }
@@ -285,13 +280,13 @@ fn talk_at_device<A, R, W, O>(
     run: &EndRun<'_, A, R>,
     path: &str,
     held: Option<DirLock<A>>,
-    observer: W,
+    observer: &mut W,
     output: &mut O,
 ) -> Outcome<u8, A>
 where
     A: Allocator + Copy,
     R: System,
-    W: SessionObserver + Drop,
+    W: SessionObserver,
     O: Output,
     ensures status { IfOk result.answer (λ status. status ≤ 1) }
     ensures write { result.answer ≡ Err (RunFault.Tool ToolFault.Write)
@@ -304,15 +299,14 @@ where
         Ok(lock) => lock,
         Err(fault) => {
             drop(held);
-            drop(observer);
             return Outcome::of(run.alloc, Err(fault));
         }
     };
     if lock.is_none() {
         tell_unlocked(run.alloc, run.rt, run.task);
     }
-    let line = DeviceLine::open(run.alloc, run.rt, path, run.station.time());
-    let outcome = talk_when_called(run, held, line, observer, output);
+    let port = DevicePort::open(run.alloc, run.rt, path, run.station.time());
+    let outcome = talk_when_called(run, held, port, observer, output);
     if let Some(lock) = lock {
         lock.release(run.rt);
     }
@@ -325,14 +319,14 @@ where
 fn talk_when_called<A, R, W, O>(
     run: &EndRun<'_, A, R>,
     held: Option<DirLock<A>>,
-    line: Result<DeviceLine<A>, Cause>,
-    observer: W,
+    port: Result<DevicePort<A>, Cause>,
+    observer: &mut W,
     output: &mut O,
 ) -> Outcome<u8, A>
 where
     A: Allocator + Copy,
     R: System,
-    W: SessionObserver + Drop,
+    W: SessionObserver,
     O: Output,
     ensures status { IfOk result.answer (λ status. status ≤ 1) }
     ensures write { result.answer ≡ Err (RunFault.Tool ToolFault.Write)
@@ -342,15 +336,16 @@ where
         (O.written output.old) (O.written output.new)) }
 {
     let side = run.task.side;
-    match called(line, run.station.wait_at_device(side)) {
-        Ok(Some(line)) => {
-            let line = Ok(WakingLine::new(line, side));
-            talk_once(run, held, line, observer, output)
+    match called(port, run.station.wait_at_device(side)) {
+        Ok(Some(mut port)) => {
+            if side == Side::Caller {
+                port.wake();
+            }
+            talk_over(run, held, Ok(port), observer, output)
         }
-        Ok(None) => talk_once(run, held, Ok(SilentLine), observer, output),
+        Ok(None) => talk_over(run, held, Ok(SilentPort), observer, output),
         Err(cause) => {
             drop(held);
-            drop(observer);
             Outcome::of(run.alloc, Err(no_line_for(cause)))
         }
     }
@@ -363,36 +358,36 @@ fn no_line_for(cause: Cause) -> RunFault
     RunFault::System(SystemFailure::on(Resource::Line, cause))
 }
 
-/// Returns the line over a device, or why there is none. Returns `None` if the end waits to be called there and no call
+/// Returns the port over a device, or why there is none. Returns `None` if the end waits to be called there and no call
 /// came.
 fn called<A: Allocator + Copy>(
-    line: Result<DeviceLine<A>, Cause>,
+    port: Result<DevicePort<A>, Cause>,
     wait: Option<u32>,
-) -> Result<Option<DeviceLine<A>>, Cause> {
-    let mut line = line?;
+) -> Result<Option<DevicePort<A>>, Cause> {
+    let mut port = port?;
     let Some(seconds) = wait else {
-        return Ok(Some(line));
+        return Ok(Some(port));
     };
-    if line.wait_for_call(Duration::from_secs(u64::from(seconds)))? {
-        Ok(Some(line))
+    if port.wait_for_call(Duration::from_secs(u64::from(seconds)))? {
+        Ok(Some(port))
     } else {
         Ok(None)
     }
 }
 
-/// Talks over the end's line, if it has one, with its folder locked, and takes leave of the observer.
-fn talk_once<A, R, L, W, O>(
+/// Talks over the end's port, if it has one, with its folder locked.
+pub(crate) fn talk_over<A, R, P, W, O>(
     run: &EndRun<'_, A, R>,
     held: Option<DirLock<A>>,
-    line: Result<L, Cause>,
-    observer: W,
+    port: Result<P, Cause>,
+    observer: &mut W,
     output: &mut O,
 ) -> Outcome<u8, A>
 where
     A: Allocator + Copy,
     R: System,
-    L: SystemLine + Drop,
-    W: SessionObserver + Drop,
+    P: Port + Drop,
+    W: SessionObserver,
     O: Output,
     ensures status { IfOk result.answer (λ status. status ≤ 1) }
     ensures write { result.answer ≡ Err (RunFault.Tool ToolFault.Write)
@@ -401,50 +396,24 @@ where
     ensures reported { IfOk result.answer (λ status. IsReported run.now.task.now.side status
         (O.written output.old) (O.written output.new)) }
 {
-    let (outcome, observer) = talk_over(run, held, line, observer, output);
-    drop(observer);
-    outcome
-}
-
-/// Talks over the end's line, if it has one, with its folder locked. Returns the observer too.
-pub(crate) fn talk_over<A, R, L, W, O>(
-    run: &EndRun<'_, A, R>,
-    held: Option<DirLock<A>>,
-    line: Result<L, Cause>,
-    observer: W,
-    output: &mut O,
-) -> (Outcome<u8, A>, W)
-where
-    A: Allocator + Copy,
-    R: System,
-    L: SystemLine + Drop,
-    W: SessionObserver + Drop,
-    O: Output,
-    ensures status { IfOk result.0.answer (λ status. status ≤ 1) }
-    ensures write { result.0.answer ≡ Err (RunFault.Tool ToolFault.Write)
-        → CountsFault (O.fault_count output.old) (O.fault_count output.new) }
-    ensures no_other { IfErr result.0.answer IsSessionFault }
-    ensures reported { IfOk result.0.answer (λ status. IsReported run.now.task.now.side status
-        (O.written output.old) (O.written output.new)) }
-{
-    let line = match line {
-        Ok(line) => line,
+    let port = match port {
+        Ok(port) => port,
         Err(cause) => {
             drop(held);
-            return (Outcome::of(run.alloc, Err(no_line_for(cause))), observer);
+            return Outcome::of(run.alloc, Err(no_line_for(cause)));
         }
     };
-    let line = TimedLine::new(run.rt, SessionLine::new(line, run.station.pace));
-    let line = HailedLine::new(FailingLine::new(line));
-    let mut line = GreetedLine::new(run.alloc, LineMonitor::new(line, observer));
+    let line = PortLine::new(run.rt, port, run.station.pace);
+    let mut line = SessionLine::new(run.alloc, line, observer);
     let ended = if run.task.is_spool {
         drop(held);
         Outcome::of(run.alloc, talk_in_spool(run, &mut line, output))
     } else {
         talk_in_folder(run, held, &mut line, output)
     };
-    let failure = line.line().line().line().failure();
-    (told(run, ended, failure), line.into_line().into_observer())
+    let failure = line.line().failure();
+    drop(line);
+    told(run, ended, failure)
 }
 
 /// Returns the outcome of a run whose session has ended so. If the session is not done because a call of the system
@@ -484,16 +453,17 @@ fn status_and_failure(
 }
 
 /// Talks over the end's line with its folder locked.
-fn talk_in_folder<A, R, L, O>(
+fn talk_in_folder<A, R, L, W, O>(
     run: &EndRun<'_, A, R>,
     held: Option<DirLock<A>>,
-    line: &mut GreetedLine<L, A>,
+    line: &mut SessionLine<L, W, A>,
     output: &mut O,
 ) -> Outcome<Ended, A>
 where
     A: Allocator + Copy,
     R: System,
     L: EndLine,
+    W: SessionObserver,
     O: Output,
     ensures status { IfOk result.answer (λ ended. ended.status ≤ 1) }
     ensures write { result.answer ≡ Err (RunFault.Tool ToolFault.Write)
@@ -501,8 +471,7 @@ where
     ensures no_other { IfErr result.answer IsFaultAtLine }
     ensures reported { IfOk result.answer (λ ended. IsReported run.now.task.now.side ended.status
         (O.written output.old) (O.written output.new)) }
-    ensures line { result.answer ≡ Err (RunFault.Tool ToolFault.Device)
-        → 0 < L.fault_count line.new.line }
+    ensures named { result.answer ≢ Err (RunFault.Tool ToolFault.Device) }
 {
     match lock_again(run.alloc, run.rt, run.task, held) {
         Ok(lock) => {
@@ -533,16 +502,17 @@ fn lock_again<A: Allocator + Copy, R: Files<File = File> + Alloc + Clone + Drop>
 
 /// Makes the end over its folder as it is now, and talks over its line. After a session without a fault, the copies of
 /// its jobs go where these have gone.
-fn talk_locked<A, R, L, O>(
+fn talk_locked<A, R, L, W, O>(
     run: &EndRun<'_, A, R>,
     lock: &DirLock<A>,
-    line: &mut GreetedLine<L, A>,
+    line: &mut SessionLine<L, W, A>,
     output: &mut O,
 ) -> Outcome<Ended, A>
 where
     A: Allocator + Copy,
     R: System,
     L: EndLine,
+    W: SessionObserver,
     O: Output,
     ensures status { IfOk result.answer (λ ended. ended.status ≤ 1) }
     ensures write { result.answer ≡ Err (RunFault.Tool ToolFault.Write)
@@ -551,9 +521,8 @@ where
     // The report is printed of an end that has run its session to its end, and the status is that of the session.
     ensures reported { IfOk result.answer (λ ended. IsReported run.now.task.now.side ended.status
         (O.written output.old) (O.written output.new)) }
-    // Unless the line has failed, the call on the folder that did is named.
-    ensures line { result.answer ≡ Err (RunFault.Tool ToolFault.Device)
-        → 0 < L.fault_count line.new.line }
+    // The call on the folder that failed is named.
+    ensures named { result.answer ≢ Err (RunFault.Tool ToolFault.Device) }
 {
     let (alloc, rt, task) = (run.alloc, run.rt, run.task);
     let (numbers, parts) = match read_end(run, lock, line) {
@@ -586,15 +555,16 @@ where
 }
 
 /// Reads what the end is made of, which may hear the other end's number first.
-fn read_end<'a, A, R, L>(
+fn read_end<'a, A, R, L, W>(
     run: &EndRun<'a, A, R>,
     lock: &DirLock<A>,
-    line: &mut GreetedLine<L, A>,
+    line: &mut SessionLine<L, W, A>,
 ) -> Result<(Numbers, SystemParts<'a, R, A>), RunFault>
 where
     A: Allocator + Copy,
     R: System,
     L: EndLine,
+    W: SessionObserver,
     ensures jobs_calm { IfOk result (λ read. read.1.jobs.file.file.faults.count ≡ 0) }
     ensures number_calm { IfOk result (λ read. read.1.number.file.faults.count ≡ 0) }
     ensures no_other { IfErr result IsReadingFault }

@@ -10,7 +10,7 @@ use uug_failure::{Cause, EndDir, EndText, Resource, RunFault};
 use uug_folder::{BadNumber, number_at_start, number_beside, read_number_text};
 use uug_session::{MemorySpool, Place, Queue, Side};
 use uug_task::{CallTask, Station, make_node};
-use uug_transfer::{BufferedNode, EndLine, FaultInjector, GreetedLine};
+use uug_transfer::{BufferedNode, EndLine, FaultInjector, SessionLine, SessionObserver};
 
 /// The numbers of an end's conversations as its session begins.
 #[derive(Clone, Copy)]
@@ -65,13 +65,13 @@ fn numbers_of(dir: EndDir<'_>, text: Option<&[u8]>, is_told: bool) -> Result<Num
 
 /// Returns the numbers with which the end begins. A called end that keeps one says its first words before that, and
 /// hears its caller. If the caller's number is one behind, it begins with the caller's.
-pub(crate) fn meet<A: Allocator + Copy, R: Files, L: EndLine>(
+pub(crate) fn meet<A: Allocator + Copy, R: Files, L: EndLine, W: SessionObserver>(
     alloc: A,
     rt: &R,
     task: &CallTask<'_>,
     lock: &DirLock<A>,
     station: Station,
-    line: &mut GreetedLine<L, A>,
+    line: &mut SessionLine<L, W, A>,
 ) -> Result<Numbers, RunFault>
     ensures { IfErr result IsReadingFault }
 {
@@ -88,10 +88,10 @@ pub(crate) fn meet<A: Allocator + Copy, R: Files, L: EndLine>(
 }
 
 /// Lets a called end say its first words, and hear its caller's number, for `seconds`.
-pub(crate) fn meet_caller<A: Allocator + Copy, L: EndLine>(
+pub(crate) fn meet_caller<A: Allocator + Copy, L: EndLine, W: SessionObserver>(
     alloc: A,
     place: &Place,
-    line: &mut GreetedLine<L, A>,
+    line: &mut SessionLine<L, W, A>,
     seconds: u64,
 ) -> Result<Option<u32>, AllocError> {
     let node = make_node(

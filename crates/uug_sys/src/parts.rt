@@ -5,7 +5,6 @@ ghost use Rattle.uug_failure.specs.Faults.{IsFolderFault, IsReadingFault};
 ghost use Rattle.uug_folder.specs.JobsText.{IsFrontOf};
 ghost use Rattle.uug_task.specs.Tasks.{IsTask};
 
-use crate::fault_log::{log_lines, log_waiting};
 use crate::numbers::Numbers;
 use crate::resumed::{partial_path, read_held};
 use std::alloc::{AllocError, Allocator};
@@ -18,6 +17,7 @@ use uug_disk::{
 };
 use uug_failure::{EndText, RunFault, SystemFailure};
 use uug_folder::{FolderSpool, JobsFile, LocalNames, first_jobs};
+use uug_observe::{log_lines, log_waiting};
 use uug_session::{Job, Place, Side, Spool, Stored};
 use uug_stream::ToolFault;
 use uug_talk::Name;

@@ -1,12 +1,12 @@
 //! Files that were cut off: an end over a folder holds what has come of them, in the folder `partial` below its own.
 ghost use Rattle.std.specs.Prelude.{◌≡◌, IfOk, is_some};
 
-use crate::fault_log::log_fault;
 use std::alloc::{AllocError, Allocator};
 use std::rt::Files;
 use std::time::Clock;
 use uug_disk::read_partials;
 use uug_log::words_of;
+use uug_observe::log_fault;
 use uug_session::{PartialFile, Partials};
 use uug_spool_call::hold_left;
 use uug_talk::FileDigest;

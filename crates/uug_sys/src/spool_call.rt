@@ -1,5 +1,5 @@
 //! An end over a spool of Taylor UUCP, and the lock of the other system.
-ghost use Rattle.std.specs.Prelude.{◌≡◌, ◌≢◌, ◌<◌, ◌≤◌, Err, IfErr, IfOk, OnErr, codes, false, string_bytes, true};
+ghost use Rattle.std.specs.Prelude.{◌≡◌, ◌≢◌, ◌≤◌, Err, IfErr, IfOk, OnErr, codes, false, string_bytes, true};
 ghost use Rattle.uug_failure.specs.Faults.{IsFaultAtLine, IsFolderFault, IsSessionFault};
 ghost use Rattle.uug_spool.specs.SpoolNames.{is_system_name};
 ghost use Rattle.uug_transfer.specs.Reported.{IsReported};
@@ -13,9 +13,7 @@ ghost use Rattle.uug_transfer.specs.Writing.{TakesFront};
 use crate::call::talk_at;
 use crate::end_run::EndRun;
 use crate::folder_kind::see_no_folder;
-use crate::hailed_line::HailedLine;
 use crate::numbers::meet_caller;
-use crate::session_mark::BROKEN_OFF;
 use crate::spool_lock::{
     has_lock, is_held, is_in_use, is_locked, lock_system, lock_words, locked_remark, say,
 };
@@ -26,17 +24,15 @@ use std::rt::{Env, Files};
 use std::time::Clock;
 use uug_disk::DeviceLock;
 use uug_failure::{Ended, Outcome, Resource, RunFault};
-use uug_port::{SilentLine, StandardStreams};
+use uug_observe::BROKEN_OFF;
+use uug_port::{PortLine, SilentPort, StandardStreams};
 use uug_session::{End, Phase, Side};
 use uug_spool::is_system_name;
 use uug_spool_call::{SpoolCall, talk_over_spool, tell_fault, tell_large, tell_no_line};
 use uug_stream::{Output, ToolFault};
 use uug_talk::Name;
-use uug_task::{CallTask, System};
-use uug_transfer::{EndLine, GreetedLine, LineMonitor, LineName, SessionObserver, SessionStatus};
-
-/// The word in place of a system's name that lets any system of the spool call.
-pub(crate) const ANY: &str = "*";
+use uug_task::{ANY, CallTask, System};
+use uug_transfer::{EndLine, LineName, SessionLine, SessionObserver, SessionStatus};
 
 /// Says in the log that another run talks with the system.
 const LOCKED: &str = "System already locked";
@@ -46,13 +42,13 @@ pub(crate) fn call_over_spool<A, R, W, O>(
     run: &EndRun<'_, A, R>,
     line: LineName<'_>,
     streams: StandardStreams,
-    observer: W,
+    observer: &mut W,
     output: &mut O,
 ) -> Outcome<u8, A>
 where
     A: Allocator + Copy,
     R: System,
-    W: SessionObserver + Drop,
+    W: SessionObserver,
     O: Output,
     ensures status { IfOk result.answer (λ status. status ≤ 1) }
     ensures write { result.answer ≡ Err (RunFault.Tool ToolFault.Write)
@@ -64,7 +60,6 @@ where
         AreReported Side.Called status (O.written output.old) (O.written output.new)) }
 {
     if let Err(fault) = see_spool(run.alloc, run.rt, run.task) {
-        drop(observer);
         return Outcome::of(run.alloc, Err(fault));
     }
     if run.task.side == Side::Called {
@@ -81,13 +76,13 @@ fn call_locked<A, R, W, O>(
     line: LineName<'_>,
     streams: StandardStreams,
     lock: Result<DeviceLock<A>, RunFault>,
-    observer: W,
+    observer: &mut W,
     output: &mut O,
 ) -> Outcome<u8, A>
 where
     A: Allocator + Copy,
     R: System,
-    W: SessionObserver + Drop,
+    W: SessionObserver,
     O: Output,
     requires lock { IfErr lock IsFolderFault }
     ensures status { IfOk result.answer (λ status. status ≤ 1) }
@@ -104,7 +99,6 @@ where
     let lock = match lock {
         Ok(lock) => lock,
         Err(fault) => {
-            drop(observer);
             return call_later(run, fault);
         }
     };
@@ -192,7 +186,7 @@ fn see_spool<A: Allocator + Copy, R: Files>(
 /// Talks over the line of an end over a spool. A called end locks the other system during that.
 pub(crate) fn talk_in_spool<A, R, L, W, O>(
     run: &EndRun<'_, A, R>,
-    line: &mut GreetedLine<LineMonitor<HailedLine<L>, W>, A>,
+    line: &mut SessionLine<L, W, A>,
     output: &mut O,
 ) -> Result<Ended, RunFault>
 where
@@ -207,8 +201,7 @@ where
     ensures no_other { IfErr result IsFaultAtLine }
     ensures reported { IfOk result (λ ended. IsReported run.now.task.now.side ended.status
         (O.written output.old) (O.written output.new)) }
-    ensures line { result ≡ Err (RunFault.Tool ToolFault.Device)
-        → 0 < L.fault_count line.new.line.line.line }
+    ensures named { result ≢ Err (RunFault.Tool ToolFault.Device) }
 {
     if run.task.side == Side::Caller {
         return talk_with(run, line, output);
@@ -280,7 +273,7 @@ where
 /// words are not read may not read ours.
 fn lock_caller<A, R, L, W>(
     run: &EndRun<'_, A, R>,
-    line: &mut GreetedLine<LineMonitor<HailedLine<L>, W>, A>,
+    line: &mut SessionLine<L, W, A>,
 ) -> Result<DeviceLock<A>, RunFault>
 where
     A: Allocator + Copy,
@@ -319,7 +312,7 @@ where
     ensures no_other { IfErr result IsFaultAtLine }
     ensures reported { IfOk result (λ ended. IsReported run.now.task.now.side ended.status
         (O.written output.old) (O.written output.new)) }
-    ensures line { result ≡ Err (RunFault.Tool ToolFault.Device) → 0 < L.fault_count line.new }
+    ensures named { result ≢ Err (RunFault.Tool ToolFault.Device) }
     ensures gives_up { IfErr lock (λ fault. is_locked fault ≡ false → result ≡ Err fault) }
     ensures silent { IfErr lock (λ fault. is_locked fault ≡ false
         → O.written output.new ≡ O.written output.old) }
@@ -328,8 +321,7 @@ where
         → L.taken line.new ≡ L.taken line.old) }
     ensures says { IfErr lock (λ fault. is_locked fault ≡ true → IfOk result (λ _.
         Says (lock_words run.now.station.place.me) (L.taken line.old) (L.taken line.new)
-        (L.writes line.old) (L.writes line.new)
-        (L.fault_count line.old) (L.fault_count line.new))) }
+        (L.writes line.old) (L.writes line.new))) }
     ensures nothing_else { OnErr lock (TakesFront (lock_words run.now.station.place.me)
         (L.taken line.old) (L.taken line.new)) }
 {
@@ -369,8 +361,7 @@ where
     ensures unwritten { is_locked fault ≡ false → L.taken line.new ≡ L.taken line.old }
     ensures says { is_locked fault ≡ true → IfOk result (λ _.
         Says (lock_words run.now.station.place.me) (L.taken line.old) (L.taken line.new)
-        (L.writes line.old) (L.writes line.new)
-        (L.fault_count line.old) (L.fault_count line.new)) }
+        (L.writes line.old) (L.writes line.new)) }
     ensures nothing_else { TakesFront (lock_words run.now.station.place.me)
         (L.taken line.old) (L.taken line.new) }
 {
@@ -407,7 +398,8 @@ where
     ensures reported { IfOk result (λ ended. IsReported run.now.task.now.side ended.status
         (O.written output.old) (O.written output.new)) }
 {
-    talk_with(&run.with_peer(nobody()), &mut SilentLine, output)
+    let mut line = PortLine::new(run.rt, SilentPort, run.station.pace);
+    talk_with(&run.with_peer(nobody()), &mut line, output)
 }
 
 /// Runs the session of the end at its line.
@@ -427,7 +419,7 @@ where
     ensures no_other { IfErr result IsFaultAtLine }
     ensures reported { IfOk result (λ ended. IsReported run.now.task.now.side ended.status
         (O.written output.old) (O.written output.new)) }
-    ensures line { result ≡ Err (RunFault.Tool ToolFault.Device) → 0 < L.fault_count line.new }
+    ensures named { result ≢ Err (RunFault.Tool ToolFault.Device) }
 {
     let call = said_of(run.task);
     let limits = run.station.limits();
@@ -446,7 +438,7 @@ where
 /// caller first.
 fn system_at<A, R, L, W>(
     run: &EndRun<'_, A, R>,
-    line: &mut GreetedLine<LineMonitor<HailedLine<L>, W>, A>,
+    line: &mut SessionLine<L, W, A>,
 ) -> Result<Option<Name>, AllocError>
 where
     A: Allocator + Copy,
@@ -464,7 +456,7 @@ where
 /// the caller has not given, and the caller is refused.
 fn name_of_caller<A, R, L, W>(
     run: &EndRun<'_, A, R>,
-    line: &mut GreetedLine<LineMonitor<HailedLine<L>, W>, A>,
+    line: &mut SessionLine<L, W, A>,
 ) -> Result<Option<Name>, AllocError>
 where
     A: Allocator + Copy,
@@ -474,7 +466,7 @@ where
 {
     let (alloc, station) = (run.alloc, &run.station);
     meet_caller(alloc, &station.place, line, station.limits().greeting)?;
-    let Some(name) = line.line().line().caller() else {
+    let Some(name) = line.caller() else {
         return Ok(None);
     };
     let is_known = has_folder(alloc, run.rt, run.task.dir, &name)?;

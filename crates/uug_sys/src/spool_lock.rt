@@ -5,7 +5,6 @@ ghost use Rattle.uug_failure.specs.Faults.{IsFolderFault};
 ghost use Rattle.uug_sys.specs.SpoolLocks.{IsRefusedLock, Says, file_words, is_held, is_in_use, is_locked, lock_words, locked_by, locked_remark};
 ghost use Rattle.uug_talk.specs.Texts.{written_text};
 
-use crate::fault_log::log_fault;
 use std::alloc::{AllocError, Allocator};
 use std::fs::File;
 use std::io::{ErrorKind, Write};
@@ -15,11 +14,12 @@ use uug_disk::{DeviceLock, lock_device};
 use uug_failure::{Cause, EndDir, Resource, RunFault};
 use uug_locks::lock_path;
 use uug_log::words_of;
+use uug_observe::log_fault;
 use uug_reason::{add_escaped, locks_line};
 use uug_stream::ToolFault;
 use uug_talk::{Name, TEXT_START};
 use uug_task::{CallTask, System};
-use uug_transfer::{EndLine, LineFailed};
+use uug_transfer::EndLine;
 
 /// The number of the folder of the locks among the folders of one end, the first of which is its own.
 const LOCKS: usize = 1;
@@ -216,19 +216,19 @@ fn add_text<A: Allocator>(
     Ok(())
 }
 
-/// Writes these words, until a write takes none of them, or fails. Returns whether all were written.
-pub(crate) fn say<L: EndLine>(line: &mut L, words: &[u8]) -> Result<bool, LineFailed>
+/// Writes these words, until a write takes none of them. Returns whether all were written.
+pub(crate) fn say<L: EndLine>(line: &mut L, words: &[u8]) -> bool
     ensures says { Says words.now (L.taken line.old) (L.taken line.new)
-        (L.writes line.old) (L.writes line.new) (L.fault_count line.old) (L.fault_count line.new) }
+        (L.writes line.old) (L.writes line.new) }
     ensures unread { L.received line.new ≡ L.received line.old }
 {
     let mut rest = words;
     while !rest.is_empty() {
-        let count = line.write(rest)?;
+        let count = line.write(rest);
         if count == 0 {
-            return Ok(false);
+            return false;
         }
         rest = &rest[count..];
     }
-    Ok(true)
+    true
 }

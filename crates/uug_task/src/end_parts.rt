@@ -114,13 +114,11 @@ impl<S: Spool + Drop, J: JobTexts + Drop, N: TextFile + Drop, A: Allocator + Cop
         ensures write { IfOk result (λ finished. finished.answer ≡ Err ToolFault.Write
             → CountsFault (O.fault_count output.old) (O.fault_count output.new)) }
         ensures no_other { IfOk result (λ finished. IfErr finished.answer IsEndFault) }
-        ensures line_grows { L.fault_count line.old ≤ L.fault_count line.new }
         ensures device { IfOk result (λ finished. finished.answer ≡ Err ToolFault.Device
-            → HasFailed u64.MAX (L.fault_count line.old) (L.fault_count line.new)
-            ⊎ (HasFailed u64.MAX (J.fault_count self.jobs.file)
+            → HasFailed u64.MAX (J.fault_count self.jobs.file)
             (J.fault_count finished.end.jobs.file)
             ⊎ HasFailed u64.MAX (N.fault_count self.number)
-            (N.fault_count finished.end.number))) }
+            (N.fault_count finished.end.number)) }
     {
         events_follow_events();
         let injector = FaultInjector::without_faults(thinning);

@@ -13,6 +13,6 @@ pub use folder_rules::FolderRules;
 pub use places::place_in_pair;
 pub use system::System;
 pub use task::{
-    CallTask, KEEP_MAX, MOST_MIN, ReportPlace, SECONDS_MAX, SESSIONS_MAX, Station, Terms, WAIT_MAX,
-    has_place, may_have, read_terms,
+    ANY, CallTask, KEEP_MAX, MOST_MIN, ReportPlace, SECONDS_MAX, SESSIONS_MAX, Station, Terms,
+    WAIT_MAX, has_place, may_have, read_terms,
 };

@@ -15,6 +15,9 @@ use uug_transfer::{
     LineName, Pace, PatienceLimits, SPEED_MAX, SPEED_MIN, Thinning, packets, read_line_name,
 };
 
+/// The word in place of a system's name that lets any system of a spool call.
+pub const ANY: &str = "*";
+
 /// The maximum seconds that a line waits.
 pub const SECONDS_MAX: u32 = 600;
 

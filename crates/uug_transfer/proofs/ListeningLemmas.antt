@@ -13,11 +13,11 @@ use Rattle.uug_session.specs.EndStep.{Emitted, Identity, time_ran_out}
 use Rattle.uug_session.specs.Engine.{entry_of, hung_up, with_stage}
 use Rattle.uug_session.specs.Node.{NodeState, effect_of}
 use Rattle.uug_transfer.specs.BufferedNodes.{IsCleared, SendsOut}
-use Rattle.uug_transfer.specs.Listening.{HearsLine, HearsSaying, SaysEach, all_received, all_said, reads_in}
+use Rattle.uug_transfer.specs.Listening.{HearsLine, HearsSaying, SaysEach, all_said, reads_in}
 use Rattle.uug_transfer.specs.Outgoing.{count_behind, count_with, outgoing_from, outgoing_of_entry}
 use Rattle.uug_transfer.specs.ReadOutcomes.{IsWithin, TakesOutcome, outcome_bytes}
 use Rattle.uug_transfer.specs.SessionFaults.{UnlessRefused}
-use Rattle.uug_transfer.specs.Received.{Received, also_received, line_end, piece, received_of, silence}
+use Rattle.uug_transfer.specs.Received.{Received, also_received, piece, received_of, silence}
 use Rattle.uug_transfer.specs.Thinning.{thinned}
 use Rattle.uug_transfer.specs.Writing.{TakesFront, TalksAtLine, all_thinned, also_taken, goes_out}
 use Rattle.uug_transfer.specs.declared.fault_injector.FaultInjector.{FaultInjector}
@@ -33,21 +33,17 @@ reads_append : (es more : List LineEvent) → reads_in (es ++ more) ≡ reads_in
 reads_append [] more = refl
 reads_append (brings_bytes bytes failures ∷ es) more = ap (λ (rs : List Received). piece bytes ∷ rs) (reads_append es more)
 reads_append (brings_nothing ∷ es) more = ap (λ (rs : List Received). silence ∷ rs) (reads_append es more)
-reads_append (is_at_end ∷ es) more = ap (λ (rs : List Received). line_end ∷ rs) (reads_append es more)
+reads_append (is_at_end ∷ es) more = reads_append es more
 reads_append (is_left ∷ es) more = reads_append es more
 
-none_received : (r : Option (List Received)) → r ≡ all_received [] r
+none_received : (r : Option (List Received)) → r ≡ also_received [] r
 none_received None = refl
 none_received (Some rs) = ap (λ (x : List Received). Some x) (sym (append-nil rs))
 
 both_received : (first more : List Received) (r : Option (List Received)) →
-    all_received more (all_received first r) ≡ all_received (first ++ more) r
+    also_received more (also_received first r) ≡ also_received (first ++ more) r
 both_received first more None = refl
 both_received first more (Some rs) = ap (λ (x : List Received). Some x) (append_assoc rs first more)
-
-one_received : (x : Received) (r : Option (List Received)) → also_received x r ≡ all_received (x ∷ []) r
-one_received x None = refl
-one_received x (Some rs) = refl
 
 -- ---- what each event had the end emit
 
@@ -73,7 +69,7 @@ hears_at_first h k r a = record { events = []; listened = listens_at_first h k a
 
 hears_more : (h : Holdings) (k l m : List Kept) (r s t : Option (List Received)) (said : List (List Emitted)) (a b d : NodeState)
     (e : LineEvent) (says : List Emitted) → HearsSaying h k l r s said a b → ListensOn h l m e says b d →
-    t ≡ all_received (reads_in (e ∷ [])) s → HearsSaying h k m r t (said ++ says ∷ []) a d
+    t ≡ also_received (reads_in (e ∷ [])) s → HearsSaying h k m r t (said ++ says ∷ []) a d
 hears_more h k l m r s t said a b d e says heard on told = record {
   events = heard.events ++ e ∷ [];
   listened = subst (λ (z : List Emitted). HasListened h k m (heard.events ++ e ∷ []) z a d) (sym (said_with said says))
@@ -82,9 +78,9 @@ hears_more h k l m r s t said a b d e says heard on told = record {
       says_one_more h a.engine.identity e says heard.events said (listening_at h k a) heard.each
       (ap (λ (id : Identity). (after_line_event h id e now).end.emitted) (sym heard.listened.identity)
       ∙ on.emitted now heard.listened.held heard.listened.state);
-  told = told ∙ ap (all_received (reads_in (e ∷ []))) heard.told
+  told = told ∙ ap (also_received (reads_in (e ∷ []))) heard.told
       ∙ both_received (reads_in heard.events) (reads_in (e ∷ [])) r
-      ∙ ap (λ (rs : List Received). all_received rs r) (sym (reads_append heard.events (e ∷ [])));
+      ∙ ap (λ (rs : List Received). also_received rs r) (sym (reads_append heard.events (e ∷ [])));
 }
 
 hears_cleared : (h : Holdings) (k l m : List Kept) (r s : Option (List Received)) (said : List (List Emitted)) (a b d : NodeState) →
@@ -123,7 +119,7 @@ hears_outcome h k l m failure (Bytes n) slice buffer i j bytes left r s t said a
     hears_cleared h k m m r t (said ++ takes.takes.course.emitted ∷ []) a takes.between d
     (hears_more h k l m r s t said a b takes.between (brings_bytes (take n buffer) (takes.takes.course.failures ++ []))
     takes.takes.course.emitted heard (piece_listens h l m failure (take n buffer) b takes.between takes.takes)
-    (told ∙ one_received (piece (take n slice)) s ∙ ap (λ (x : List ℕ). all_received (piece x ∷ []) s) same))
+    (told ∙ ap (λ (x : List ℕ). also_received (piece x ∷ []) s) same))
     takes.sends.cleared refl
 hears_outcome h k l m failure TimedOut slice buffer i j bytes left r s t said a b d heard takes told same =
     let waits = takes.0 in
@@ -131,11 +127,11 @@ hears_outcome h k l m failure TimedOut slice buffer i j bytes left r s t said a 
     hears_cleared h k l m r t (said ++ says ∷ []) a waits.between d
     (hears_more h k l l r s t said a b waits.between brings_nothing says heard
     (late_listens h l b waits.between waits.late waits.texts waits.packets)
-    (told ∙ one_received silence s))
+    told)
     waits.sends.cleared takes.1
 hears_outcome h k l m failure Eof slice buffer i j bytes left r s t said a b d heard takes told same =
     hears_same h k l m r t t (said ++ [] ∷ []) a b d
-    (hears_more h k l l r s t said a b b is_at_end [] heard (end_listens h l b) (told ∙ one_received line_end s)) takes.0 takes.1 refl
+    (hears_more h k l l r s t said a b b is_at_end [] heard (end_listens h l b) told) takes.0 takes.1 refl
 
 -- what was read stands in front
 pub front_read : (outcome : ReadOutcome) (slice rest : List ℕ) (room : ℕ) → IsWithin room outcome → room ≤ length slice →
@@ -477,7 +473,6 @@ wrote_some bytes left (Some before) v w wrote some =
 
 pub heard_then : {T : Type 0} (r : Result T SessionFault) (P Q : Type 0) → UnlessRefused r P → (P → Q) → UnlessRefused r Q
 heard_then (Ok value) P Q p f = f p
-heard_then (Err fault.Line) P Q p f = f p
 heard_then (Err fault.Jobs) P Q p f = f p
 heard_then (Err fault.Number) P Q p f = f p
 heard_then (Err fault.Memory) P Q p f = tt

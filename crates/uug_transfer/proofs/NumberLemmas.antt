@@ -16,7 +16,6 @@ later first second = record { stands = λ number h. second.stands number (first.
 
 pub unless_refused : {T : Type 0} (r : Result T SessionFault) (P : Type 0) → P → UnlessRefused r P
 unless_refused (Ok value) P p = p
-unless_refused (Err fault.Line) P p = p
 unless_refused (Err fault.Jobs) P p = p
 unless_refused (Err fault.Number) P p = p
 unless_refused (Err fault.Memory) P p = tt
@@ -24,7 +23,6 @@ unless_refused (Err fault.Memory) P p = tt
 pub later_unless : {T : Type 0} (r : Result T SessionFault) (a b c : EngineState) → UnlessRefused r (KeepsNumber a b) → KeepsNumber b c
     → UnlessRefused r (KeepsNumber a c)
 later_unless (Ok value) a b c first second = later first second
-later_unless (Err fault.Line) a b c first second = later first second
 later_unless (Err fault.Jobs) a b c first second = later first second
 later_unless (Err fault.Number) a b c first second = later first second
 later_unless (Err fault.Memory) a b c first second = tt

@@ -4,7 +4,7 @@ use Rattle.std.proofs.lemmas.List.{append-nil, length-take}
 use Rattle.std.specs.Prelude.{⊤}
 use Rattle.uug_transfer.specs.ReadBudgets.{Lasts, bytes_left, silences_left}
 use Rattle.uug_transfer.specs.ReadOutcomes.{IsWithin}
-use Rattle.uug_transfer.specs.Received.{Received, piece, silence, line_end, ReadsWithin, WaitsWithin, also_received, bytes_in, received_of}
+use Rattle.uug_transfer.specs.Received.{Received, piece, silence, ReadsWithin, WaitsWithin, also_received, bytes_in, received_of}
 use Rattle.uug_transfer.specs.declared.read_budget.TheConstants.{SILENCES_MAX}
 use Rattle.uug_transfer.specs.declared.read_outcome.ReadOutcome.{ReadOutcome}
 use Rattle.uug_transfer.specs.declared.read_outcome.ReadOutcome.TheVariants.{Bytes, TimedOut, Eof}
@@ -14,27 +14,23 @@ abbrev waited_after : (waited : ℕ) → List Received → ℕ
 waited_after waited [] = waited
 waited_after waited (piece bytes ∷ rs) = waited_after 0 rs
 waited_after waited (silence ∷ rs) = waited_after (waited + 1) rs
-waited_after waited (line_end ∷ rs) = waited_after waited rs
 
 bytes_behind : (rs : List Received) (r : Received) → bytes_in (rs ++ r ∷ []) ≡ bytes_in rs + bytes_in (r ∷ [])
 bytes_behind [] r = omega arith
 bytes_behind (piece bytes ∷ rs) r = omega (arith, bytes_behind rs r)
 bytes_behind (silence ∷ rs) r = bytes_behind rs r
-bytes_behind (line_end ∷ rs) r = bytes_behind rs r
 
 waits_behind : (most waited : ℕ) (rs : List Received) (r : Received) → WaitsWithin most waited rs
     → WaitsWithin most (waited_after waited rs) (r ∷ []) → WaitsWithin most waited (rs ++ r ∷ [])
 waits_behind most waited [] r h k = k
 waits_behind most waited (piece bytes ∷ rs) r h k = waits_behind most 0 rs r h k
 waits_behind most waited (silence ∷ rs) r h k = (h.0, waits_behind most (waited + 1) rs r h.1 k)
-waits_behind most waited (line_end ∷ rs) r h k = waits_behind most waited rs r h k
 
 waited_behind : (waited : ℕ) (rs : List Received) (r : Received)
     → waited_after waited (rs ++ r ∷ []) ≡ waited_after (waited_after waited rs) (r ∷ [])
 waited_behind waited [] r = refl
 waited_behind waited (piece bytes ∷ rs) r = waited_behind 0 rs r
 waited_behind waited (silence ∷ rs) r = waited_behind (waited + 1) rs r
-waited_behind waited (line_end ∷ rs) r = waited_behind waited rs r
 
 -- so much is left of what may be read, behind what was read since
 pub record Spends (most left quiet : ℕ) (since : List Received) : Type 0 where
@@ -70,7 +66,7 @@ within_then most bytes silences (Some before) after h = (h.0, h.1, omega (arith,
 -- one read more
 spent : (most bytes silences room : ℕ) (since : List Received) (outcome : ReadOutcome) (buffer : List ℕ)
     → Spends most bytes silences since → Lasts bytes silences → IsWithin room outcome → room ≤ bytes → room ≤ length buffer
-    → Spends most (bytes_left bytes outcome) (silences_left silences outcome) (since ++ received_of outcome buffer ∷ [])
+    → Spends most (bytes_left bytes outcome) (silences_left silences outcome) (since ++ received_of outcome buffer)
 spent most bytes silences room since (Bytes n) buffer s lasts within room_is size =
     let taken : length (take n buffer) ≡ n = length-take-le n buffer (omega (arith, within.1, size)) in
     record {
@@ -85,11 +81,8 @@ spent most bytes silences room since TimedOut buffer s lasts within room_is size
       silences = omega (arith, waited_behind 0 since silence, s.silences, lasts.waits);
     }
 spent most bytes silences room since Eof buffer s lasts within room_is size =
-    record {
-      bytes = omega (arith, bytes_behind since line_end, s.bytes);
-      waits = waits_behind SILENCES_MAX 0 since line_end s.waits tt;
-      silences = ap (λ (w : ℕ). w + silences) (waited_behind 0 since line_end) ∙ s.silences;
-    }
+    subst (λ (rs : List Received). Spends most 0 silences rs) (sym (append-nil since))
+    (record { bytes = omega (arith, s.bytes); waits = s.waits; silences = s.silences })
 
 pub spends_more : (most bytes silences room bytes_then silences_then : ℕ) (before mid after : Option (List Received)) (outcome : ReadOutcome)
     (buffer : List ℕ) → SpendsSince most bytes silences before mid → Lasts bytes silences → IsWithin room outcome → room ≤ bytes
@@ -97,15 +90,15 @@ pub spends_more : (most bytes silences room bytes_then silences_then : ℕ) (bef
     → silences_then ≡ silences_left silences outcome → SpendsSince most bytes_then silences_then before after
 spends_more most bytes silences room bytes_then silences_then None mid after outcome buffer s lasts within room_is size came left quiet = tt
 spends_more most bytes silences room bytes_then silences_then (Some before) mid after outcome buffer s lasts within room_is size came left quiet =
-    let r : Received = received_of outcome buffer in
-    let more : also_received r mid ≡ Some (before ++ (s.0 ++ r ∷ [])) =
-    ap (also_received r) s.1 ∙ ap (λ (x : List Received). Some x) (append_assoc before s.0 (r ∷ [])) in
-    let there : Spends most (bytes_left bytes outcome) (silences_left silences outcome) (s.0 ++ r ∷ []) =
+    let r : List Received = received_of outcome buffer in
+    let more : also_received r mid ≡ Some (before ++ (s.0 ++ r)) =
+    ap (also_received r) s.1 ∙ ap (λ (x : List Received). Some x) (append_assoc before s.0 r) in
+    let there : Spends most (bytes_left bytes outcome) (silences_left silences outcome) (s.0 ++ r) =
     spent most bytes silences room s.0 outcome buffer s.2 lasts within room_is size in (
-      s.0 ++ r ∷ [],
+      s.0 ++ r,
       came ∙ more,
-      subst (λ (b : ℕ). Spends most b silences_then (s.0 ++ r ∷ [])) (sym left)
-          (subst (λ (q : ℕ). Spends most (bytes_left bytes outcome) q (s.0 ++ r ∷ [])) (sym quiet) there),
+      subst (λ (b : ℕ). Spends most b silences_then (s.0 ++ r)) (sym left)
+          (subst (λ (q : ℕ). Spends most (bytes_left bytes outcome) q (s.0 ++ r)) (sym quiet) there),
     )
 
 -- nothing was read meanwhile

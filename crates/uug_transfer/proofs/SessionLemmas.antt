@@ -1,5 +1,6 @@
 -- Shows what the session of an end comes to, one call behind another.
-use Rattle.std.proofs.Common.{◌≡◌, ◌≤◌, ℕ, [], Option, Result, Ok, Err, refl, sym, ap, subst, ◌∙◌, arith}
+use Rattle.std.proofs.Common.{◌≡◌, ℕ, [], Option, Result, Ok, Err, refl, sym, ap, subst, ◌∙◌}
+use Rattle.std.specs.Prelude.{OnOk}
 use Rattle.std.specs.Result.{IsErr, IsErrAnd}
 use Rattle.uug_folder.specs.NumberText.{holding_number}
 use Rattle.uug_conversation.specs.DialogueValue.{dialogue_has_parted}
@@ -15,7 +16,7 @@ use Rattle.uug_transfer.specs.LineSessions.{IsSession, SettlesJobs, UsesLine, Wr
 use Rattle.uug_transfer.specs.Listening.{HearsLine}
 use Rattle.uug_transfer.specs.Moments.{DiskNow, EndNow, LineNow, Unsent}
 use Rattle.uug_transfer.specs.Received.{ReadsWithin}
-use Rattle.uug_transfer.specs.SessionFaults.{IfOnDisk, UnlessJobs, UnlessLine, UnlessNumber, UnlessRefused, UnlessUnsettled}
+use Rattle.uug_transfer.specs.SessionFaults.{UnlessJobs, UnlessNumber, UnlessRefused, UnlessUnsettled}
 use Rattle.uug_transfer.specs.Settling.{IsNumberNow, IsSomeNumber, LosesNoJob}
 use Rattle.uug_transfer.specs.WriteSilences.{WritesWithin}
 use Rattle.uug_transfer.specs.Writing.{TalksAtLine}
@@ -30,50 +31,24 @@ handed_on (Err other) f h = ap Err h.1
 
 -- ---- by what it ended with
 
-unless_line : {T : Type 0} (r : Result T SessionFault) (P : Type 0) → P → UnlessLine r P
-unless_line (Ok value) P p = p
-unless_line (Err fault.Line) P p = tt
-unless_line (Err fault.Jobs) P p = p
-unless_line (Err fault.Number) P p = p
-unless_line (Err fault.Memory) P p = p
-
 unless_number : {T : Type 0} (r : Result T SessionFault) (P : Type 0) → P → UnlessNumber r P
 unless_number (Ok value) P p = p
-unless_number (Err fault.Line) P p = p
 unless_number (Err fault.Jobs) P p = p
 unless_number (Err fault.Number) P p = tt
 unless_number (Err fault.Memory) P p = p
 
 unless_number_then : {T : Type 0} (r : Result T SessionFault) (P Q : Type 0) → UnlessNumber r P → (P → Q) → UnlessNumber r Q
 unless_number_then (Ok value) P Q p f = f p
-unless_number_then (Err fault.Line) P Q p f = f p
 unless_number_then (Err fault.Jobs) P Q p f = f p
 unless_number_then (Err fault.Number) P Q p f = tt
 unless_number_then (Err fault.Memory) P Q p f = f p
 
-if_on_disk : {T : Type 0} (r : Result T SessionFault) (P : Type 0) → P → IfOnDisk r P
-if_on_disk (Ok value) P p = p
-if_on_disk (Err fault.Line) P p = p
-if_on_disk (Err fault.Jobs) P p = tt
-if_on_disk (Err fault.Number) P p = tt
-if_on_disk (Err fault.Memory) P p = tt
-
-on_disk_then : {T : Type 0} (r : Result T SessionFault) (P Q : Type 0) → IfOnDisk r P → (P → Q) → IfOnDisk r Q
-on_disk_then (Ok value) P Q p f = f p
-on_disk_then (Err fault.Line) P Q p f = f p
-on_disk_then (Err fault.Jobs) P Q p f = tt
-on_disk_then (Err fault.Number) P Q p f = tt
-on_disk_then (Err fault.Memory) P Q p f = tt
-
-not_on_disk : (T : Type 0) (f : SessionFault) (P : Type 0) → (f ≡ fault.Line → ⊥) → IfOnDisk {T = T} (Err f) P
-not_on_disk T fault.Line P other = absurd (other refl)
-not_on_disk T fault.Jobs P other = tt
-not_on_disk T fault.Number P other = tt
-not_on_disk T fault.Memory P other = tt
+on_ok : {T : Type 0} (r : Result T SessionFault) (P : Type 0) → P → OnOk r P
+on_ok (Ok value) P p = p
+on_ok (Err fault) P p = tt
 
 pub calm_unsettled : {T : Type 0} (r : Result T SessionFault) (P : Type 0) → UnlessJobs r P → UnlessUnsettled r P
 calm_unsettled (Ok value) P p = p
-calm_unsettled (Err fault.Line) P p = p
 calm_unsettled (Err fault.Jobs) P p = tt
 calm_unsettled (Err fault.Number) P p = p
 calm_unsettled (Err fault.Memory) P p = tt
@@ -147,7 +122,7 @@ pub number_so : {T : Type 0} (r : Result T SessionFault) (a b : EndNow) (x y : D
     → y.number ≡ holding_number kept x.number → y.number_faults ≡ x.number_faults → WritesNumber r a b x y
 number_so r a b x y kept other stands follows file calm = record {
   stands = unless_refused r _ stands;
-  is_now = if_on_disk r _ (is_now (number_of_end a.node) kept (number_of_end b.node) x.number y.number follows file);
+  is_now = on_ok r _ (is_now (number_of_end a.node) kept (number_of_end b.node) x.number y.number follows file);
   whole = record { number = kept; is = file };
   calm = unless_refused r _ (unless_number r _ calm);
   fault = λ is. absurd (other is);
@@ -159,21 +134,21 @@ pub number_behind : {T : Type 0} (r : Result T SessionFault) (a b c : EndNow) (x
     → WritesNumber r a c x y
 number_behind r a b c x y keeps same w = record {
   stands = heard_then r _ _ w.stands (λ k. later k keeps);
-  is_now = subst (λ (now : Option ℕ). IfOnDisk r (IsNumberNow (number_of_end a.node) now x.number y.number)) (sym same) w.is_now;
+  is_now = subst (λ (now : Option ℕ). OnOk r (IsNumberNow (number_of_end a.node) now x.number y.number)) (sym same) w.is_now;
   whole = w.whole;
   calm = w.calm;
   fault = w.fault;
 }
 
 -- what has become of the end could not be put on its disk
-pub number_left : {T : Type 0} (f : SessionFault) (a b c : EndNow) (x y z : DiskNow) → (f ≡ fault.Line → ⊥)
+pub number_left : {T : Type 0} (f : SessionFault) (a b c : EndNow) (x y z : DiskNow)
     → KeepsNumber a.node.engine b.node.engine → UnlessRefused {T = T} (Err f) (KeepsNumber b.node.engine c.node.engine)
     → IsSomeNumber x.number y.number → IsSomeNumber y.number z.number → y.number_faults ≡ x.number_faults
     → UnlessRefused {T = T} (Err f) (UnlessNumber {T = T} (Err f) (z.number_faults ≡ y.number_faults))
     → (f ≡ fault.Number → HasFailed faults_max y.number_faults z.number_faults) → WritesNumber {T = T} (Err f) a c x z
-number_left {T = T} f a b c x y z other first second whole whole_then calm calm_then failed = record {
+number_left {T = T} f a b c x y z first second whole whole_then calm calm_then failed = record {
   stands = heard_then {T = T} (Err f) _ _ second (λ k. later first k);
-  is_now = not_on_disk T f _ other;
+  is_now = tt;
   whole = some_then x.number y.number z.number whole whole_then;
   calm = heard_then {T = T} (Err f) _ _ calm_then (λ u. unless_number_then {T = T} (Err f) _ _ u (λ e. e ∙ calm));
   fault = λ is. subst (λ (n : ℕ). HasFailed faults_max n z.number_faults) calm (failed (cc is));
@@ -181,71 +156,46 @@ number_left {T = T} f a b c x y z other first second whole whole_then calm calm_
 
 -- ---- the line
 
--- whatever it ended with, but a fault of the line
+-- whatever it ended with
 pub line_so : {T : Type 0} (r : Result T SessionFault) (most : ℕ) (a b : EndNow) (first : Unsent) (x y : LineNow)
-    → (r ≡ Err fault.Line → ⊥) → HearsLine a.holdings a.kept b.kept x.received y.received a.node b.node
-    → (a.node.engine.outbox.entries ≡ []
-    → TalksAtLine a.holdings a.kept b.kept x.received y.received first.injector first.bytes x.taken y.taken a.node b.node)
-    → ReadsWithin most SILENCES_MAX x.received y.received → WritesWithin STALLS_MAX x.writes y.writes → y.faults ≡ x.faults
-    → UsesLine most r a b first x y
-line_so r most a b first x y other heard talked reads writes calm = record {
-  heard = unless_refused r _ heard;
-  talked = λ cleared. unless_refused r _ (talked cleared);
-  reads = reads;
-  writes = writes;
-  calm = unless_line r _ calm;
-  fault = λ is. absurd (other is);
-  grows = omega (arith, calm);
-}
-
-pub line_failed : {T : Type 0} (most : ℕ) (a b : EndNow) (first : Unsent) (x y : LineNow)
     → HearsLine a.holdings a.kept b.kept x.received y.received a.node b.node
     → (a.node.engine.outbox.entries ≡ []
     → TalksAtLine a.holdings a.kept b.kept x.received y.received first.injector first.bytes x.taken y.taken a.node b.node)
     → ReadsWithin most SILENCES_MAX x.received y.received → WritesWithin STALLS_MAX x.writes y.writes
-    → HasFailed faults_max x.faults y.faults → x.faults ≤ y.faults → UsesLine {T = T} most (Err fault.Line) a b first x y
-line_failed most a b first x y heard talked reads writes failed grows = record {
-  heard = heard;
-  talked = talked;
+    → UsesLine most r a b first x y
+line_so r most a b first x y heard talked reads writes = record {
+  heard = unless_refused r _ heard;
+  talked = λ cleared. unless_refused r _ (talked cleared);
   reads = reads;
   writes = writes;
-  calm = tt;
-  fault = λ is. failed;
-  grows = grows;
 }
 
--- the line is calm, but what came may not have been taken up
+-- what came may not have been taken up
 pub line_left : {T : Type 0} (r : Result T SessionFault) (most : ℕ) (a b : EndNow) (first : Unsent) (x y : LineNow)
-    → (r ≡ Err fault.Line → ⊥) → UnlessRefused r (HearsLine a.holdings a.kept b.kept x.received y.received a.node b.node)
+    → UnlessRefused r (HearsLine a.holdings a.kept b.kept x.received y.received a.node b.node)
     → (a.node.engine.outbox.entries ≡ [] → UnlessRefused r
     (TalksAtLine a.holdings a.kept b.kept x.received y.received first.injector first.bytes x.taken y.taken a.node b.node))
-    → ReadsWithin most SILENCES_MAX x.received y.received → WritesWithin STALLS_MAX x.writes y.writes → y.faults ≡ x.faults
+    → ReadsWithin most SILENCES_MAX x.received y.received → WritesWithin STALLS_MAX x.writes y.writes
     → UsesLine most r a b first x y
-line_left r most a b first x y other heard talked reads writes calm = record {
+line_left r most a b first x y heard talked reads writes = record {
   heard = heard;
   talked = talked;
   reads = reads;
   writes = writes;
-  calm = unless_line r _ calm;
-  fault = λ is. absurd (other is);
-  grows = omega (arith, calm);
 }
 
 -- the end hangs up, and its line is told how far the session has come
 pub line_hung_up : {T : Type 0} (r : Result T SessionFault) (most : ℕ) (a b c : EndNow) (first : Unsent) (x y z : LineNow)
     → c.node.engine ≡ with_stage (hung_up (dialogue_has_parted b.node.engine.dialogue) b.node.engine.stage) b.node.engine
-    → c.kept ≡ b.kept → z.received ≡ y.received → z.taken ≡ y.taken → z.writes ≡ y.writes → z.faults ≡ y.faults
+    → c.kept ≡ b.kept → z.received ≡ y.received → z.taken ≡ y.taken → z.writes ≡ y.writes
     → UsesLine most r a b first x y → UsesLine most r a c first x z
-line_hung_up r most a b c first x y z lost kept received taken writes faults u = record {
+line_hung_up r most a b c first x y z lost kept received taken writes u = record {
   heard = heard_then r _ _ u.heard (λ h. line_lost a.holdings a.kept b.kept c.kept x.received y.received z.received a.node b.node c.node
       h lost kept received);
   talked = λ cleared. heard_then r _ _ (u.talked cleared) (λ t. talks_lost a.holdings a.kept b.kept c.kept x.received y.received z.received
       first.injector first.bytes x.taken y.taken z.taken a.node b.node c.node t lost kept received taken);
   reads = subst (ReadsWithin most SILENCES_MAX x.received) (sym received) u.reads;
   writes = within_same STALLS_MAX x.writes y.writes z.writes u.writes writes;
-  calm = subst (λ (n : ℕ). UnlessLine r (n ≡ x.faults)) (sym faults) u.calm;
-  fault = λ is. subst (HasFailed faults_max x.faults) (sym faults) (u.fault is);
-  grows = subst (λ (n : ℕ). x.faults ≤ n) (sym faults) u.grows;
 }
 
 -- ---- the session

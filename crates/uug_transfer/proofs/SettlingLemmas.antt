@@ -176,7 +176,6 @@ none_is_settled settled l stands struck failed =
 -- by what the session ends with
 pub unless_settled : {T : Type 0} (r : Result T SessionFault) (P Q : Type 0) → UnlessUnsettled r P → (P → Q) → UnlessUnsettled r Q
 unless_settled (Ok value) P Q p f = f p
-unless_settled (Err fault.Line) P Q p f = f p
 unless_settled (Err fault.Jobs) P Q p f = tt
 unless_settled (Err fault.Number) P Q p f = f p
 unless_settled (Err fault.Memory) P Q p f = tt

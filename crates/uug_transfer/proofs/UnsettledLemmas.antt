@@ -6,7 +6,6 @@ use Rattle.uug_transfer.specs.declared.session_fault.SessionFault.TheVariants as
 
 pub however_settled : {T : Type 0} (r : Result T SessionFault) (P : Type 0) → P → UnlessUnsettled r P
 however_settled (Ok value) P p = p
-however_settled (Err fault.Line) P p = p
 however_settled (Err fault.Jobs) P p = tt
 however_settled (Err fault.Number) P p = p
 however_settled (Err fault.Memory) P p = tt

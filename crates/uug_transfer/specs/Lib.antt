@@ -1,4 +1,5 @@
 pub mod BufferedNodes
+pub mod Callers
 pub mod EndOver
 pub mod Ends
 pub mod FaultInjection

@@ -1,5 +1,5 @@
 -- Says what the session of an end at its line comes to, by what it ended with (this project's profile).
-use Rattle.std.specs.Prelude.{◌≡◌, ◌≤◌, ℕ, zero, suc, [], Result, Ok, Err}
+use Rattle.std.specs.Prelude.{◌≡◌, ℕ, [], OnOk, Result, Ok, Err}
 use Rattle.uug_session.specs.Engine.{HasFailed, IsEnded, faults_max}
 use Rattle.uug_session.specs.NumberStanding.{KeepsNumber}
 use Rattle.uug_stream.specs.declared.fault.ToolFault.{ToolFault}
@@ -9,7 +9,7 @@ use Rattle.uug_transfer.specs.Ends.{number_of_end, phase_of_end, status_of_phase
 use Rattle.uug_transfer.specs.Listening.{HearsLine}
 use Rattle.uug_transfer.specs.Moments.{DiskNow, EndNow, IsLed, LineNow, Unsent}
 use Rattle.uug_transfer.specs.Received.{ReadsWithin}
-use Rattle.uug_transfer.specs.SessionFaults.{IfOnDisk, UnlessLine, UnlessNumber, UnlessRefused, UnlessUnsettled}
+use Rattle.uug_transfer.specs.SessionFaults.{UnlessNumber, UnlessRefused, UnlessUnsettled}
 use Rattle.uug_transfer.specs.Settling.{IsNumberNow, IsSomeNumber, LosesNoJob, StaysInStore, TellsFailed}
 use Rattle.uug_transfer.specs.WriteSilences.{WritesWithin}
 use Rattle.uug_transfer.specs.Writing.{TalksAtLine}
@@ -26,9 +26,6 @@ pub record UsesLine {T : Type 0} (most : ℕ) (result : Result T SessionFault) (
       line.received line_after.received first.injector first.bytes line.taken line_after.taken old.node new.node)
   pub reads : ReadsWithin most SILENCES_MAX line.received line_after.received
   pub writes : WritesWithin STALLS_MAX line.writes line_after.writes
-  pub calm : UnlessLine result (line_after.faults ≡ line.faults)
-  pub fault : result ≡ Err faults.Line → HasFailed faults_max line.faults line_after.faults
-  pub grows : line.faults ≤ line_after.faults
 
 -- The jobs: those that are over are taken out of their store, and nothing else is. No pending job is lost from it, whatever
 -- happens. Of each that has failed it is told why.
@@ -43,7 +40,7 @@ pub record SettlesJobs {T : Type 0} (result : Result T SessionFault) (old new : 
 -- file is as it was or has the line of a number as a whole.
 pub record WritesNumber {T : Type 0} (result : Result T SessionFault) (old new : EndNow) (disk disk_after : DiskNow) : Type 0 where
   pub stands : UnlessRefused result (KeepsNumber old.node.engine new.node.engine)
-  pub is_now : IfOnDisk result (IsNumberNow (number_of_end old.node) (number_of_end new.node) disk.number disk_after.number)
+  pub is_now : OnOk result (IsNumberNow (number_of_end old.node) (number_of_end new.node) disk.number disk_after.number)
   pub whole : IsSomeNumber disk.number disk_after.number
   pub calm : UnlessRefused result (UnlessNumber result (disk_after.number_faults ≡ disk.number_faults))
   pub fault : result ≡ Err faults.Number → HasFailed faults_max disk.number_faults disk_after.number_faults
@@ -58,15 +55,12 @@ pub record IsSession {T : Type 0} (most : ℕ) (result : Result T SessionFault) 
 
 -- ---- with its report
 
--- Answers a session that ended so: with the status, or with what became of the report where that failed. Where the line
--- has failed before the session was done, or something could not be put on the disk, that is the answer; want of memory always is.
+-- Answers a session that ended so: with the status, or with what became of the report where that failed. Where something
+-- could not be put on the disk, that is the answer; want of memory always is.
 abbrev pub answer_to : {T U : Type 0} → (ended : Result T SessionFault) → (status : ℕ) → (printed : Result U ToolFault)
     → Result ℕ ToolFault
 answer_to (Ok done) status (Ok told) = Ok status
 answer_to (Ok done) status (Err fault) = Err fault
-answer_to (Err faults.Line) zero (Ok told) = Ok 0
-answer_to (Err faults.Line) zero (Err fault) = Err fault
-answer_to (Err faults.Line) (suc status) printed = Err (fault_behind_line printed)
 answer_to (Err faults.Jobs) status printed = Err (fault_behind_line printed)
 answer_to (Err faults.Number) status printed = Err (fault_behind_line printed)
 answer_to (Err faults.Memory) status printed = Err tool_faults.Memory

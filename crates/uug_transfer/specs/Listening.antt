@@ -1,24 +1,19 @@
 -- That what a line has brought led its end, and nothing else did (this project's profile).
-use Rattle.std.specs.Prelude.{◌≡◌, List, [], ◌∷◌, ◌++◌, Option, Some, None, ⊤}
+use Rattle.std.specs.Prelude.{◌≡◌, List, [], ◌∷◌, ◌++◌, Option, ⊤}
 use Rattle.uug_conversation.specs.Holdings.{Holdings, Kept}
 use Rattle.uug_session.specs.Arriving.{Buffered}
 use Rattle.uug_session.specs.EndStep.{Emitted, Identity}
 use Rattle.uug_session.specs.Node.{NodeState}
 use Rattle.uug_session.specs.LineEvents.{HasListened, LineEvent, ListeningEnd, after_line_event, brings_bytes, brings_nothing, is_at_end, is_left, listening_at}
-use Rattle.uug_transfer.specs.Received.{Received, line_end, piece, silence}
+use Rattle.uug_transfer.specs.Received.{Received, also_received, piece, silence}
 
--- what reads bring, of what comes at a line: an end that hangs up reads nothing
+-- what reads bring, of what comes at a line: its end brings nothing, and an end that hangs up reads nothing
 abbrev pub reads_in : List LineEvent → List Received
 reads_in [] = []
 reads_in (brings_bytes bytes failures ∷ es) = piece bytes ∷ reads_in es
 reads_in (brings_nothing ∷ es) = silence ∷ reads_in es
-reads_in (is_at_end ∷ es) = line_end ∷ reads_in es
+reads_in (is_at_end ∷ es) = reads_in es
 reads_in (is_left ∷ es) = reads_in es
-
--- where a line tells what it has brought, these came last
-abbrev pub all_received : List Received → Option (List Received) → Option (List Received)
-all_received more None = None
-all_received more (Some rs) = Some (rs ++ more)
 
 -- all of it, one behind the other
 abbrev pub all_said : List (List Emitted) → List Emitted
@@ -39,7 +34,7 @@ pub record HearsSaying (h : Holdings) (kept kept_after : List Kept) (received re
   pub events : List LineEvent
   pub listened : HasListened h kept kept_after events (all_said says) before after
   pub each : SaysEach h before.engine.identity events says (listening_at h kept before)
-  pub told : received_after ≡ all_received (reads_in events) received
+  pub told : received_after ≡ also_received (reads_in events) received
 
 -- whatever it has emitted
 pub record HearsLine (h : Holdings) (kept kept_after : List Kept) (received received_after : Option (List Received))

@@ -52,17 +52,14 @@ unsent buffered = record { bytes = to_write buffered; injector = injector_in buf
 
 -- ---- its line
 
--- what its reads brought, which bytes it took, how many each of its writes took, and how often it has failed
+-- what its reads brought, which bytes it took, and how many each of its writes took
 pub record LineNow : Type 0 where
   pub received : Option (List Received)
   pub taken : Option (List ℕ)
   pub writes : Option (List ℕ)
-  pub faults : ℕ
 
-abbrev pub line_now : {L : Type 0} → (received : L → Option (List Received)) (taken writes : L → Option (List ℕ)) (faults : L → ℕ)
-    → L → LineNow
-line_now received taken writes faults line =
-    record { received = received line; taken = taken line; writes = writes line; faults = faults line }
+abbrev pub line_now : {L : Type 0} → (received : L → Option (List Received)) (taken writes : L → Option (List ℕ)) → L → LineNow
+line_now received taken writes line = record { received = received line; taken = taken line; writes = writes line }
 
 -- ---- its disk
 

@@ -9,12 +9,6 @@ UnlessRefused (Err faults.Memory) P = ⊤
 UnlessRefused (Err fault) P = P
 UnlessRefused (Ok done) P = P
 
--- the fact, unless the line has failed
-abbrev pub UnlessLine : {T : Type 0} → Result T SessionFault → Type 0 → Type 0
-UnlessLine (Err faults.Line) P = ⊤
-UnlessLine (Err fault) P = P
-UnlessLine (Ok done) P = P
-
 -- the fact, unless its store of jobs has failed
 abbrev pub UnlessJobs : {T : Type 0} → Result T SessionFault → Type 0 → Type 0
 UnlessJobs (Err faults.Jobs) P = ⊤
@@ -33,9 +27,3 @@ UnlessUnsettled (Err faults.Jobs) P = ⊤
 UnlessUnsettled (Err faults.Memory) P = ⊤
 UnlessUnsettled (Err fault) P = P
 UnlessUnsettled (Ok done) P = P
-
--- the fact, where all that had become of the end by then was on its disk
-abbrev pub IfOnDisk : {T : Type 0} → Result T SessionFault → Type 0 → Type 0
-IfOnDisk (Err faults.Line) P = P
-IfOnDisk (Err fault) P = ⊤
-IfOnDisk (Ok done) P = P

@@ -1,6 +1,5 @@
 //! One end at its line, from its first turn to the report.
-ghost use Rattle.std.specs.Prelude.{◌≡◌, ◌≤◌, ◌⊎◌, [], IfErr, IfOk, OnErr, OnOk, string_bytes};
-ghost use Rattle.uug_session.specs.Engine.{HasFailed};
+ghost use Rattle.std.specs.Prelude.{◌≡◌, IfErr, IfOk, OnErr, OnOk};
 ghost use Rattle.uug_session.specs.Node.{node_of};
 ghost use Rattle.uug_stream.specs.Fault.{StopsWriting};
 ghost use Rattle.uug_stream.specs.Streams.{Appends, AppendsFront, CountsFault};
@@ -24,9 +23,9 @@ use uug_stream::{Output, ToolFault, write_all};
 /// Runs an end at its line until its session is over. It reads at most `most` bytes, and its patience is `limits`.
 /// Results go to its disk during the session: a finished job is removed from the file of jobs, and a failed one gets a
 /// notice. An end that keeps a number writes it to its own file. All this precedes anything that the end writes about
-/// it. When the session is over the report is written to the output, even if the line or a file has failed. Returns the
-/// program's status: 0 if the session is done, even if the line failed after that, and 1 if not. Returns the first of
-/// several faults. No fault prevents the report from being printed, except running out of memory.
+/// it. When the session is over the report is written to the output, even if a file has failed. Returns the program's
+/// status: 0 if the session is done, and 1 if not. Returns the first of several faults. No fault prevents the report
+/// from being printed, except running out of memory.
 pub fn call_over<S, L, J, N, O, A>(
     alloc: A,
     side: Side,
@@ -46,8 +45,8 @@ where
     ensures session { IsCall most result
         (end_now S.holdings S.kept end.old.buffered) (end_now S.holdings S.kept end.new.buffered)
         (unsent end.old.buffered)
-        (line_now L.received L.taken L.writes L.fault_count line.old)
-        (line_now L.received L.taken L.writes L.fault_count line.new)
+        (line_now L.received L.taken L.writes line.old)
+        (line_now L.received L.taken L.writes line.new)
         (disk_of J.text J.told J.fault_count N.text N.fault_count end.old)
         (disk_of J.text J.told J.fault_count N.text N.fault_count end.new) }
     ensures report { IsPrinted result (report_of side (node_in end.new.buffered))
@@ -58,8 +57,7 @@ where
     ensures status { IfOk result (λ status.
         status ≡ status_of_phase (phase_of_end (node_in end.new.buffered))) }
     ensures device { result ≡ Err ToolFault.Device
-        → HasFailed u64.MAX (L.fault_count line.old) (L.fault_count line.new)
-        ⊎ HasFault (files_of J.text J.fault_count N.text N.fault_count end.old)
+        → HasFault (files_of J.text J.fault_count N.text N.fault_count end.old)
         (files_of J.text J.fault_count N.text N.fault_count end.new) }
     ensures write { result ≡ Err ToolFault.Write
         → CountsFault (O.fault_count output.old) (O.fault_count output.new) }
@@ -79,16 +77,6 @@ where
             Ok(()) => Ok(status(end.buffered.node().phase())),
             Err(fault) => Err(fault),
         },
-        Err(SessionFault::Line) => {
-            let printed = print_report(alloc, side, end.buffered.node(), output);
-            if status(end.buffered.node().phase()) > 0 {
-                return Err(fault_behind_line(printed));
-            }
-            match printed {
-                Ok(()) => Ok(0),
-                Err(fault) => Err(fault),
-            }
-        }
         Err(SessionFault::Jobs | SessionFault::Number) => {
             let printed = print_report(alloc, side, end.buffered.node(), output);
             Err(fault_behind_line(printed))

@@ -1,5 +1,5 @@
 //! The session of one end at its line.
-ghost use Rattle.std.specs.Prelude.{◌≡◌, ◌≢◌, ◌<◌, ◌≤◌, ◌↔◌, [], length, IfOk, IsTrue, OnErr, OnOk};
+ghost use Rattle.std.specs.Prelude.{◌≡◌, ◌<◌, ◌↔◌, [], length, IsTrue, OnOk};
 ghost use Rattle.uug_session.specs.Engine.{HasFailed, IsEnded};
 ghost use Rattle.uug_session.specs.NumberStanding.{KeepsNumber};
 ghost use Rattle.uug_folder.specs.NumberText.{holding_number};
@@ -18,7 +18,6 @@ ghost use Rattle.uug_transfer.specs.declared.read_budget.TheConstants.{STALLS_MA
 
 use crate::buffered_node::BufferedNode;
 use crate::end_line::EndLine;
-use crate::line::LineFailed;
 use crate::patience::{Patience, PatienceLimits, Standing};
 use crate::read_budget::{READ_MAX, ReadBudget, STALLS_MAX, stalls_left};
 use crate::read_outcome::ReadOutcome;
@@ -29,8 +28,8 @@ use uug_folder::{JobStore, TextFile};
 use uug_session::Spool;
 
 /// Lets an end write and read at its line until its session is over. It writes all that it has, then reads once: it
-/// gets the bytes, or a timeout for a silence. The end is hung up at the line's end, if the line fails, or if memory
-/// runs out. The same happens after `most` bytes were read, `SILENCES_MAX` reads in a row were silent, or `STALLS_MAX`
+/// gets the bytes, or a timeout for a silence. The end is hung up at the line's end, or if memory runs
+/// out. The same happens after `most` bytes were read, `SILENCES_MAX` reads in a row were silent, or `STALLS_MAX`
 /// writes in a row took nothing. It also happens if bytes come without progress for longer than `limits`. The line is
 /// notified each time how far the session is. Results are on the end's disk before it writes about them. A finished job
 /// is removed from `jobs`, which gets a notice of each failed one, and `number` holds the number that the end keeps. If
@@ -53,8 +52,8 @@ where
     ensures session { IsSession most result
         (end_now S.holdings S.kept buffered.old) (end_now S.holdings S.kept buffered.new)
         (unsent buffered.old)
-        (line_now L.received L.taken L.writes L.fault_count line.old)
-        (line_now L.received L.taken L.writes L.fault_count line.new)
+        (line_now L.received L.taken L.writes line.old)
+        (line_now L.received L.taken L.writes line.new)
         (disk_now J.open_jobs J.told J.fault_count N.text N.fault_count jobs.old number.old)
         (disk_now J.open_jobs J.told J.fault_count N.text N.fault_count jobs.new number.new) }
     ensures over { IsEnded (node_in buffered.new).engine.stage }
@@ -85,8 +84,8 @@ where
     ensures { IsSession most result
         (end_now S.holdings S.kept buffered.old) (end_now S.holdings S.kept buffered.new)
         (unsent buffered.old)
-        (line_now L.received L.taken L.writes L.fault_count line.old)
-        (line_now L.received L.taken L.writes L.fault_count line.new)
+        (line_now L.received L.taken L.writes line.old)
+        (line_now L.received L.taken L.writes line.new)
         (disk_now J.open_jobs J.told J.fault_count N.text N.fault_count jobs.old number.old)
         (disk_now J.open_jobs J.told J.fault_count N.text N.fault_count jobs.new number.new) }
 {
@@ -96,7 +95,7 @@ where
     let mut patience = Patience::new(limits, Standing::of(node), line.seconds());
     let mut settled = Settled::begin(node.queue(), node.number(), number)?;
     while stays(&budget, &patience) {
-        let all_written = write_all(buffered, line, &settled, number)?;
+        let all_written = write_all(buffered, line, &settled, number);
         if !all_written {
             return Ok(());
         }
@@ -104,7 +103,7 @@ where
             return Ok(());
         }
         let room = budget.room(buffer.len());
-        let outcome = line.read(&mut buffer[..room])?;
+        let outcome = line.read(&mut buffer[..room]);
         take_and_settle(
             alloc,
             buffered,
@@ -145,31 +144,27 @@ fn write_all<S: Spool + Drop, N: TextFile, L: EndLine, A: Allocator + Copy>(
     line: &mut L,
     _settled: &Settled,
     _number: &N,
-) -> Result<bool, LineFailed>
+) -> bool
     requires on_disk { IsOnDisk _settled.now (node_in buffered.old) (N.text _number.now) }
     ensures node { node_in buffered.new ≡ node_in buffered.old }
     ensures spool { spool_in buffered.new ≡ spool_in buffered.old }
     ensures injector { injector_in buffered.new ≡ injector_in buffered.old }
-    ensures all { IfOk result (λ all. IsTrue all → to_write buffered.new ≡ []) }
+    ensures all { IsTrue result → to_write buffered.new ≡ [] }
     ensures received { L.received line.new ≡ L.received line.old }
-    ensures taken { IfOk result (λ all. IsTrue all → L.taken line.new
-        ≡ also_taken (to_write buffered.old) (L.taken line.old)) }
+    ensures taken { IsTrue result → L.taken line.new
+        ≡ also_taken (to_write buffered.old) (L.taken line.old) }
     ensures taken_some { TakesFront (to_write buffered.old) (L.taken line.old) (L.taken line.new) }
     ensures within { WritesWithin STALLS_MAX (L.writes line.old) (L.writes line.new) }
-    ensures no_wait { IfOk result (λ all. IsTrue all
-        → WritesUpTo STALLS_MAX 0 (L.writes line.old) (L.writes line.new)) }
-    ensures calm { OnOk result (L.fault_count line.new ≡ L.fault_count line.old) }
-    ensures fault { OnErr result
-        (HasFailed u64.MAX (L.fault_count line.old) (L.fault_count line.new)) }
-    ensures grows { L.fault_count line.old ≤ L.fault_count line.new }
+    ensures no_wait { IsTrue result
+        → WritesUpTo STALLS_MAX 0 (L.writes line.old) (L.writes line.new) }
 {
     let mut silences = STALLS_MAX;
     while may_write(silences, buffered.outgoing()) {
-        let count = line.write(buffered.outgoing())?;
+        let count = line.write(buffered.outgoing());
         buffered.written(count);
         silences = stalls_left(silences, count);
     }
-    Ok(buffered.outgoing().is_empty())
+    buffered.outgoing().is_empty()
 }
 
 /// Passes a read's outcome to an end whose session goes on, then puts the results on its disk. Nothing that it emitted
@@ -217,7 +212,6 @@ where
         (N.fault_count number.new ≡ N.fault_count number.old)) }
     ensures number_fault { result ≡ Err SessionFault.Number
         → HasFailed u64.MAX (N.fault_count number.old) (N.fault_count number.new) }
-    ensures no_line { result ≢ Err SessionFault.Line }
 {
     let taken = take_outcome(buffered, outcome, buffer);
     let on_disk = settled.put_on_disk(alloc, buffered.node(), buffered.spool(), jobs, number);

@@ -89,7 +89,6 @@ impl Settled {
             (N.fault_count number.new ≡ N.fault_count number.old) }
         ensures number_fault { result ≡ Err SessionFault.Number
             → HasFailed u64.MAX (N.fault_count number.old) (N.fault_count number.new) }
-        ensures no_line { result ≢ Err SessionFault.Line }
     {
         self.settle_jobs(alloc, node.queue(), spool, jobs)?;
         self.keep_number(node.number(), number)
@@ -118,7 +117,6 @@ impl Settled {
         ensures calm { UnlessJobs result (J.fault_count jobs.new ≡ J.fault_count jobs.old) }
         ensures fault { result ≡ Err SessionFault.Jobs
             → HasFailed u64.MAX (J.fault_count jobs.old) (J.fault_count jobs.new) }
-        ensures no_line { result ≢ Err SessionFault.Line }
         ensures no_number { result ≢ Err SessionFault.Number }
     {
         let struck_len = queue.struck().len();

@@ -13,7 +13,7 @@ use std::convert::AsStr;
 use uug_conversation::Side;
 use uug_disk::QueueTask;
 use uug_pending::{CancelTask, StatusTask};
-use uug_task::{CallTask, FolderRules};
+use uug_task::{ANY, CallTask, FolderRules};
 
 /// The default packet size of an end. A smaller one lets more of what a line changes pass the checksum.
 const SIZE: u32 = 1_024;
@@ -22,9 +22,6 @@ const SIZE: u32 = 1_024;
 const SIZE_SLOW: u32 = 256;
 
 const SLOW: u32 = 1_200;
-
-/// The word in place of the other end's name that lets any system of the spool call.
-const ANY: &str = "*";
 
 /// A task that the command line asks for.
 #[derive(Clone, Copy, Debug, PartialEq, Eq)]

@@ -8,14 +8,14 @@ use crate::calls::assertions::{assert_same, assert_so};
 use std::alloc::Global;
 use std::process::Abort;
 use uug_session::Side;
-use uug_stream::{MemoryOutput, ToolFault};
-use uug_transfer::{EndLine, call_over};
+use uug_stream::MemoryOutput;
+use uug_transfer::call_over;
 
 /// The stages that a call of two ends that keep 7 reaches, one after the other.
 const STAGES: [Left<'static>; 5] = [
     // nothing was said of numbers
     Left {
-        answer: Err(ToolFault::Device),
+        answer: Ok(1),
         jobs: JOB,
         number: b"7\n",
         report: HUNG_UP,
@@ -23,7 +23,7 @@ const STAGES: [Left<'static>; 5] = [
     },
     // the called end has let the caller in, and the caller does not know it
     Left {
-        answer: Err(ToolFault::Device),
+        answer: Ok(1),
         jobs: JOB,
         number: b"7\n",
         report: HUNG_UP,
@@ -31,7 +31,7 @@ const STAGES: [Left<'static>; 5] = [
     },
     // the caller knows it
     Left {
-        answer: Err(ToolFault::Device),
+        answer: Ok(1),
         jobs: JOB,
         number: b"8\n",
         report: HUNG_UP,
@@ -39,7 +39,7 @@ const STAGES: [Left<'static>; 5] = [
     },
     // its file is at the other end
     Left {
-        answer: Err(ToolFault::Device),
+        answer: Ok(1),
         jobs: b"",
         number: b"8\n",
         report: b"caller hungup pending 0 struck 1 failed 0\n",
@@ -83,10 +83,7 @@ fn call_at(
         other: line.other().node().number(),
     };
     let stage = stage_of(&left).expect(rt, "a stage");
-    if line.faults() == 0 {
-        return None;
-    }
-    Some(stage)
+    if line.has_failed() { Some(stage) } else { None }
 }
 
 /// Does the same at a line on which the call of this number fails, counted from 0.

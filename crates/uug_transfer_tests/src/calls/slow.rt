@@ -8,10 +8,12 @@ use super::scenes::{
 };
 use super::slow_line::{Pace, SlowLine};
 use super::{Left, Manner, MemoryEndAtLine, assert_kept, caller, line, what_is_left};
-use crate::calls::assertions::{assert_same, assert_same_at};
+use crate::calls::assertions::{assert_same, assert_same_at, assert_so};
 use std::alloc::Global;
 use std::process::Abort;
-use uug_transfer::{EndLine, GreetedLine, PatienceLimits, run_session};
+use uug_transfer::{
+    EndLine, PatienceLimits, ReadOutcome, SessionLine, SessionObserver, SessionStatus, run_session,
+};
 
 const QUICK: Pace = Pace {
     stalls: 0,
@@ -107,7 +109,7 @@ fn talk(
     let mut number = MemoryText::new(b"", false);
     let answer = run_session(alloc, buffered, &mut jobs, &mut number, line, AMPLE, limits);
     drop(jobs);
-    assert_same(rt, line.faults(), 0);
+    assert_so(rt, !line.has_failed());
     assert_kept(rt, line.other(), LONG);
     what_is_left(answer, buffered, line.other())
 }
@@ -159,6 +161,18 @@ fn progress_begins_the_limit_anew(rt: HostRuntime) {
     assert_same(&rt, second > 120, true);
 }
 
+/// An observer that does nothing.
+#[derive(Clone, Copy)]
+struct Nobody;
+
+impl SessionObserver for Nobody {
+    fn wrote(&mut self, _piece: &[u8]) {}
+
+    fn read(&mut self, _outcome: ReadOutcome, _piece: &[u8]) {}
+
+    fn note(&mut self, _status: SessionStatus) {}
+}
+
 /// Checks how long a called end waits after its words are written, if nothing that comes is a text.
 #[test]
 fn a_greeting_has_its_seconds(rt: HostRuntime) {
@@ -167,7 +181,7 @@ fn a_greeting_has_its_seconds(rt: HostRuntime) {
         ..QUICK
     };
     let line = SlowLine::new(line(&rt, rt.alloc(), None, CLEAN), pace);
-    let mut greeted = GreetedLine::new(rt.alloc(), line);
+    let mut greeted = SessionLine::new(rt.alloc(), line, Nobody);
     assert_same(&rt, greeted.meet(b"\x10Shere=b\0", 60).is_ok(), true);
     assert_same(&rt, greeted.seconds(), 63);
     drop(greeted);

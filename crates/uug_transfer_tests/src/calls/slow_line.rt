@@ -1,9 +1,9 @@
 //! A line that takes its time.
-ghost use Rattle.std.specs.Prelude.{◌≡◌, None};
+ghost use Rattle.std.specs.Prelude.{None};
 
 use super::MemoryEndAtLine;
 use super::scripted_line::ScriptedLine;
-use uug_transfer::{EndLine, LineFailed, ReadOutcome};
+use uug_transfer::{EndLine, ReadOutcome};
 
 /// The pace of a line.
 #[derive(Clone, Copy)]
@@ -44,16 +44,16 @@ impl SlowLine {
         self.line.other()
     }
 
-    fn pass(&mut self, seconds: u64)
-        ensures { self.new.line ≡ self.old.line }
-    {
+    pub(super) fn has_failed(&self) -> bool {
+        self.line.has_failed()
+    }
+
+    fn pass(&mut self, seconds: u64) {
         self.second = self.second.saturating_add(seconds);
     }
 
     /// Notes what a read has brought, and the time that it took.
-    fn note_read(&mut self, outcome: ReadOutcome)
-        ensures { self.new.line ≡ self.old.line }
-    {
+    fn note_read(&mut self, outcome: ReadOutcome) {
         match outcome {
             ReadOutcome::Bytes(count) => {
                 self.came = self.came.saturating_add(count);
@@ -66,40 +66,34 @@ impl SlowLine {
 }
 
 impl EndLine for SlowLine {
-    ghost fault_count = { λ slow. ⟦<ScriptedLine as EndLine>⟧.fault_count slow.line };
-
     ghost received = { λ _. None };
 
     ghost taken = { λ _. None };
 
     ghost writes = { λ _. None };
 
-    fn write(&mut self, piece: &[u8]) -> Result<usize, LineFailed> {
+    fn write(&mut self, piece: &[u8]) -> usize {
         if self.stalled < self.pace.stalls {
             self.stalled += 1;
             self.pass(self.pace.stall);
-            return Ok(0);
+            return 0;
         }
         self.stalled = 0;
         self.line.write(piece)
     }
 
-    fn read(&mut self, buffer: &mut [u8]) -> Result<ReadOutcome, LineFailed> {
+    fn read(&mut self, buffer: &mut [u8]) -> ReadOutcome {
         if self.came >= self.pace.drips_behind {
             buffer[0] = b'x';
             self.pass(9);
-            return Ok(ReadOutcome::Bytes(1));
+            return ReadOutcome::Bytes(1);
         }
-        let outcome = self.line.read(buffer)?;
+        let outcome = self.line.read(buffer);
         self.note_read(outcome);
-        Ok(outcome)
+        outcome
     }
 
     fn seconds(&self) -> u64 {
         self.second
-    }
-
-    fn faults(&self) -> u64 {
-        self.line.faults()
     }
 }

@@ -11,7 +11,7 @@ use std::alloc::Global;
 use std::process::Abort;
 use uug_folder::{JobsFile, read_jobs};
 use uug_session::{Node, Queue};
-use uug_transfer::{EndLine, run_session};
+use uug_transfer::run_session;
 
 /// The first operation of each that fails, counted from 0. All after it fail too.
 #[derive(Clone, Copy)]
@@ -62,11 +62,11 @@ fn talk(
 ) -> Came {
     let mut number = MemoryText::new(b"", false);
     let answer = run_session(alloc, end, jobs, &mut number, line, AMPLE, LIMITS);
-    let failed = jobs.file.has_failed() || line.faults() > 0;
-    assert_same(rt, answer.is_err(), failed);
+    let broken = jobs.file.has_failed();
+    assert_same(rt, answer.is_err(), broken);
     Came {
         kept: line.other().node().spool().stored().len(),
-        failed,
+        failed: broken || line.has_failed(),
     }
 }
 

@@ -25,7 +25,6 @@ const TEXTS: &[(Fault, &str)] = &[
     (Fault::Jobs(JobsFault::Memory), "out of memory"),
     (Fault::Turn(TurnFault::Line), "device fault"),
     (Fault::Turn(TurnFault::Memory), "out of memory"),
-    (Fault::Session(SessionFault::Line), "device fault"),
     (Fault::Session(SessionFault::Jobs), "device fault"),
     (Fault::Session(SessionFault::Number), "device fault"),
     (Fault::Session(SessionFault::Memory), "out of memory"),

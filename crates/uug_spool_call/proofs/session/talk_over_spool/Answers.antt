@@ -1,4 +1,4 @@
-use Rattle.std.proofs.Common.{◌≡◌, ◌≤◌, ℕ, subst, sym}
+use Rattle.std.proofs.Common.{◌≤◌, ℕ, subst, sym}
 use Rattle.uug_failure.proofs.OutcomeLemmas.{ended_line, ended_no_other, ended_well, ended_write}
 use Rattle.uug_session.specs.Engine.{IsEnded}
 use Rattle.uug_session.specs.Node.{NodeState, node_of}
@@ -25,11 +25,10 @@ returns-clause-write g c = λ refused. c.answer_of-answer.ensures.write (ended_w
 pub returns-clause-no_other : goal.returns-clause-no_other
 returns-clause-no_other g c = ended_no_other _ _ _ c.of-ended.ensures c.answer_of-answer.ensures.no_other
 
-pub returns-clause-line : goal.returns-clause-line
-returns-clause-line g c =
-    ended_line _ _ _ _ c.of-ended.ensures
+pub returns-clause-named : goal.returns-clause-named
+returns-clause-named g c =
+    ended_line ⊥ _ _ _ c.of-ended.ensures
     (device_is_known c.answer_of-answer.result c.run_end-session.result c.failure.result
     c.in_ok-end.end.store.disk.faults.count c.run_end-session.new.end.store.disk.faults.count
-    (g.L.EndLine.fault_count c.args.line.now) (g.L.EndLine.fault_count c.run_end-session.new.line)
     c.answer_of-answer.ensures.device c.answer_of-answer.ensures.memory c.in_ok-end.ensures.calm c.run_end-session.ensures.settles.fault
-    c.run_end-session.ensures.no_number c.run_end-session.ensures.line c.run_end-session.ensures.grows c.failure.ensures)
+    c.run_end-session.ensures.no_number c.failure.ensures)

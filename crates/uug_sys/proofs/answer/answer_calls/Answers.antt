@@ -7,7 +7,7 @@ pub loop-past-preserved : goal.loop-past-preserved
 loop-past-preserved g c = record {
   status = still_well _ _ _ c.loop-past.invariant.status c.give-given.ensures.status c.count.ensures.greatest c.count.ensures.status;
   grows = omega (arith, c.loop-past.invariant.grows, c.give-given.ensures.grows);
-  told = one_more _ _ _ _ _ _ _ _ _ _ _ _ _ c.loop-past.invariant.told c.next_served-served.ensures.reported c.give-given.ensures.same
+  told = one_more _ _ _ _ _ _ _ _ _ _ _ _ _ c.loop-past.invariant.told c.next_served-outcome.ensures.reported c.give-given.ensures.same
       c.give-given.ensures.prints c.count.ensures.greatest c.count.ensures.failed c.in_default.is;
 }
 
@@ -21,7 +21,7 @@ returns-clause-reported g c = elim c.loop-past-test.branch [
   | then-loop-past-test+in_default+then-not-is_open w ↦
       let some : 0 < suc c.loop-past._past = omega arith in
       all_told _ _ _ _ _ _ _ _ some
-      (one_more _ _ _ _ _ _ _ _ _ _ _ _ _ c.loop-past.invariant.told w.next_served-served.ensures.reported w.give-given.ensures.same
+      (one_more _ _ _ _ _ _ _ _ _ _ _ _ _ c.loop-past.invariant.told w.next_served-outcome.ensures.reported w.give-given.ensures.same
       w.give-given.ensures.prints w.count.ensures.greatest w.count.ensures.failed w.in_default.is) w.tally-is (ap g.O.Output.written w.output-is)
       c.answer.ensures.failed c.answer.ensures.bad c.answer.ensures.status
 ]

@@ -1,5 +1,5 @@
 use Rattle.std.proofs.Common.{◌≤◌, ℕ, inl, inr}
-use Rattle.uug_failure.proofs.FaultLemmas.{has_failed_since, has_faults}
+use Rattle.uug_failure.proofs.FaultLemmas.{has_faults}
 use Rattle.uug_failure.proofs.OutcomeLemmas.{ended_line, ended_no_other, ended_well, ended_write}
 use Rattle.uug_sys.proofs.EndAnswerLemmas.{with_err, with_no_other, with_reported, with_well}
 use Rattle.uug_transfer.specs.Reported.{IsReported}
@@ -23,10 +23,9 @@ pub returns-clause-no_other : goal.returns-clause-no_other
 returns-clause-no_other g c =
     ended_no_other _ _ _ c.of-2.ensures (with_no_other _ _ _ c.answer_with-answer.ensures c.in-Ok-run.ensures.no_other)
 
-pub returns-clause-line : goal.returns-clause-line
-returns-clause-line g c =
-    ended_line _ _ _ _ c.of-2.ensures (λ is. elim (c.in-Ok-run.ensures.device (with_err _ _ _ _ c.answer_with-answer.ensures is)) [
-      | inl line ↦ inr (has_failed_since _ _ c.run.ensures.line_grows line)
-      | inr (inl jobs) ↦ inl (c.failure_of-failure.ensures.jobs (has_faults _ _ c.in-Ok.ensures.jobs_calm jobs))
-      | inr (inr number) ↦ inl (c.failure_of-failure.ensures.number (has_faults _ _ c.in-Ok.ensures.number_calm number))
+pub returns-clause-named : goal.returns-clause-named
+returns-clause-named g c =
+    ended_line ⊥ _ _ _ c.of-2.ensures (λ is. elim (c.in-Ok-run.ensures.device (with_err _ _ _ _ c.answer_with-answer.ensures is)) [
+      | inl jobs ↦ inl (c.failure_of-failure.ensures.jobs (has_faults _ _ c.in-Ok.ensures.jobs_calm jobs))
+      | inr number ↦ inl (c.failure_of-failure.ensures.number (has_faults _ _ c.in-Ok.ensures.number_calm number))
     ])

@@ -1,7 +1,7 @@
 use Rattle.std.proofs.Common.{rules, refl, ◌∙◌}
 use Rattle.std.proofs.lemmas.List.{nil_from_length}
 use Rattle.uug_transfer.proofs.ListeningLemmas.{wrote_none}
-use Rattle.uug_sys.proofs.SpoolLockLemmas.{goes_on, says_all, says_some, says_until, since_more, since_none}
+use Rattle.uug_sys.proofs.SpoolLockLemmas.{goes_on, says_all, says_until, since_more, since_none}
 use Rattle.uug_sys.proofs.spool_lock.say.Goals as goal
 
 pub loop-rest-init : goal.loop-rest-init
@@ -9,26 +9,20 @@ loop-rest-init g c = record {
   wrote = wrote_none c.args.words.now (g.L.EndLine.taken c.args.line.now);
   since = since_none (g.L.EndLine.writes c.args.line.now);
   received = refl;
-  calm = refl;
 }
 
 pub loop-rest-preserved : goal.loop-rest-preserved
 loop-rest-preserved g c = record {
-  wrote = goes_on _ c.loop-rest.rest.now c.in_ok-count.count _ _ _ c.loop-rest.invariant.wrote c.in_ok-count.ensures.taken;
-  since = since_more c.in_ok-count.count _ _ _ c.loop-rest.invariant.since c.in_ok-count.ensures.writes;
-  received = c.in_ok-count.ensures.received ∙ c.loop-rest.invariant.received;
-  calm = c.in_ok-count.ensures.calm ∙ c.loop-rest.invariant.calm;
+  wrote = goes_on _ c.loop-rest.rest.now c.write-count.result _ _ _ c.loop-rest.invariant.wrote c.write-count.ensures.taken;
+  since = since_more c.write-count.result _ _ _ c.loop-rest.invariant.since c.write-count.ensures.writes;
+  received = c.write-count.ensures.received ∙ c.loop-rest.invariant.received;
 }
-
-pub returns-in_err-count-clause-says : goal.returns-in_err-count-clause-says
-returns-in_err-count-clause-says g c =
-    says_some _ _ _ _ _ _ _ _ _ _ c.loop-rest.invariant.wrote c.in_err-count.ensures.taken_some c.loop-rest.invariant.calm c.in_err-count.ensures.fault
 
 pub returns-then-count-eq0-clause-says : goal.returns-then-count-eq0-clause-says
 returns-then-count-eq0-clause-says g c =
-    says_until _ c.loop-rest.rest.now c.in_ok-count.count _ _ _ _ _ _ _ _ c.loop-rest.invariant.wrote c.if-count-eq0.true
-    c.in_ok-count.ensures.taken c.loop-rest.invariant.since c.in_ok-count.ensures.writes
+    says_until _ c.loop-rest.rest.now c.write-count.result _ _ _ _ _ _ c.loop-rest.invariant.wrote c.if-count-eq0.true
+    c.write-count.ensures.taken c.loop-rest.invariant.since c.write-count.ensures.writes
 
 pub returns-clause-says : goal.returns-clause-says
-returns-clause-says g c = says_all _ _ _ _ _ _ _ _ c.loop-rest.invariant.wrote
+returns-clause-says g c = says_all _ _ _ _ _ _ c.loop-rest.invariant.wrote
     (nil_from_length c.loop-rest.rest.now (search rules))

@@ -7,7 +7,7 @@ pub returns-clause-session : goal.returns-clause-session
 returns-clause-session g c = record {
   led = led_later _ _ _ c.take_turns-result.ensures.led c.hang_up.ensures.led;
   at_line = line_hung_up _ _ _ _ _ _ _ _ _ c.hang_up.ensures.lost (ap g.S.Spool.kept c.hang_up.ensures.spool)
-      c.note.ensures.received c.note.ensures.taken c.note.ensures.writes c.note.ensures.calm c.take_turns-result.ensures.at_line;
+      c.note.ensures.received c.note.ensures.taken c.note.ensures.writes c.take_turns-result.ensures.at_line;
   jobs = settles_behind _ _ _ _ _ _ (ap (λ e. e.dialogue.machine.lists) c.hang_up.ensures.lost) c.take_turns-result.ensures.jobs;
   number = number_behind _ _ _ _ _ _ c.hang_up.ensures.number (ap (λ e. e.number) c.hang_up.ensures.lost) c.take_turns-result.ensures.number;
 }

@@ -36,7 +36,6 @@ invariant-loop-alloc g l = record {
       (disk_now g.J.JobStore.open_jobs g.J.JobStore.told g.J.JobStore.fault_count g.N.TextFile.text g.N.TextFile.fault_count l.fn.jobs l.fn.number)
       (disk_now g.J.JobStore.open_jobs g.J.JobStore.told g.J.JobStore.fault_count g.N.TextFile.text g.N.TextFile.fault_count l.jobs l.number);
   number_calm : g.N.TextFile.fault_count l.number ≡ g.N.TextFile.fault_count l.fn.number;
-  calm : g.L.EndLine.fault_count l.line ≡ g.L.EndLine.fault_count l.fn.line;
 }
 
 abbrev pub decreases-loop-alloc : goal.decreases-loop-alloc

@@ -1,8 +1,8 @@
 use Rattle.std.proofs.Common.{◌<◌, ℕ, List, take, length, refl, ap, subst, inr, ◌∙◌}
 use Rattle.uug_transfer.specs.BufferedNodes.{to_write}
-use Rattle.uug_transfer.specs.Writing.{TakesFront, also_taken}
-use Rattle.uug_transfer.proofs.ListeningLemmas.{wrote_more, wrote_none, wrote_some}
-use Rattle.uug_transfer.proofs.StallLemmas.{goes_on, stalls_more, stalls_none, stalls_within, within_same, wrote_front, written_all}
+use Rattle.uug_transfer.specs.Writing.{also_taken}
+use Rattle.uug_transfer.proofs.ListeningLemmas.{wrote_more, wrote_none}
+use Rattle.uug_transfer.proofs.StallLemmas.{goes_on, stalls_more, stalls_none, stalls_within, wrote_front, written_all}
 use Rattle.uug_transfer.proofs.session.write_all.Goals as goal
 
 pub loop-line-init : goal.loop-line-init
@@ -14,7 +14,6 @@ loop-line-init g c = record {
   stalls = stalls_none (g.L.EndLine.writes c.args.line.now);
   goes_on = inr refl;
   received = refl;
-  calm = refl;
 }
 
 pub loop-line-preserved : goal.loop-line-preserved
@@ -22,26 +21,15 @@ loop-line-preserved g c = record {
   node = c.written.ensures.node ∙ c.loop-line.invariant.node;
   spool = c.written.ensures.spool ∙ c.loop-line.invariant.spool;
   injector = c.written.ensures.injector ∙ c.loop-line.invariant.injector;
-  wrote = wrote_more _ _ _ c.in_ok-count.count _ _ _ c.loop-line.invariant.wrote c.written.ensures.outgoing
-      (c.in_ok-count.ensures.taken
-      ∙ ap (λ piece. also_taken (take c.in_ok-count.count piece) (g.L.EndLine.taken c.loop-line.line)) c.outgoing-in-loop-line.ensures);
-  stalls = stalls_more _ c.in_ok-count.count _ _ _ _ c.loop-line.invariant.stalls (c.may_write.ensures.0 c.loop-line-test.true).0 c.in_ok-count.ensures.writes
+  wrote = wrote_more _ _ _ c.write-count.result _ _ _ c.loop-line.invariant.wrote c.written.ensures.outgoing
+      (c.write-count.ensures.taken
+      ∙ ap (λ piece. also_taken (take c.write-count.result piece) (g.L.EndLine.taken c.loop-line.line)) c.outgoing-in-loop-line.ensures);
+  stalls = stalls_more _ c.write-count.result _ _ _ _ c.loop-line.invariant.stalls (c.may_write.ensures.0 c.loop-line-test.true).0 c.write-count.ensures.writes
       c.stalls_left-silences.ensures;
-  goes_on = goes_on c.in_ok-count.count _ _ _ _
+  goes_on = goes_on c.write-count.result _ _ _ _
       (subst (λ (x : List ℕ). 0 < length x) c.outgoing.ensures (c.may_write.ensures.0 c.loop-line-test.true).1) c.written.ensures.outgoing c.stalls_left-silences.ensures;
-  received = c.in_ok-count.ensures.received ∙ c.loop-line.invariant.received;
-  calm = c.in_ok-count.ensures.calm ∙ c.loop-line.invariant.calm;
+  received = c.write-count.ensures.received ∙ c.loop-line.invariant.received;
 }
-
-pub returns-in_err-count-clause-taken_some : goal.returns-in_err-count-clause-taken_some
-returns-in_err-count-clause-taken_some g c =
-    wrote_some _ _ _ _ _ c.loop-line.invariant.wrote
-    (subst (λ piece. TakesFront piece (g.L.EndLine.taken c.loop-line.line) (g.L.EndLine.taken c.write.new.self))
-    c.outgoing-in-loop-line.ensures c.in_err-count.ensures.taken_some)
-
-pub returns-in_err-count-clause-within : goal.returns-in_err-count-clause-within
-returns-in_err-count-clause-within g c =
-    within_same _ _ _ _ (stalls_within _ _ _ c.loop-line.invariant.stalls) c.in_err-count.ensures.no_write
 
 pub returns-clause-taken_some : goal.returns-clause-taken_some
 returns-clause-taken_some g c = wrote_front _ _ _ _ c.loop-line.invariant.wrote

@@ -14,7 +14,6 @@ invariant-loop-line g l = record {
   stalls : StallsSince l.silences (g.L.EndLine.writes l.fn.line) (g.L.EndLine.writes l.line);
   goes_on : GoesOn l.silences (to_write l.buffered);
   received : g.L.EndLine.received l.line ≡ g.L.EndLine.received l.fn.line;
-  calm : g.L.EndLine.fault_count l.line ≡ g.L.EndLine.fault_count l.fn.line;
 }
 
 abbrev pub decreases-loop-line : goal.decreases-loop-line

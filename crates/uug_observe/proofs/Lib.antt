@@ -1,0 +1,2 @@
+mod JobRemarkFacts
+mod NumberRemarkFacts

@@ -1,0 +1,45 @@
+//! The mark of a session in the folder of an end with a log, by which the next one knows that it was broken off.
+
+use crate::fault_log::log_fault;
+use std::alloc::{AllocError, Allocator};
+use std::fs;
+use std::fs::File;
+use std::io::ErrorKind;
+use std::rt::{Env, Files};
+use std::time::Clock;
+use uug_task::CallTask;
+
+/// Says in the log that a signal or a power cut ended the last session.
+pub const BROKEN_OFF: &str = "the last session was broken off";
+
+/// Marks that a session begins, if the end has a log. If the mark of the last one is still there the log says so.
+pub fn mark_session<A, R>(alloc: A, rt: &R, task: &CallTask<'_>)
+where
+    A: Allocator + Copy,
+    R: Files<File = File> + Env + Clock + AllocGlobal,
+{
+    let Ok(path) = mark_of(alloc, task) else {
+        return;
+    };
+    if task.log.is_none() {
+        return;
+    }
+    if let Err(error) = File::create_new(rt, path.as_str()) {
+        if error.kind() == ErrorKind::AlreadyExists {
+            log_fault(alloc, rt, task, BROKEN_OFF);
+        }
+    }
+}
+
+/// Removes the mark of a session that is over.
+pub fn unmark_session<A: Allocator + Copy, R: Files>(alloc: A, rt: &R, task: &CallTask<'_>) {
+    if let Ok(path) = mark_of(alloc, task) {
+        let _ = fs::remove_file(rt, path.as_str());
+    }
+}
+
+/// Returns the path of the mark.
+fn mark_of<A: Allocator>(alloc: A, task: &CallTask<'_>) -> Result<String<A>, AllocError> {
+    let dir = task.dir;
+    format!(in alloc; "{dir}/.session")
+}

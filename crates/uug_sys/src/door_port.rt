@@ -1,0 +1,103 @@
+//! The port of a caller who has not said a byte yet.
+ghost use Rattle.std.specs.Prelude.{◌≡◌, ◌<◌, length, IfOk};
+ghost use Rattle.uug_transfer.specs.ReadOutcomes.{IsWithin};
+
+use std::alloc::Allocator;
+use std::time::Duration;
+use uug_failure::Cause;
+use uug_port::{Port, Waiters};
+use uug_transfer::ReadOutcome;
+
+/// The seconds that a caller may be silent while others wait.
+const DOOR_SECONDS: u64 = 8;
+
+/// The port of a caller at a socket. Until its first byte has come, a silence of `DOOR_SECONDS` is a timeout if others
+/// wait behind it, and after that timeout the port is at its end. If nobody waits it waits as long as any port.
+#[derive(Drop)]
+pub(crate) struct DoorPort<P, A: Allocator> {
+    port: P,
+    /// The time that its calls wait.
+    time: Duration,
+    /// Those who wait behind the caller.
+    waiters: Option<Waiters<A>>,
+    is_heard: bool,
+    /// Set once the caller is left, because others wait.
+    is_left: bool,
+}
+
+impl<P: Port, A: Allocator> DoorPort<P, A> {
+    /// Wraps the port of a caller that waits this long, with those who wait behind it.
+    pub(crate) fn new(port: P, time: Duration, waiters: Option<Waiters<A>>) -> Self {
+        DoorPort {
+            port,
+            time,
+            waiters,
+            is_heard: false,
+            is_left: false,
+        }
+    }
+
+    /// Reads while nothing was heard.
+    fn hear(&mut self, buffer: &mut [u8]) -> Result<ReadOutcome, Cause>
+        requires room { 0 < length buffer.old }
+        ensures size { length buffer.new ≡ length buffer.old }
+        ensures within { IfOk result (λ outcome. IsWithin (length buffer.old) outcome) }
+    {
+        let first = self.time.min(Duration::from_secs(DOOR_SECONDS));
+        let rest = self.time.saturating_sub(first);
+        match self.hear_for(buffer, first)? {
+            ReadOutcome::TimedOut if !self.is_left && !rest.is_zero() => {
+                self.hear_for(buffer, rest)
+            }
+            outcome => Ok(outcome),
+        }
+    }
+
+    /// Reads once, for as long as this. After a silence the caller is left if others wait.
+    fn hear_for(&mut self, buffer: &mut [u8], time: Duration) -> Result<ReadOutcome, Cause>
+        requires room { 0 < length buffer.old }
+        ensures size { length buffer.new ≡ length buffer.old }
+        ensures within { IfOk result (λ outcome. IsWithin (length buffer.old) outcome) }
+    {
+        self.port.set_time(time);
+        let outcome = self.port.read(buffer)?;
+        match outcome {
+            ReadOutcome::Bytes(_) => {
+                self.is_heard = true;
+                self.port.set_time(self.time);
+            }
+            ReadOutcome::TimedOut => self.is_left = self.do_others_wait(),
+            ReadOutcome::Eof => (),
+        }
+        Ok(outcome)
+    }
+
+    /// Returns whether others wait.
+    fn do_others_wait(&mut self) -> bool {
+        match &mut self.waiters {
+            Some(waiters) => waiters.are_there(),
+            None => false,
+        }
+    }
+}
+
+impl<P: Port, A: Allocator> Port for DoorPort<P, A> {
+    fn write(&mut self, piece: &[u8]) -> Result<usize, Cause> {
+        self.port.write(piece)
+    }
+
+    fn read(&mut self, buffer: &mut [u8]) -> Result<ReadOutcome, Cause> {
+        if self.is_left {
+            Ok(ReadOutcome::Eof)
+        } else if self.is_heard {
+            self.port.read(buffer)
+        } else {
+            self.hear(buffer)
+        }
+    }
+
+    fn set_time(&mut self, time: Duration) {
+        self.time = time;
+        self.port.set_time(time);
+    }
+}
