@@ -177,7 +177,8 @@ a_quiet_device() {
     pace 2000 60 || return 1
     answer "$work/far" --wait 20 -v
     pause 3
-    [ ! -s "$work/b.err" ] || return 1
+    # no session has begun
+    ! grep -q " s: " "$work/b.err" || return 1
     printf '\r' >"$work/near"
     call "$work/near"
     both_done 30
