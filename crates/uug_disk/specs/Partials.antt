@@ -1,4 +1,4 @@
--- The files in which an end holds the first bytes of others (this project's profile).
+-- The partial files of an end, which hold the first bytes of others (this project's profile).
 use Rattle.std.specs.Char.{is_ascii_hexdigit}
 use Rattle.std.specs.List.{list_all}
 use Rattle.std.specs.Prelude.{◌&&◌, ℕ, Bool, List, length, nat_eq}

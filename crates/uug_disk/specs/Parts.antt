@@ -1,9 +1,9 @@
--- Files of the system that are not whole, and what is written to a file (this project's profile).
+-- The names of incomplete files, and the bytes that are written to a file (this project's profile).
 use Rattle.std.specs.List.{starts_with}
 use Rattle.std.specs.Prelude.{ℕ, Bool, List, codes, nat_eq}
 use Rattle.uug_disk.specs.declared.written.Written.{Written}
 
--- what the name of one begins with that is not whole
+-- the name is that of an incomplete file
 abbrev pub is_part : (name : List ℕ) → Bool
 is_part name = starts_with nat_eq name (codes ".part.")
 

@@ -1,4 +1,4 @@
--- Paths of what a process holds open (this project's profile).
+-- Paths of files that a process holds open (this project's profile).
 use Rattle.std.specs.Prelude.{ℕ, ◌||◌, Bool, List, codes, nat_eq}
 use Rattle.std.specs.List.{starts_with}
 

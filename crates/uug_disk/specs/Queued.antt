@@ -1,4 +1,4 @@
--- What is listed of jobs, and the words of what a person queues (this project's profile).
+-- The list of jobs, the arguments and faults of `queue`, and jobs with the same target (this project's profile).
 use Rattle.std.specs.Prelude.{◌≡◌, ◌&&◌, ℕ, Bool, false, not, List, [], Option, Some, None, Ok, option_map, unwrap_or, if◌then◌else◌, IsSome}
 use Rattle.std.specs.Borrow.{Bor}
 use Rattle.std.specs.List.{list_any}
@@ -22,7 +22,7 @@ pub record IsListOf (text list : List ℕ) : Type 0 where
   pub read : jobs_of text ≡ Ok jobs
   pub lines : list ≡ jobs_text jobs
 
--- a job sends another file to the target of one that is queued
+-- the job sends another file than `source` to this target
 abbrev pub is_rival : (source target : List ℕ) → Job → Bool
 is_rival source target (Send other place user temp) = not (bytes_eq other source) && bytes_eq place target
 is_rival source target (Request other place user) = false
@@ -30,12 +30,12 @@ is_rival source target (Request other place user) = false
 abbrev pub has_rival : (source target : List ℕ) → List Job → Bool
 has_rival source target jobs = list_any (is_rival source target) jobs
 
--- the target, where another job has it
+-- the target, if another job sends another file there
 abbrev pub rival_among : (source target : List ℕ) → List Job → Option (List ℕ)
 rival_among source target jobs = if has_rival source target jobs then Some target else None
 
--- why nothing was queued or listed: an order that was given and is bad, or the run gave up; a device fault is a call of the system,
--- which is named
+-- why nothing was queued or listed: an order was given and is bad, or the run gave up; a device fault names the call
+-- that failed
 abbrev pub IsFaultOfQueue : (order : Option (Bor (List ℕ))) → QueueFault → Type 0
 IsFaultOfQueue order (Order fault) = IsSome order
 IsFaultOfQueue order (Run fault) = IsQueueFault fault

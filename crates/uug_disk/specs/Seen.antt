@@ -1,10 +1,10 @@
--- Defines the view of a file that is held, by the front of the text in which it is (this project's profile).
+-- Defines how a held file is shown, by the first bytes of the text that holds it (this project's profile).
 use Rattle.std.specs.Prelude.{◌-◌, ℕ, length, Option, Some, None}
 use Rattle.uug_conversation.specs.Partial.{Partial}
 use Rattle.uug_disk.specs.declared.seen_files.HeldFile.{HeldFile}
 use Rattle.uug_disk.specs.declared.seen_files.SeenFile.{SeenFile}
 
--- without the line in front of its bytes, where this front of the text has so many bytes
+-- the held size leaves out the line before the bytes; `front` is the number of first bytes that were read of the text
 abbrev pub held_by : (front : ℕ) → Option Partial → (text : SeenFile) → Option HeldFile
 held_by front None text = None
 held_by front (Some p) text = Some (record {

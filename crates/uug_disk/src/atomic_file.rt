@@ -1,4 +1,4 @@
-//! A file of the system that replaces another, as a whole or not at all.
+//! Replaces files on disk, as a whole or not at all, and appends to them.
 ghost use Rattle.std.specs.Prelude.{◌≡◌, IfOk};
 ghost use Rattle.uug_disk.specs.Parts.{written_bytes};
 
@@ -14,8 +14,8 @@ use std::{fs, io};
 /// The mode of a file that only its owner may read.
 const PRIVATE: u32 = 0o600;
 
-/// Writes a file beside `path`, syncs it to disk, and renames it to `path`, which is in the folder `dir`. Then syncs
-/// the folder. If that alone fails the file is in its place.
+/// Writes a new file beside `path`, syncs it, and renames it to `path`, which is in the folder `dir`. Then syncs the
+/// folder. If only that fails, returns the error although the file is in place.
 pub(crate) fn replace_file<'b, R: Files, A: Allocator>(
     rt: &R,
     part: &mut PartPath<A>,
@@ -29,7 +29,7 @@ pub(crate) fn replace_file<'b, R: Files, A: Allocator>(
     replace_with(rt, file, part.as_str(), dir, path, bytes)
 }
 
-/// Does the same with a file that only its owner may read.
+/// Does the same as `replace_file`, with a file that only its owner may read.
 pub(crate) fn replace_private<'b, R: Files<File = File>, A: Allocator>(
     rt: &R,
     part: &mut PartPath<A>,
@@ -44,7 +44,8 @@ pub(crate) fn replace_private<'b, R: Files<File = File>, A: Allocator>(
     replace_with(rt, file, part.as_str(), dir, path, bytes)
 }
 
-/// Writes this new file at `part`, and puts it at `path`.
+/// Writes the new file at `part`, syncs it, renames it to `path`, and syncs the folder `dir`. Removes the file if it
+/// can't be put in place.
 fn replace_with<'b, R: Files>(
     rt: &R,
     mut file: R::File,
@@ -67,11 +68,11 @@ fn replace_with<'b, R: Files>(
     }
 }
 
-/// Does the same as `replace_file` while others append to the file at `path`. What that file has after `read_len` bytes stays after the
-/// new ones. The new file gets its mode and its owner, as far as the system permits. The old file is locked during
-/// that: a process that holds its lock appends to a file that stays in its place. A process that has opened the old
-/// file may still append to it without the lock. These bytes are looked for once the new file is in its place, and
-/// again once the folder is on disk.
+/// Does the same as `replace_file` while other processes append to the file at `path`. Copies the bytes of the old file
+/// after the first `read_len` to the end of the new one. The new file gets the old one's mode and owner, as far as the
+/// system permits. The old file is locked meanwhile: a process that holds its lock appends to a file that stays in
+/// place. A process that has opened the old file may still append to it without the lock. This run looks for those
+/// bytes once the new file is in place, and again once the folder is synced, and copies them.
 pub(crate) fn replace_appended<'b, R: Files<File = File>, A: Allocator>(
     rt: &R,
     part: &mut PartPath<A>,
@@ -95,8 +96,8 @@ pub(crate) fn replace_appended<'b, R: Files<File = File>, A: Allocator>(
     }
 }
 
-/// Appends to the file at `path`, which is in the folder `dir`, and syncs both to disk. A missing file is created. If
-/// the file can't have all of the bytes, it is as before, if that is possible.
+/// Appends to the file at `path`, which is in the folder `dir`, and syncs both to disk. Creates a missing file. If that
+/// fails, truncates the file to its old length, if possible.
 pub(crate) fn append_at<'b, R: Files<File = File>>(
     rt: &R,
     dir: &str,
@@ -109,7 +110,8 @@ pub(crate) fn append_at<'b, R: Files<File = File>>(
     append_whole(rt, &file, dir, bytes)
 }
 
-/// Appends bytes in one write, and syncs them to disk. If that fails they are removed, if that is possible.
+/// Appends bytes in one write, and syncs the file and its folder `dir`. If that fails, truncates the file to its old
+/// length, if possible.
 pub(crate) fn append_whole<'b, R: Files>(
     rt: &R,
     file: &File,
@@ -126,7 +128,7 @@ pub(crate) fn append_whole<'b, R: Files>(
     appended
 }
 
-/// Appends bytes in one write, which may take only a part of them, and syncs them to disk.
+/// Appends bytes in one write, and syncs the file and its folder. After an error the file may have some of them.
 fn append_synced<'b, R: Files>(
     rt: &R,
     file: &File,
@@ -159,14 +161,16 @@ pub(crate) fn see_folder<R: Files>(rt: &R, dir: &str) -> io::Result<()> {
     File::open(rt, dir)?.sync_all()
 }
 
-/// Syncs a folder to disk. Before and after that, adds to the file at `path` what was appended late to the old one.
+/// Syncs a folder to disk. Before and after that, appends to the file at `path` the bytes that the old one has got
+/// late.
 fn see_folder_between<R: Files>(rt: &R, mut old: R::File, dir: &str, path: &str) -> io::Result<()> {
     add_late(rt, &mut old, path)?;
     see_folder(rt, dir)?;
     add_late(rt, &mut old, path)
 }
 
-/// Adds to the file at `path` what has come to the old one since that was read last.
+/// Appends to the file at `path` the bytes that the old one has got since it was last read. Syncs the file if there are
+/// any.
 fn add_late<R: Files>(rt: &R, old: &mut R::File, path: &str) -> io::Result<()> {
     let mut file = OpenOptions::new().append(true).open(rt, path)?;
     if io::copy(old, &mut file)? > 0 {
@@ -190,8 +194,8 @@ fn place_file<'b, R: Files>(
     Ok(written)
 }
 
-/// Does the same, and keeps what the file at `path` has after `len` bytes. Returns that file, locked and read to its
-/// end.
+/// Does the same, and copies the bytes of the old file at `path` after the first `len` to the end of the new one.
+/// Returns the old file, locked and read to its end.
 fn place_appended<'b, R: Files<File = File>>(
     rt: &R,
     file: &mut File,
@@ -213,7 +217,7 @@ fn place_appended<'b, R: Files<File = File>>(
     Ok((old, written))
 }
 
-/// Gives a file the owner and the mode of another, as far as the system lets it.
+/// Gives a file the owner and the mode of another, as far as the system permits.
 fn give_rights(from: &File, file: &File) {
     let Ok(metadata) = from.metadata() else {
         return;
@@ -222,7 +226,7 @@ fn give_rights(from: &File, file: &File) {
     let _ = file.set_permissions(metadata.permissions());
 }
 
-/// Opens a file. If there is none an empty one is created, and nobody else creates one before another takes its place.
+/// Opens a file. If there is none, creates an empty one, so that nobody else creates one before it is replaced.
 fn open_or_make<R: Files>(rt: &R, path: &str) -> io::Result<R::File> {
     match File::open(rt, path) {
         Err(error) if error.kind() == ErrorKind::NotFound => {

@@ -1,4 +1,4 @@
-//! The places of copies that `queue` has made.
+//! The places of the copies that `queue` makes.
 ghost use Rattle.std.specs.Prelude.{◌≡◌};
 ghost use Rattle.uug_disk.specs.Copies.{is_needed_by, is_taken, needs, place_of};
 ghost use Rattle.uug_folder.specs.OpenJobs.{jobs_in};
@@ -11,15 +11,16 @@ use uug_talk::Name;
 /// The place of a copy.
 #[derive(Clone, Copy)]
 pub(crate) enum CopyPlace {
-    /// In `send`: a job waits that needs it.
+    /// In `send`: a pending job sends it.
     InSend,
-    /// With the files of failed jobs: none waits that needs it, and one has failed.
+    /// With the files of failed jobs: a failed job sends it, and no pending one.
     WithFailed,
-    /// Nowhere: its job is done.
+    /// Nowhere: neither a pending nor a failed job sends it.
     Nowhere,
 }
 
-/// Returns the place of the copy of this name while these jobs wait, and this text lists those that have failed.
+/// Returns the place of the copy of this name, for these pending jobs and the text that lists the failed ones. A source
+/// in that text counts as it is written: `~/x` is not `x` there.
 pub(crate) fn place_of(waiting: &[Job], failed: &[u8], name: &Name) -> CopyPlace
     ensures { result ≡ place_of name.now waiting.now (jobs_in (lines failed.now)) }
 {
@@ -32,8 +33,9 @@ pub(crate) fn place_of(waiting: &[Job], failed: &[u8], name: &Name) -> CopyPlace
     }
 }
 
-/// Returns whether a job has its file under this name, and waits or is listed in this text as failed. No other copy may
-/// get that name, since it would be sent in that job's place.
+/// Returns whether the file of this name is that of a pending job, or of one that this text lists as failed. A source
+/// in that text counts as it is written. No new copy may get that name, since it would be sent instead of that job's
+/// file.
 pub(crate) fn is_taken(waiting: &[Job], failed: &[u8], name: &Name) -> bool
     ensures { result ≡ is_taken name.now waiting.now (jobs_in (lines failed.now)) }
 {

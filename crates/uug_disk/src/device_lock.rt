@@ -1,4 +1,4 @@
-//! The lock file of a device, by which programs that use the same one keep out of each other's way.
+//! The lock file of a device. It keeps programs from using the device at the same time.
 ghost use Rattle.std.specs.Prelude.{◌≡◌, ◌≤◌, false, IfErr, IfOk};
 ghost use Rattle.uug_disk.specs.Numbers.{is_own};
 ghost use Rattle.uug_failure.specs.Faults.{IsFolderFault};
@@ -14,13 +14,13 @@ use uug_failure::{Cause, Resource, RunFault, SystemFailure};
 use uug_locks::{Holder, holder_of, is_held, lock_path, lock_text};
 use uug_talk::{NUMBER_MAX, read_number};
 
-/// The maximum number of bytes that are read of a lock file.
+/// The maximum number of bytes that are read from a lock file.
 const READ_MAX: usize = 64;
 
 /// The mode of a lock file, which everybody may read.
 const LOCK_MODE: u32 = 0o644;
 
-/// The lock file of a device that this run holds. It is removed by `release`.
+/// The lock file of a device that this run holds. `release` removes it.
 #[derive(Drop)]
 pub struct DeviceLock<A: Allocator> {
     path: String<A>,
@@ -32,15 +32,16 @@ pub struct DeviceLock<A: Allocator> {
 enum Attempt {
     /// This run holds the lock.
     Taken,
-    /// Another run holds it.
+    /// Another run holds it, or may be taking it.
     Held,
-    /// Nobody holds it, and the system refused to make one.
+    /// Nobody holds it, but the system refused to create or replace it.
     Refused,
 }
 
-/// Takes the lock of a device in the folder of the locks. The lock is the file there that is named after the device,
-/// and has the number of the process that holds it. The lock of a process that is gone is taken over. If the system
-/// refuses to create a file there, returns `None`: there is no lock to be held.
+/// Takes the lock of a device: a file in the folder of the locks that is named after the device, and has the number of
+/// the process that holds it. Takes over the lock of a process that is gone. Returns the failure `Cause::InUse` if
+/// another run holds the lock. Returns `None`, without a lock, if the system refuses to create the file, or doesn't
+/// report the number of this process.
 pub fn lock_device<A: Allocator + Copy, R: Files<File = File>>(
     alloc: A,
     rt: &R,
@@ -64,7 +65,7 @@ pub fn lock_device<A: Allocator + Copy, R: Files<File = File>>(
     }
 }
 
-/// Returns who holds the lock of a device, by its file in the folder of the locks.
+/// Returns the holder of a device's lock, by its file in the folder of the locks.
 pub fn lock_holder<A: Allocator, R: Files>(
     alloc: A,
     rt: &R,
@@ -84,7 +85,7 @@ impl<A: Allocator> DeviceLock<A> {
     }
 }
 
-/// Returns the fault that another run holds the lock of the line.
+/// Returns the fault of a line whose lock another run holds.
 fn in_use() -> RunFault
     ensures { IsFolderFault result }
 {
@@ -97,7 +98,7 @@ fn own_number<A: Allocator + Copy, R: Files>(alloc: A, rt: &R) -> Result<Option<
     Ok(read_number(text.as_bytes(), NUMBER_MAX))
 }
 
-/// Writes a complete lock file beside its place, and puts it there. Nobody else sees a part of it.
+/// Writes the complete lock file under another name, and then links it to its own. Nobody else sees a part of it.
 fn take<A: Allocator + Copy, R: Files<File = File>>(
     alloc: A,
     rt: &R,
@@ -118,13 +119,13 @@ fn take<A: Allocator + Copy, R: Files<File = File>>(
     attempt
 }
 
-/// Writes the text of a lock, which everybody may read.
+/// Writes the text of a lock, and lets everybody read it.
 fn write_lock(file: &mut File, text: &[u8]) -> io::Result<()> {
     file.set_permissions(Permissions::from_mode(LOCK_MODE))?;
     file.write_all(text)
 }
 
-/// Gives the file at `part` the name of the lock, if nobody holds that.
+/// Links the file at `part` to the name of the lock, if nobody holds the lock.
 fn place<A: Allocator + Copy, R: Files<File = File>>(
     alloc: A,
     rt: &R,
@@ -142,8 +143,8 @@ fn place<A: Allocator + Copy, R: Files<File = File>>(
     }
 }
 
-/// Puts the file at `part` in the place of a lock whose process is gone. The folder is locked during that, since
-/// another run that does the same would remove the lock that this one has just made.
+/// Replaces a lock that nobody holds with the file at `part`. The folder is locked meanwhile, since another run that
+/// does the same would remove the lock that this one has just made.
 fn take_over<A: Allocator + Copy, R: Files<File = File>>(
     alloc: A,
     rt: &R,
@@ -167,7 +168,7 @@ fn take_over<A: Allocator + Copy, R: Files<File = File>>(
     Ok(attempt)
 }
 
-/// Removes a lock that nobody holds, and gives its name to the file at `part`.
+/// Removes a lock that nobody holds, and links the file at `part` to its name.
 fn replace<R: Files>(rt: &R, part: &str, path: &str, _is_taken: bool) -> Attempt
     requires { _is_taken ≡ false }
 {
@@ -182,8 +183,8 @@ fn replace<R: Files>(rt: &R, part: &str, path: &str, _is_taken: bool) -> Attempt
     }
 }
 
-/// Returns whether another process holds the lock at this path. A lock of this process is left over from another one
-/// with its number, since a run takes a lock once.
+/// Returns whether another process holds the lock at this path, or may hold it. A lock with the number of this process
+/// was left by an earlier one of that number, since a run takes a lock once.
 fn is_taken<A: Allocator + Copy, R: Files>(
     alloc: A,
     rt: &R,
@@ -205,7 +206,8 @@ fn is_own(own: Option<u32>, process: u32) -> bool
     own == Some(process)
 }
 
-/// Returns who holds the lock at this path. One that can't be read may be anybody's, and below a file there is none.
+/// Returns the holder of the lock at this path: `Unknown` if it can't be read, and `Nobody` if it is missing or would
+/// be below a file.
 fn holder_at<R: Files>(rt: &R, path: &str) -> Holder {
     let mut buffer = [0; READ_MAX];
     match read_lock(rt, path, &mut buffer) {
@@ -217,7 +219,7 @@ fn holder_at<R: Files>(rt: &R, path: &str) -> Holder {
     }
 }
 
-/// Reads the front of a lock file. A pipe, which would wait for a writer, is not opened.
+/// Reads the first bytes of a lock file. Opens nothing but a regular file: a pipe would wait for a writer.
 fn read_lock<R: Files>(rt: &R, path: &str, buffer: &mut [u8; READ_MAX]) -> io::Result<usize>
     ensures { IfOk result (λ count. count ≤ READ_MAX) }
 {
@@ -227,7 +229,8 @@ fn read_lock<R: Files>(rt: &R, path: &str, buffer: &mut [u8; READ_MAX]) -> io::R
     File::open(rt, path)?.read(buffer)
 }
 
-/// Returns whether there is no process of this number. That is known only if the system shows the processes of others.
+/// Returns whether there is no process of this number. This is known only if `/proc` shows the processes of others, as
+/// it does if process 1 is there.
 fn is_gone<A: Allocator + Copy, R: Files>(
     alloc: A,
     rt: &R,

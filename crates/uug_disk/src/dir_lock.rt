@@ -1,4 +1,4 @@
-//! The lock that keeps the folder of an end for one run alone.
+//! The lock on the folder of an end, which only one run holds at a time.
 ghost use Rattle.std.specs.Prelude.{◌≡◌, IfErr};
 ghost use Rattle.uug_failure.specs.Faults.{IsFolderFault};
 
@@ -15,8 +15,8 @@ use uug_folder::sends_any;
 use uug_session::Job;
 
 /// The lock on the folder of an end. The system releases it when this is dropped, and when the process dies. The
-/// functions with which a session reads the jobs, the number or the files of an end ask for it, which keeps them from
-/// reading earlier.
+/// functions with which a session reads the jobs, the number or the files of an end take it as an argument, so they
+/// can't read before the folder is locked.
 #[derive(Drop)]
 pub struct DirLock<A: Allocator> {
     _file: File,
@@ -38,7 +38,7 @@ impl<A: Allocator> DirLock<A> {
 }
 
 /// Locks the folder of an end, and removes incomplete files that killed runs left. Creates nothing in the folder.
-/// Returns a failure of its own, `Cause::InUse`, if another run holds the folder.
+/// Returns the failure `Cause::InUse` if another run holds the lock.
 pub fn lock_dir<A: Allocator + Copy, R: Files<File = File> + Alloc + Clone + Drop>(
     alloc: A,
     rt: &R,
@@ -88,7 +88,7 @@ pub fn see_folders<A: Allocator + Copy, R: Files>(
     see_failed(alloc, rt, dir)
 }
 
-/// Checks that the file of failed jobs is not a pipe, which would wait for a reader.
+/// Checks that the file of failed jobs is not a pipe: opening it would wait for a reader.
 fn see_failed<A: Allocator + Copy, R: Files>(
     alloc: A,
     rt: &R,
@@ -106,7 +106,7 @@ fn see_failed<A: Allocator + Copy, R: Files>(
     Ok(())
 }
 
-/// Checks that the folder of this name exists in that of an end.
+/// Checks that the folder of an end has a folder of this name.
 fn see_below<A: Allocator + Copy, R: Files>(
     alloc: A,
     rt: &R,
@@ -124,7 +124,7 @@ fn see_below<A: Allocator + Copy, R: Files>(
     }
 }
 
-/// Opens a folder. Anything else is an error. A pipe, which would wait for a writer, is not opened.
+/// Opens a folder. Anything else is an error, and is not opened: a pipe would wait for a writer.
 pub(crate) fn open_dir<R: Files>(rt: &R, dir: &str) -> io::Result<R::File> {
     if fs::metadata(rt, dir)?.is_dir() {
         File::open(rt, dir)
@@ -133,7 +133,7 @@ pub(crate) fn open_dir<R: Files>(rt: &R, dir: &str) -> io::Result<R::File> {
     }
 }
 
-/// Removes incomplete files in `dir` and in `got` below it. A file that can't be removed is in nobody's way.
+/// Removes incomplete files in `dir` and in `got` below it. Ignores one that can't be removed: it does no harm.
 fn clear_dir<A: Allocator + Copy, R: Files + Alloc + Clone + Drop>(
     alloc: A,
     rt: &R,
@@ -145,7 +145,7 @@ fn clear_dir<A: Allocator + Copy, R: Files + Alloc + Clone + Drop>(
     Ok(())
 }
 
-/// Removes the files in a folder whose names begin like those of incomplete files.
+/// Removes the files in a folder that have names of incomplete files.
 fn remove_parts<R: Files + Alloc + Clone + Drop>(rt: &R, dir: &str) {
     let Ok(entries) = fs::read_dir(rt, dir) else {
         return;

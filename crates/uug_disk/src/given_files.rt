@@ -1,4 +1,4 @@
-//! The files that an end of `call` and `answer` gives in a session, and the number of its jobs for which there is room.
+//! The files that an end of `call` or `answer` gives in a session, and the number of its jobs for which there is room.
 ghost use Rattle.std.specs.Prelude.{◌≡◌, ◌+◌, ◌≤◌, false, IfErr, IfOk, OnOk, length};
 ghost use Rattle.uug_failure.specs.Faults.{IsFolderFault};
 ghost use Rattle.uug_disk.specs.Copies.{room_behind};
@@ -18,13 +18,13 @@ use uug_folder::{Allowance, local_source};
 use uug_session::{Job, Stored};
 use uug_talk::Name;
 
-/// The maximum number of files that an end gives beside those of its offered jobs.
+/// The maximum number of files that an end gives besides those of its offered jobs.
 pub const OTHERS_MAX: usize = 256;
 
-/// The allowance for files beside those of jobs.
+/// The allowance for files besides those of the offered jobs.
 #[derive(Clone, Copy)]
 struct Others {
-    /// The number of files of jobs.
+    /// The number of files of the offered jobs, which come first.
     before: usize,
     /// The allowance that is left.
     left: Allowance,
@@ -33,23 +33,23 @@ struct Others {
 /// The files that an end gives in a session, and the number of jobs that it offers.
 #[derive(Drop)]
 pub struct Given<A: Allocator> {
-    /// The files of the jobs that are offered, and others that the other end may ask for.
+    /// The files of the offered jobs, and others that the other end may request.
     pub files: Vec<Stored<A>, A>,
-    /// The number of its jobs that are offered, from the front.
+    /// The number of its jobs that are offered: the first ones.
     pub offered: usize,
-    /// The names of the other files that can't be read now, but may be later.
+    /// The names of other files that can't be given now, but may be later.
     pub delayed: Vec<Name, A>,
-    /// The lines on other files that are not given.
+    /// The lines that report other files that are not given.
     pub passed: Vec<String<A>, A>,
 }
 
-/// Returns the files that an end gives. The first are those of its first jobs, as long as there is room. Then come up to
-/// `OTHERS_MAX` others in the folder `send` below that of the end, which the other end may ask for, with as much room.
-/// The remaining jobs wait for another session, which is reported on standard error. A file that isn't in `send` is
-/// looked for with those of failed jobs, and the line of such a job may be tried again. A missing folder counts as
-/// empty. Hidden files, copies whose job is not offered, and anything but a regular file are skipped, and so are files
-/// over the limit. Other files that are not given are reported on standard error. Only a file that a job names stops the
-/// end, if it can't be read. A listing that a signal has ended is repeated.
+/// Returns the files that an end gives. First come the files of its first jobs, as many as there is room for. Up to
+/// `OTHERS_MAX` other files in the end's folder `send` follow, with as much room again; the other end may request them.
+/// The remaining jobs wait for another session, and their number is reported on standard error. A job's file that isn't
+/// in `send` is looked for with those of failed jobs, so a failed job can be tried again by appending its line to
+/// `jobs`. A missing folder counts as empty. Skips hidden files, copies whose job is not offered, anything but a
+/// regular file, and files over the limit. Other files that are not given are reported on standard error. A file that
+/// can't be read is a fault only if a job sends it. Repeats a listing that a signal has ended.
 pub fn read_given<A: Allocator + Copy, R: Files + Eprint + Alloc + Clone + Drop>(
     alloc: A,
     rt: &R,
@@ -69,7 +69,7 @@ pub fn read_given<A: Allocator + Copy, R: Files + Eprint + Alloc + Clone + Drop>
     Ok(given)
 }
 
-/// Does the same, without a report.
+/// Does the same, but reports nothing.
 fn list_again<A: Allocator + Copy, R: Files + Alloc + Clone + Drop>(
     alloc: A,
     rt: &R,
@@ -135,8 +135,8 @@ fn say_waiting(rt: &impl Eprint, count: usize) {
     }
 }
 
-/// Adds the files of the first of these jobs, as long as there is room for them, and returns the number of these jobs.
-/// The first one is always among them.
+/// Adds the files of the first jobs, as many as there is room for, and returns the number of these jobs. The first job
+/// is always among them.
 fn add_sources<A: Allocator + Copy, R: Files>(
     files: &mut Vec<Stored<A>, A>,
     alloc: A,
@@ -172,8 +172,8 @@ pub(crate) fn source_of(job: &Job) -> Option<Name> {
     }
 }
 
-/// Adds the file of this name, which a job names, unless it is there already, there is none, or it does not fit in the
-/// room. An added file takes up room. Returns false if it does not fit.
+/// Adds the file of this name, which a job sends, unless it was added before, is missing, is over the limit or does not
+/// fit in the room. Takes its size from the room. Returns false if it does not fit.
 fn add_source<A: Allocator + Copy, R: Files>(
     files: &mut Vec<Stored<A>, A>,
     alloc: A,
@@ -199,7 +199,7 @@ fn add_source<A: Allocator + Copy, R: Files>(
     Ok(fits(files, before, &mut left.bytes))
 }
 
-/// Returns the path of the file of this name, which a job names: in `send`, else with the files of failed jobs.
+/// Returns the path of the file of this name, which a job sends: in `send`, or else with the files of failed jobs.
 pub(crate) fn source_path<A: Allocator + Copy, R: Files>(
     alloc: A,
     rt: &R,
@@ -222,7 +222,7 @@ pub(crate) fn source_path<A: Allocator + Copy, R: Files>(
     }
 }
 
-/// Returns whether the file of this name, which a job names, is at this path.
+/// Returns whether the file of this name, which a job sends, is at this path.
 fn has_file<R: Files>(rt: &R, dir: EndDir<'_>, name: Name, path: &str) -> Result<bool, RunFault>
     ensures { IfErr result IsFolderFault }
 {
@@ -232,8 +232,8 @@ fn has_file<R: Files>(rt: &R, dir: EndDir<'_>, name: Name, path: &str) -> Result
     }
 }
 
-/// Returns whether the file after the first `before`, if one was added, fits in the room, and takes up the room. The
-/// first file always fits. Another one that does not is removed from the list.
+/// Returns whether the file after the first `before`, if one was added, fits in the room. Takes its size from the room.
+/// The first of all files always fits. Any other that does not fit is removed from the list.
 fn fits<A: Allocator>(files: &mut Vec<Stored<A>, A>, before: usize, room: &mut u64) -> bool
     ensures fewer { length files.new.items ≤ length files.old.items }
     ensures full { result ≡ false → length files.new.items ≤ before }
@@ -258,7 +258,7 @@ fn fits<A: Allocator>(files: &mut Vec<Stored<A>, A>, before: usize, room: &mut u
     }
 }
 
-/// Returns what is left of the room after a file of this size, if that fits.
+/// Returns the room that is left after a file of this size, if it fits.
 fn room_behind(room: u64, size: u64) -> Option<u64>
     ensures { result ≡ room_behind room size }
 {
@@ -272,8 +272,8 @@ fn is_there<A: Allocator>(files: &[Stored<A>], name: &Name) -> bool {
         .any(|file| file.name.as_bytes() == name.as_bytes())
 }
 
-/// Adds up to `OTHERS_MAX` other files in `send`, as long as there is room. Returns the names of those that can't be
-/// given now, but may be later, and the lines on those that are not given.
+/// Adds up to `OTHERS_MAX` other files in `send`, as far as there is room. Returns the names of those that can't be
+/// given now, but may be later, and the lines that report those that are not given.
 fn add_others<A: Allocator + Copy, R: Files + Alloc + Clone + Drop>(
     files: &mut Vec<Stored<A>, A>,
     alloc: A,
@@ -302,7 +302,7 @@ fn add_others<A: Allocator + Copy, R: Files + Alloc + Clone + Drop>(
     Ok((delayed, lines))
 }
 
-/// Adds the files of these entries of `send`, as far as they may be given beside those of jobs.
+/// Adds the files of these entries of `send`, as far as they may be given besides those of jobs.
 fn add_entries<A: Allocator + Copy, R: Files + Alloc + Clone + Drop>(
     files: &mut Vec<Stored<A>, A>,
     alloc: A,
@@ -327,7 +327,8 @@ fn add_entries<A: Allocator + Copy, R: Files + Alloc + Clone + Drop>(
     Ok(())
 }
 
-/// Adds the file of an entry, or notes why not, unless it is hidden, a copy or no file.
+/// Adds the file of an entry, or notes why it is not given. Skips it without a note if it is hidden, a copy, over the
+/// limit, no regular file, or added already.
 fn add_entry<A: Allocator + Copy, R: Files + Alloc + Clone + Drop>(
     files: &mut Vec<Stored<A>, A>,
     alloc: A,
@@ -379,7 +380,7 @@ fn add_entry<A: Allocator + Copy, R: Files + Alloc + Clone + Drop>(
     }
 }
 
-/// Returns whether there may be a regular file at a path: there is one, or it can't be seen.
+/// Returns whether there may be a regular file at a path: there is one, or this can't be checked.
 fn may_be_file<R: Files>(rt: &R, path: &str) -> bool {
     match is_file(rt, path) {
         Ok(is_file) => is_file,

@@ -1,4 +1,4 @@
-//! The file in which the first bytes of another one are held, open to append to.
+//! A partial file: it holds the first bytes of another file, and is open for appending.
 
 use crate::atomic_file::replace_private;
 use crate::part_path::PartPath;
@@ -13,28 +13,29 @@ use uug_failure::write_again;
 use uug_folder::held_line;
 use uug_talk::NamedDigest;
 
-/// The bytes that are appended at once, at least.
+/// The minimum number of new bytes that are appended at once.
 pub(crate) const STEP: usize = 16_384;
 
-/// The bytes that are synced to disk at once, at least. Of a file that grows they are a sixteenth.
+/// The minimum number of bytes that are synced to disk at once.
 const SYNC_STEP: usize = 65_536;
 
-/// The part of a file's bytes that is synced to disk at once.
+/// The minimum part of the bytes held that is synced to disk at once, as a divisor: a sixteenth.
 const SYNC_PART: usize = 16;
 
-/// The file in which the first bytes of another one are held. If its end is killed, it holds fewer.
+/// A partial file, which holds the first bytes of another file. If its end is killed, it may lack the last ones that
+/// arrived.
 #[derive(Drop)]
 pub(crate) struct HeldPart {
     file: File,
-    /// The bytes that it holds.
+    /// The number of bytes that it holds.
     count: usize,
-    /// Those of them that are synced to disk.
+    /// The number of these that have been synced, or were there when it was opened.
     synced: usize,
 }
 
 impl HeldPart {
-    /// Opens the one in the folder at `path` that holds this file. If there is none, or if it holds more than `most`
-    /// bytes, creates one that holds none. A missing folder is created.
+    /// Opens this file's partial file in the folder at `path`. If there is none that can be read, or it holds more than
+    /// `most` bytes, replaces it with one that holds none. Creates a missing folder.
     pub(crate) fn open<A: Allocator + Copy, R: Files<File = File>>(
         alloc: A,
         rt: &R,
@@ -63,8 +64,8 @@ impl HeldPart {
         })
     }
 
-    /// Appends what is not held of the bytes that have come: `front` before this session, and `bytes` in it. Fewer than
-    /// `STEP` bytes wait for the next call.
+    /// Appends bytes that have arrived and are not held yet: `front` arrived before this session, `bytes` in it. One
+    /// call may append only some of them. Fewer than `STEP` new bytes wait for the next call.
     pub(crate) fn append(&mut self, front: &[u8], bytes: &[u8]) -> io::Result<()> {
         if self.count < front.len() {
             return self.write(&front[self.count..]);
@@ -82,8 +83,8 @@ impl HeldPart {
         Ok(())
     }
 
-    /// Appends all that is not held of these first bytes of the file, and syncs it to disk. If that fails, it holds what
-    /// it held before, if that is possible.
+    /// Appends all of these first bytes that are not held yet, and syncs the partial file to disk. If that fails,
+    /// truncates it to its old length, if possible.
     pub(crate) fn finish(&mut self, bytes: &[u8]) -> io::Result<()> {
         let before = self.file.metadata()?.len();
         let written = self.write_rest(bytes);
@@ -98,7 +99,7 @@ impl HeldPart {
         self.file.sync_all()
     }
 
-    /// Returns whether it held nothing when it was opened, and nothing was appended to it.
+    /// Returns whether it held nothing when it was opened, and `append` has added nothing.
     pub(crate) fn is_empty(&self) -> bool {
         self.count == 0
     }
@@ -115,7 +116,8 @@ fn rest_of(bytes: &[u8], count: usize) -> &[u8] {
     &bytes[count.min(bytes.len())..]
 }
 
-/// Returns how many bytes the regular file at `path` holds after this line, with which it begins.
+/// Returns the number of bytes that the regular file at `path` has after this line. It is an error if the file doesn't
+/// begin with the line.
 fn count_in<A: Allocator, R: Files>(alloc: A, rt: &R, path: &str, line: &[u8]) -> io::Result<u64> {
     let found = fs::symlink_metadata(rt, path)?;
     let Some(count) = found.len().checked_sub(line.len() as u64) else {

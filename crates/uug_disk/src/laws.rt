@@ -7,10 +7,10 @@ ghost use Rattle.uug_disk.specs.declared.queued_line.TheConstants.{APPENDS_MAX};
 ghost use Rattle.uug_disk.specs.declared.send_folder.TheConstants.{FILES_MAX, GIVEN_MODE, TEXT_MAX};
 ghost use Rattle.uug_disk.specs.declared.system_folder.TheConstants.{FOLDERS_MAX};
 
-/// States the value of each limit: the files that a folder of `pair` has to give, those that an end of `call` and
-/// `answer` gives beside the ones of its jobs, and the mode of each of them; the bytes of a text; the folders in `got`
-/// that are noted; the names of incomplete files that may be in use in a row; the names that are tried for a copy of a
-/// queued file; and the files that may replace `jobs` in a row while a job is appended.
+/// States the value of each limit: the files to give in a folder of `pair`; the files that an end of `call` or `answer`
+/// gives besides those of its jobs; the mode of each given file; the bytes of a text; the folders in `got` whose names
+/// are barred; the names that are tried for an incomplete file; the names that are tried for a copy of a queued file;
+/// and the files that may replace `jobs` in a row while a job is appended.
 pub fn limits()
     ensures files { FILES_MAX ≡ 256 }
     ensures others { OTHERS_MAX ≡ 256 }

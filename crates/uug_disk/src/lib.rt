@@ -1,5 +1,6 @@
-//! The folder of an end on a disk: its lock, its jobs and its number, the files that it gives and takes, files that are
-//! replaced as a whole, trials of what is written there, and jobs that a person queues. Also the lock files of devices.
+//! The folder of an end on disk: its lock, jobs and number, the files that it gives and receives, files that are
+//! replaced as a whole, checks that a session can write there, and jobs that a person queues. Also the lock files of
+//! devices.
 #![tactic(auto)]
 
 mod atomic_file;

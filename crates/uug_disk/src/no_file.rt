@@ -4,7 +4,7 @@ use std::alloc::Allocator;
 use uug_folder::{FolderFailed, TextFile};
 use uug_stream::ToolFault;
 
-/// The file of the number of an end that keeps none. It is empty, and remains empty.
+/// The number file of an end that keeps no number. It is always empty.
 #[derive(Drop)]
 pub struct NoFile;
 

@@ -21,7 +21,7 @@ pub struct OpenJobs<'a, R: Files, A: Allocator> {
     pub ghost read: { IsQueueOf file.before.items queue },
 }
 
-/// Reads the jobs in the folder of an end, with its lock. A folder without a file of them has none.
+/// Reads the jobs in the folder of an end, which is locked. If the file of the jobs is missing, there are none.
 pub fn open_jobs<'a, A: Allocator + Copy, R: Files>(
     alloc: A,
     rt: &'a R,

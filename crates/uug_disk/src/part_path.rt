@@ -1,4 +1,4 @@
-//! Paths of files of the system that are not complete yet.
+//! Paths of files that are not complete yet.
 ghost use Rattle.std.specs.Fs.{dir_entry_name};
 ghost use Rattle.std.specs.Prelude.{◌≡◌, true};
 ghost use Rattle.uug_disk.specs.Parts.{is_part};
@@ -9,7 +9,7 @@ use std::io::ErrorKind;
 use std::rt::Files;
 use std::{fs, io};
 
-/// The beginning of the name of an incomplete file.
+/// The prefix of the name of an incomplete file.
 pub(crate) const PART_FRONT: &str = ".part.";
 
 /// Returns whether a name is that of an incomplete file.
@@ -19,21 +19,22 @@ pub(crate) fn is_part(name: &str) -> bool
     name.starts_with(PART_FRONT)
 }
 
-/// Removes an incomplete file. One that can't be removed is in nobody's way.
+/// Removes an incomplete file. Ignores one that can't be removed: it does no harm.
 pub(crate) fn remove_part<R: Files, A: Allocator>(rt: &R, entry: &DirEntry<R, A>)
     requires { is_part (dir_entry_name entry.now) ≡ true }
 {
     let _ = fs::remove_file(rt, entry.path().as_str());
 }
 
-/// The maximum number of names in a row that may be in use.
+/// The maximum number of names that are tried for a file.
 const TRIES_MAX: u32 = 1000;
 
-/// The maximum number of bytes of a count.
+/// The maximum number of digits of a count.
 const COUNT_LEN: usize = 20;
 
-/// The paths in a folder of incomplete files: `.part.`, the number of this process, and a count. A file is created only
-/// if there is none of that name. Nobody else's is thus written, no link is followed and no pipe is opened.
+/// The paths of incomplete files in a folder. Their names are `.part.`, the number of this process, a dot and a count.
+/// A file is created only if its name is free, so nobody else's file is overwritten, no link is followed and no pipe is
+/// opened.
 #[derive(Drop)]
 pub(crate) struct PartPath<A: Allocator> {
     /// The path before the count.
@@ -44,7 +45,7 @@ pub(crate) struct PartPath<A: Allocator> {
 }
 
 impl<A: Allocator + Copy> PartPath<A> {
-    /// Prepares paths in the folder `dir`. All memory for its calls is allocated here.
+    /// Prepares paths in the folder `dir`. Allocates all memory that later calls need.
     pub(crate) fn new<R: Files>(alloc: A, rt: &R, dir: &str) -> Result<Self, AllocError> {
         let process = process_text(alloc, rt)?;
         let front = format!(in alloc; "{dir}/{PART_FRONT}{process}.")?;
@@ -59,7 +60,7 @@ impl<A: Allocator + Copy> PartPath<A> {
 }
 
 impl<A: Allocator> PartPath<A> {
-    /// Creates a file under the next name that none has.
+    /// Creates a file under the next free name.
     pub(crate) fn create<R: Files>(&mut self, rt: &R) -> io::Result<R::File> {
         for _ in 0..TRIES_MAX {
             self.take_next()?;
@@ -76,7 +77,7 @@ impl<A: Allocator> PartPath<A> {
         self.path.as_str()
     }
 
-    /// Goes on to the next name.
+    /// Sets the path to that with the next count.
     fn take_next(&mut self) -> Result<(), AllocError> {
         let front = self.front.as_str();
         let count = self.count;
@@ -87,7 +88,7 @@ impl<A: Allocator> PartPath<A> {
     }
 }
 
-/// Returns the number of this process, if the system reports it as a path, else `self`.
+/// Returns the number of this process, to which `/proc/self` leads, or `self` if that can't be read.
 pub(crate) fn process_text<A: Allocator + Copy, R: Files>(
     alloc: A,
     rt: &R,

@@ -1,4 +1,4 @@
-//! The folder in which an end holds the first bytes of files that were cut off, a file for each.
+//! The folder of an end's partial files. Each holds the first bytes of a file that was cut off.
 ghost use Rattle.std.specs.Fs.{dir_entry_name};
 ghost use Rattle.std.specs.Char.{is_ascii_hexdigit};
 ghost use Rattle.std.specs.List.{list_all};
@@ -19,16 +19,16 @@ use uug_folder::{Allowance, HELD_LINE_MAX, into_partial};
 use uug_session::{PartialFile, Partials};
 use uug_talk::{FILE_LIMIT_MAX, FileDigest, NamedDigest};
 
-/// The length of the name of such a file: a digest in hexadecimal digits.
+/// The length of a partial file's name: a digest in hexadecimal digits.
 const DIGITS: usize = 64;
 
-/// The maximum number of bytes of such a file: a line, and the bytes of a file.
+/// The maximum number of bytes of a partial file: a line, and the bytes of a file.
 const PARTIAL_MAX: usize = HELD_LINE_MAX + FILE_LIMIT_MAX;
 
 /// The seconds of a day.
 const DAY: u64 = 86_400;
 
-/// Returns whether a name is that of such a file.
+/// Returns whether a name is that of a partial file.
 pub(crate) fn is_partial(name: &str) -> bool
     ensures { result ≡ is_partial name.now }
 {
@@ -41,9 +41,9 @@ fn are_digits(name: &[u8]) -> bool
     name.iter().all(|b| b.is_ascii_hexdigit())
 }
 
-/// Reads the files that an end holds in the folder at `path`, as many as this allowance lets it hold. Removes what it
-/// has no room for, what has not grown for too many days, and incomplete files that killed runs left. What can't be
-/// read is not held. Without a folder there, or with a link to one, nothing is held.
+/// Reads the partial files in the folder at `path`, as many as this allowance permits. Removes those for which there is
+/// no room, those that have not grown for too many days, and incomplete files that killed runs left. Skips files that
+/// can't be read. There are none if no folder is at `path`, or only a link to one.
 pub fn read_partials<A: Allocator + Copy, R: Files + Clock + Alloc + Clone + Drop>(
     alloc: A,
     rt: &R,
@@ -70,7 +70,7 @@ pub fn read_partials<A: Allocator + Copy, R: Files + Clock + Alloc + Clone + Dro
     Ok(held)
 }
 
-/// Returns the entries of the folder at `path`.
+/// Returns the entries of the folder at `path`. A link to a folder is an error.
 pub(crate) fn entries_in<R: Files + Alloc + Clone + Drop>(
     rt: &R,
     path: &str,
@@ -79,7 +79,7 @@ pub(crate) fn entries_in<R: Files + Alloc + Clone + Drop>(
     fs::read_dir(rt, path)
 }
 
-/// Checks that a folder is at `path`, and not a link to one: a link could lead to the files of others.
+/// Checks that a folder is at `path`, and not a link, which could lead to the files of others.
 pub(crate) fn see_no_link<R: Files>(rt: &R, path: &str) -> io::Result<()> {
     if fs::symlink_metadata(rt, path)?.is_dir() {
         Ok(())
@@ -88,7 +88,7 @@ pub(crate) fn see_no_link<R: Files>(rt: &R, path: &str) -> io::Result<()> {
     }
 }
 
-/// Returns what an entry of that folder holds, if it is such a file. Its bytes are taken from what is left.
+/// Reads an entry of that folder, if it is a partial file that is to be read. Takes its size from the room.
 fn read_entry<A: Allocator + Copy, R: Files + Clock + Drop, B: Allocator>(
     alloc: A,
     rt: &R,
@@ -108,8 +108,9 @@ fn read_entry<A: Allocator + Copy, R: Files + Clock + Drop, B: Allocator>(
     }
 }
 
-/// Returns whether such a file is to be read: a regular one, for which there is room. Removes it if there is none, or it
-/// is too old.
+/// Returns whether a partial file is to be read: a regular file for which there is room, and which is not too old.
+/// Removes a regular file for which there is no room, or which is too old. Takes the size of one to be read from the
+/// room.
 fn is_of_use<R: Files + Clock + Drop, B: Allocator>(
     rt: &R,
     entry: &DirEntry<R, B>,
@@ -135,9 +136,9 @@ fn is_of_use<R: Files + Clock + Drop, B: Allocator>(
     Ok(true)
 }
 
-/// Holds what is left of a file in the folder at `path` for the next session. What that folder has of it stays, and the
-/// rest is appended and synced to disk; if it has more, it is replaced. A missing folder is created. After an error the
-/// next session begins with what stayed.
+/// Saves the first bytes of a file that was cut off in the folder at `path`, for the next session. Bytes that are there
+/// already stay, and the rest is appended and synced to disk; if more are there than these, they are replaced. Creates
+/// a missing folder. After an error the next session resumes from the bytes that stayed.
 pub fn hold_partial<A: Allocator + Copy, R: Files<File = File>>(
     alloc: A,
     rt: &R,
@@ -157,7 +158,7 @@ pub fn hold_partial<A: Allocator + Copy, R: Files<File = File>>(
     }
 }
 
-/// Holds these first bytes of a file. If that fails, no file that holds nothing is left.
+/// Saves these first bytes of a file. If that fails, leaves no partial file behind that holds nothing.
 fn hold_bytes<A: Allocator + Copy, R: Files<File = File>>(
     alloc: A,
     rt: &R,
@@ -173,7 +174,8 @@ fn hold_bytes<A: Allocator + Copy, R: Files<File = File>>(
     held
 }
 
-/// Removes the files in the folder at `path` with these digests, which are over. What can't be removed is held on.
+/// Removes the partial files of these digests from the folder at `path`, as they are no longer needed. Files that can't
+/// be removed stay.
 pub fn drop_partials<A: Allocator + Copy, R: Files>(
     alloc: A,
     rt: &R,
@@ -198,7 +200,7 @@ fn remove_held<R: Files>(rt: &R, path: &str) -> io::Result<()> {
     Ok(())
 }
 
-/// Returns the path of the file in which one with this digest is held.
+/// Returns the path of the partial file of a file with this digest.
 pub(crate) fn path_of<A: Allocator + Copy>(
     alloc: A,
     path: &str,

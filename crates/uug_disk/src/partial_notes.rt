@@ -1,4 +1,4 @@
-//! Writes down what comes of a file, as it comes, so that it isn't lost if the end is killed.
+//! Saves the bytes of a file as they arrive, so that the next session can resume the file if the end is killed.
 
 use crate::held_part::{HeldPart, STEP};
 use crate::partial_folder::drop_partials;
@@ -8,26 +8,26 @@ use std::rt::Files;
 use uug_folder::Notebook;
 use uug_talk::{FileDigest, Name, NamedDigest};
 
-/// The folder at a path in which an end holds the first bytes of files that were cut off.
+/// The notebook over an end's folder of partial files.
 #[derive(Drop)]
 pub struct PartialNotes<'a, R, A: Allocator> {
     alloc: A,
     rt: &'a R,
     path: String<A>,
-    /// The file that comes, once something of it was to be written down.
+    /// The file that is arriving, once there were bytes of it to save.
     growing: Option<Growing>,
 }
 
-/// A file that comes.
+/// A file that is arriving.
 #[derive(Drop)]
 struct Growing {
     told: FileDigest,
-    /// What is written of it, unless that has failed.
+    /// Its partial file, unless writing that has failed.
     part: Option<HeldPart>,
 }
 
 impl<'a, R: Files<File = File>, A: Allocator + Copy> PartialNotes<'a, R, A> {
-    /// Makes the notebook of the folder at `path`. Nothing is written yet.
+    /// Creates the notebook over the folder at `path`. Writes nothing yet.
     pub fn new(alloc: A, rt: &'a R, path: String<A>) -> Self {
         PartialNotes {
             alloc,
@@ -37,7 +37,7 @@ impl<'a, R: Files<File = File>, A: Allocator + Copy> PartialNotes<'a, R, A> {
         }
     }
 
-    /// Returns this file, of which `held` bytes came before this session.
+    /// Opens this file's partial file. `held` bytes of the file arrived before this session.
     fn growing(&self, source: &Name, told: &FileDigest, held: usize) -> Growing {
         let named = NamedDigest {
             name: *source,
@@ -73,7 +73,7 @@ impl<R: Files<File = File>, A: Allocator + Copy> Notebook for PartialNotes<'_, R
 }
 
 impl Growing {
-    /// Appends what has come since. Once that has failed nothing more is written.
+    /// Appends bytes that have arrived since. After a failure nothing more is written.
     fn append(&mut self, front: &[u8], bytes: &[u8]) {
         if let Some(part) = &mut self.part {
             if part.append(front, bytes).is_err() {

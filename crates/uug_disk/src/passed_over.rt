@@ -1,4 +1,4 @@
-//! The words about files that are not given.
+//! The lines that report files that are not given.
 ghost use Rattle.std.specs.Prelude.{◌≡◌, ◌<◌, ◌++◌, [], ◌∷◌, OnOk};
 ghost use Rattle.uug_disk.specs.Delayed.{with_delayed};
 ghost use Rattle.uug_failure.specs.Passing.{may_pass};
@@ -13,20 +13,20 @@ const LACKS: usize = 5;
 /// The reason why a file in `send` is not given.
 #[derive(Clone, Copy)]
 pub(crate) enum Lack {
-    /// Its name is no text.
+    /// Its name is not text.
     Text,
-    /// Its name is no `Name`.
+    /// Its name is not a `Name`.
     Name,
     /// It can't be read.
     Access,
-    /// There are as many others as may be given.
+    /// The maximum number of other files is given already.
     Room,
-    /// The others have as many bytes as may be given.
+    /// With it, the other files would have too many bytes.
     Bytes,
 }
 
 impl Lack {
-    /// Returns its place among the reasons.
+    /// Returns its index among the reasons.
     fn place(self) -> usize
         ensures { result < LACKS }
     {
@@ -39,7 +39,7 @@ impl Lack {
         }
     }
 
-    /// Returns the text after the path. A name that is no text is not known, and the path is only the folder's.
+    /// Returns the text after the path. A name that is not text is unknown, and the path is then that of the folder.
     fn rest(self) -> &'static str {
         match self {
             Lack::Text => "/?",
@@ -47,7 +47,7 @@ impl Lack {
         }
     }
 
-    /// Returns the words about the file.
+    /// Returns the reason in words.
     fn words(self) -> &'static str {
         match self {
             Lack::Text => "its name is no text",
@@ -59,8 +59,8 @@ impl Lack {
     }
 }
 
-/// Keeps lines on which files in `send` are not given, and notes those that may be given later. For each reason one is
-/// named, and the others are counted. A line for which there is no memory is left out.
+/// The report of files in `send` that are not given, and the names of those that may be given later. The report names
+/// the first file for each reason, and counts the others. A line for which there is no memory is left out.
 #[derive(Drop)]
 pub(crate) struct PassedOver<'a, A: Allocator> {
     alloc: A,
@@ -68,7 +68,7 @@ pub(crate) struct PassedOver<'a, A: Allocator> {
     send: &'a str,
     /// The lines.
     pub(crate) lines: Vec<String<A>, A>,
-    /// The numbers of the files, by the reasons.
+    /// The number of files for each reason.
     counts: [u64; LACKS],
     /// The names of the files that may be given later.
     pub(crate) delayed: Vec<Name, A>,
@@ -86,8 +86,8 @@ impl<'a, A: Allocator + Copy> PassedOver<'a, A> {
         }
     }
 
-    /// Counts a file at this path that is not given, and keeps a line about the first one for each reason. Parts of the
-    /// path that can't be seen are escaped.
+    /// Counts a file at this path that is not given, and adds a line for the first one of each reason. Characters of
+    /// the path that don't print are escaped.
     pub(crate) fn note(&mut self, lack: Lack, path: &str)
         ensures { self.new.delayed ≡ self.old.delayed }
     {
@@ -127,13 +127,13 @@ impl<'a, A: Allocator + Copy> PassedOver<'a, A> {
         Ok(())
     }
 
-    /// Notes that a file is not given because its name is no text.
+    /// Notes that a file is not given because its name is not text.
     pub(crate) fn note_no_text(&mut self) {
         let send = self.send;
         self.note(Lack::Text, send);
     }
 
-    /// Keeps a line, if there is memory for it.
+    /// Adds a line, if there is memory for it.
     fn keep(&mut self, line: Result<String<A>, AllocError>)
         ensures { self.new.delayed ≡ self.old.delayed }
     {
@@ -142,7 +142,7 @@ impl<'a, A: Allocator + Copy> PassedOver<'a, A> {
         }
     }
 
-    /// Keeps a line on how many more files in the folder are not given.
+    /// Adds a line with the number of further files that are not given, if there are any.
     pub(crate) fn count_rest(&mut self)
         ensures { self.new.delayed ≡ self.old.delayed }
     {

@@ -1,4 +1,4 @@
-//! Pipes, which are not opened to be written: that waits for a reader.
+//! Pipes, which are not opened for writing: that would wait for a reader.
 ghost use Rattle.std.specs.Prelude.{◌≡◌};
 ghost use Rattle.uug_disk.specs.Pipes.{is_of_process};
 
@@ -12,8 +12,8 @@ use std::rt::Files;
 /// The maximum number of links in a row that are followed, as many as Linux follows.
 const LINKS_MAX: u32 = 40;
 
-/// Returns whether there is a pipe at a path that a folder has. One that a process holds open, to which `/dev/stdout` and
-/// `/proc/self/fd/1` may lead, is none.
+/// Returns whether there is a named pipe at a path. A pipe that a process holds open, to which `/dev/stdout` and
+/// `/proc/self/fd/1` may lead, does not count.
 pub fn is_named_pipe<A: Allocator + Copy, R: Files>(
     alloc: A,
     rt: &R,
@@ -32,7 +32,7 @@ pub fn is_named_pipe<A: Allocator + Copy, R: Files>(
     Ok(is_pipe(rt, place.as_str()))
 }
 
-/// Returns whether there is a pipe at a path, at the end of links too.
+/// Returns whether there is a pipe at a path. Follows links.
 pub(crate) fn is_pipe<R: Files>(rt: &R, path: &str) -> bool {
     match fs::metadata(rt, path) {
         Ok(metadata) => metadata.file_type().is_fifo(),
@@ -40,7 +40,7 @@ pub(crate) fn is_pipe<R: Files>(rt: &R, path: &str) -> bool {
     }
 }
 
-/// Returns whether a path is of what a process holds open.
+/// Returns whether a path is that of a file that a process holds open.
 fn is_of_process(path: &str) -> bool
     ensures { result ≡ is_of_process path.now }
 {

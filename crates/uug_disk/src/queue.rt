@@ -1,4 +1,4 @@
-//! Jobs that a person queues, also while sessions run over the same folder, and the list of jobs that wait.
+//! Queues jobs for a person, also while sessions run over the same folder, and lists the pending jobs.
 ghost use Rattle.std.specs.Prelude.{◌≡◌, IfErr, IfOk, Some, string_bytes};
 ghost use Rattle.uug_folder.specs.Queueing.{ordered, shown_text, target_with, user_with};
 ghost use Rattle.uug_failure.specs.Faults.{IsQueueFault, IsReadingFault};
@@ -22,16 +22,16 @@ use uug_session::Job;
 use uug_stream::{Output, write_all};
 use uug_talk::Name;
 
-/// The words of a person who queues a job.
+/// The arguments of the command `queue`.
 #[derive(Clone, Copy, Debug, PartialEq, Eq)]
 pub struct QueueTask<'a> {
     /// The folder of the end.
     pub dir: &'a str,
-    /// The order for the file: `send` or `request`. Without it the jobs that wait are listed.
+    /// The order for the file: `send` or `request`. Without it the pending jobs are listed.
     pub order: Option<&'a str>,
     /// The path of the file to send, or the name of the one to request.
     pub file: Option<&'a str>,
-    /// The name that it is to have at its destination.
+    /// The name that the file is to have at its destination.
     pub target: Option<&'a str>,
     /// The user who queues it.
     pub user: Option<&'a str>,
@@ -87,9 +87,9 @@ impl From<AllocError> for QueueFault {
     }
 }
 
-/// Lists the jobs that wait in the folder of an end, or queues one more. A file that is sent is copied into `send`,
-/// under its own name or one with a number. The job is appended to `jobs`, whether a session runs or not. A line says
-/// which one it is. Returns its target if another job sends a file there.
+/// Lists the pending jobs in the folder of an end, or queues another one. A file to send is copied into `send`, under
+/// its own name or one with a number. The job is appended to `jobs`, whether a session runs or not, and printed as a
+/// line. Returns its target if another job sends another file there.
 pub fn queue_run<A, R, O>(
     alloc: A,
     rt: &R,
@@ -100,7 +100,7 @@ where
     A: Allocator + Copy,
     R: Files<File = File> + Env + Alloc + Clone + Drop,
     O: Output,
-    // A device fault always says which call it was.
+    // A device fault always names the call that failed.
     ensures { IfErr result (IsFaultOfQueue task.now.order) }
 {
     match task.order {
@@ -148,7 +148,7 @@ fn list_of<A: Allocator + Copy>(alloc: A, text: &[u8]) -> Result<String<A>, RunF
     Ok(write_jobs(alloc, queue.pending())?)
 }
 
-/// Queues the job that a person orders. Returns its target if another job sends a file there.
+/// Queues the job that a person orders. Returns its target if another job sends another file there.
 fn queue_order<A, R, O>(
     alloc: A,
     rt: &R,
@@ -166,11 +166,11 @@ where
     let job = job_of(task, order, user)?;
     let queued = queue_job(alloc, rt, task, &job)?;
     show_queued(alloc, &queued, output)?;
-    // Jobs that can't be read again are passed over.
+    // If the jobs can't be read again, no other job is reported.
     Ok(rival_of(alloc, rt, task.end_dir(), &queued).unwrap_or(None))
 }
 
-/// Writes which job was queued, as a line.
+/// Writes the queued job, as a line.
 fn show_queued<A: Allocator, O: Output>(
     alloc: A,
     queued: &Job,
@@ -183,7 +183,7 @@ fn show_queued<A: Allocator, O: Output>(
     Ok(())
 }
 
-/// Returns the target of a job that was queued, if another job sends a file there.
+/// Returns the target of a queued job, if another job sends another file there.
 fn rival_of<A: Allocator + Copy, R: Files>(
     alloc: A,
     rt: &R,
@@ -237,8 +237,8 @@ fn is_rival(source: &Name, target: &Name, job: &Job) -> bool
     }
 }
 
-/// Returns the job that is ordered. The source of one that sends is the name of the file, under which it is not in
-/// `send` yet.
+/// Returns the ordered job. The source of a job that sends is the file's own name. The copy in `send` may get another
+/// one.
 fn job_of(task: &QueueTask<'_>, order: &str, user: Name) -> Result<Job, OrderFault>
     ensures { result ≡ ordered order.now (word_or_empty task.now.file)
         (target_with (word_in task.now.target) (word_or_empty task.now.file))
@@ -263,7 +263,7 @@ fn bytes_of(word: Option<&str>) -> Option<&[u8]>
     }
 }
 
-/// Returns the user who queues a job, if none is named: the one that the system names.
+/// Returns the user of a job if none is named: by the variables `USER` and `LOGNAME`, or else `uucp`.
 fn user_at<R: Env + Alloc>(rt: &R) -> Result<Name, AllocError> {
     let user = variable(rt, "USER")?;
     let login = variable(rt, "LOGNAME")?;
@@ -273,7 +273,7 @@ fn user_at<R: Env + Alloc>(rt: &R) -> Result<Name, AllocError> {
     ))
 }
 
-/// Returns the text of a variable of the system, if it has one.
+/// Returns the value of an environment variable, if it is set and is text.
 fn variable<R: Env + Alloc>(rt: &R, name: &str) -> Result<Option<String<R::A>>, AllocError> {
     match env::var(rt, name) {
         Ok(text) => Ok(Some(text)),
@@ -282,8 +282,7 @@ fn variable<R: Env + Alloc>(rt: &R, name: &str) -> Result<Option<String<R::A>>, 
     }
 }
 
-/// Queues a job in the folder of the task. Returns the job as it was queued: the source of one that sends is the name
-/// of its copy.
+/// Queues a job in the folder of the task. Returns the job as queued: if it sends, its source is the name of the copy.
 fn queue_job<A, R>(alloc: A, rt: &R, task: &QueueTask<'_>, job: &Job) -> Result<Job, RunFault>
 where
     A: Allocator + Copy,
@@ -299,7 +298,7 @@ where
     }
 }
 
-/// Puts a copy of the file of a job into `send`, and appends the job. Nobody else queues during that.
+/// Copies the file of a job into `send`, and appends the job. `send` is locked meanwhile, so nobody else queues a file.
 fn queue_copy<A, R>(
     alloc: A,
     rt: &R,
@@ -320,7 +319,7 @@ where
     queued
 }
 
-/// Does the same while `send` is locked. The copies of jobs that are over go where they belong first.
+/// Does the same while `send` is locked. First puts the copies of jobs that are over where they belong.
 fn queue_copy_alone<A, R>(
     alloc: A,
     rt: &R,

@@ -22,11 +22,11 @@ use uug_session::Job;
 use uug_stream::ToolFault;
 use uug_talk::{FILE_LIMIT_MAX, Name};
 
-/// The text before a copy's name in the name of its mark. The mark is another name of the same file, and shows that it
-/// is a copy of ours.
+/// The prefix of a mark's name, before the name of the copy. The mark is a hard link to the copy, and shows that the
+/// copy is ours.
 pub(crate) const COPY_FRONT: &str = ".copy.";
 
-/// The folder of the copies whose jobs have failed. It is beside the file `failed`, which lists these jobs.
+/// The folder with the copies of failed jobs. It is beside the file `failed`, which lists these jobs.
 pub(crate) const FAILED_FILES: &str = "failed.files";
 
 /// The maximum number of names that are tried for a copy.
@@ -48,7 +48,7 @@ pub(crate) fn read_copied<A: Allocator + Copy, R: Files>(
     }
 }
 
-/// Returns the fault that a file can't be read.
+/// Returns the fault of a file that can't be read.
 pub(crate) fn unread(error: &io::Error) -> RunFault
     ensures { IsCopyFault result }
 {
@@ -67,12 +67,12 @@ fn unread_for(cause: Cause) -> RunFault
     RunFault::Unread(SystemFailure::on(Resource::Input, cause))
 }
 
-/// Returns whether an error is not the system's, but says that there is no regular file.
+/// Returns whether an error is not the system's, but means that there is no regular file.
 fn is_no_file(error: &io::Error) -> bool {
     error.kind() == ErrorKind::InvalidInput && error.raw_os_error().is_none()
 }
 
-/// Returns the bytes of a regular file, or `None` if they are more than `FILE_LIMIT_MAX`. Nothing else is opened: a pipe
+/// Returns the bytes of a regular file, or `None` if they are more than `FILE_LIMIT_MAX`. Opens nothing else: a pipe
 /// would wait for a writer.
 fn read_regular<A: Allocator + Copy, R: Files>(
     alloc: A,
@@ -98,7 +98,7 @@ pub(crate) struct Copied<A: Allocator> {
     pub(crate) name: Name,
     path: String<A>,
     mark: String<A>,
-    /// The path to which it goes when its job has failed.
+    /// The path to which it moves when its job has failed.
     aside: String<A>,
 }
 
@@ -110,20 +110,21 @@ impl<A: Allocator> Copied<A> {
         }
     }
 
-    /// Marks it as ours: the name of the incomplete file becomes that of the mark.
+    /// Marks it as ours: renames the incomplete file, which is a link to it, to its mark. If that fails, removes the
+    /// incomplete file, and the copy stays without a mark.
     fn mark<R: Files>(&self, rt: &R, part: &str) {
         if fs::rename(rt, part, self.mark.as_str()).is_err() {
             let _ = fs::remove_file(rt, part);
         }
     }
 
-    /// Returns whether it is still the file of its mark.
+    /// Returns whether it and its mark are still the same file.
     fn is_marked<R: Files>(&self, rt: &R) -> io::Result<bool> {
         is_same(rt, self.path.as_str(), self.mark.as_str())
     }
 
-    /// Removes it, if it is still the file of its mark, and then the mark. None of the jobs that wait needs it. A copy
-    /// that can't be removed or looked at keeps its mark, so the next run removes it.
+    /// Removes it, if it and its mark are still the same file, and then the mark. No pending job may send it. A copy
+    /// that can't be removed or checked keeps its mark, so the next run removes it.
     pub(crate) fn clear<R: Files>(&self, rt: &R, _waiting: &[Job])
         requires { is_needed_by self.now.name _waiting.now ≡ false }
     {
@@ -136,8 +137,8 @@ impl<A: Allocator> Copied<A> {
         }
     }
 
-    /// Moves it to the files of failed jobs below this folder of an end. It is on disk there before it is removed here.
-    /// If that can't be done, or another file has its name there, it stays. None of the jobs that wait needs it.
+    /// Moves it to the files of failed jobs in this folder of an end. It is on disk there before it is removed here. If
+    /// it can't be linked there, or another file has its name there, it stays. No pending job may send it.
     pub(crate) fn set_aside<R: Files>(
         &self,
         rt: &R,
@@ -152,7 +153,7 @@ impl<A: Allocator> Copied<A> {
         }
     }
 
-    /// Gives it its name among the files of failed jobs. A missing folder is created.
+    /// Links it into the folder of the files of failed jobs, and syncs that. Creates a missing folder.
     fn link_aside<R: Files>(&self, rt: &R, front: &str, failed_files: &str) -> io::Result<()> {
         let mark = self.mark.as_str();
         let aside = self.aside.as_str();
@@ -172,10 +173,10 @@ impl<A: Allocator> Copied<A> {
     }
 }
 
-/// Puts a copy with these bytes into `send`, under this name or the first with a number that is free. A name is free if
-/// no file there, or with those of failed jobs, has it. No job that waits may have it either, nor one that the text
-/// `failed` lists. None of these is thus ever sent this file. Nothing is overwritten, and an incomplete file has
-/// another name.
+/// Puts a copy with these bytes into `send`, under the name `base` or the first free one with a number. A name is free
+/// if no file in `send` or among those of failed jobs has it, and `is_taken` is false for it. So no pending job ever
+/// sends this copy instead of its own file. Nor does a job that the text `failed` lists, unless its source is written
+/// with `~/` or `/` before the name. Overwrites nothing. Until the copy is complete, it has another name.
 pub(crate) fn place_copy<A: Allocator + Copy, R: Files + Alloc + Clone + Drop>(
     alloc: A,
     rt: &R,
@@ -210,7 +211,7 @@ pub(crate) fn place_copy<A: Allocator + Copy, R: Files + Alloc + Clone + Drop>(
     }
 }
 
-/// Writes a file that has no name of its own yet, and syncs it to disk.
+/// Writes a new incomplete file, and syncs it to disk. Removes it if that fails.
 fn write_part<A: Allocator, R: Files>(
     rt: &R,
     part: &mut PartPath<A>,
@@ -229,7 +230,7 @@ fn write_part<A: Allocator, R: Files>(
     }
 }
 
-/// Gives the file at `part` the first name that is free.
+/// Links the file at `part` to the first free name.
 fn link_free<A: Allocator + Copy, R: Files>(
     alloc: A,
     rt: &R,
@@ -259,7 +260,7 @@ fn link_free<A: Allocator + Copy, R: Files>(
     Err(RunFault::of(&taken, dir, Resource::Given(*base)))
 }
 
-/// Returns whether there is anything at a path, as far as that can be seen.
+/// Returns whether there is anything at a path, as far as the system shows it.
 fn is_there<R: Files>(rt: &R, path: &str) -> bool {
     fs::symlink_metadata(rt, path).is_ok()
 }
@@ -282,7 +283,7 @@ pub(crate) fn copied_as<A: Allocator + Copy>(
     })
 }
 
-/// Returns the path of a file with those of failed jobs, below the folder of an end.
+/// Returns the path of a file among those of failed jobs, in the folder of an end.
 pub(crate) fn path_with_failed<A: Allocator + Copy>(
     alloc: A,
     dir: EndDir<'_>,
@@ -311,7 +312,7 @@ fn is_same<R: Files>(rt: &R, path: &str, other: &str) -> io::Result<bool> {
     Ok(file.dev() == other.dev() && file.ino() == other.ino())
 }
 
-/// Returns whether a file is gone once the system has answered to its removal.
+/// Returns whether a file is gone, by the result of its removal.
 fn is_gone(removed: io::Result<()>) -> bool
     ensures removed { IfOk removed (λ _. result ≡ true) }
     ensures missing { IfErr removed (λ error.

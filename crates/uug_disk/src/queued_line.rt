@@ -1,4 +1,4 @@
-//! A job that is appended to `jobs`, also while sessions remove others from it.
+//! Appends a job to `jobs`, also while sessions remove others from it.
 ghost use Rattle.std.specs.Prelude.{IfErr, IfOk};
 ghost use Rattle.uug_folder.specs.JobsText.{IsJobsFault, IsQueueOf, jobs_of};
 ghost use Rattle.uug_failure.specs.Failures.{fault_of_run};
@@ -23,8 +23,8 @@ use uug_stream::ToolFault;
 pub(crate) const APPENDS_MAX: u32 = 1000;
 
 /// Appends a job to `jobs` in the folder of an end, and syncs it to disk. The sessions of this program hold the same
-/// lock while they replace `jobs`. If anyone else replaces it, the new file is looked at, and the job is appended again
-/// if it is not there.
+/// lock while they replace `jobs`. If anyone else replaces it, reads the new file, and appends the job again if it is
+/// missing.
 pub(crate) fn add_job<A: Allocator + Copy, R: Files<File = File>>(
     alloc: A,
     rt: &R,
@@ -54,7 +54,8 @@ pub(crate) fn add_job<A: Allocator + Copy, R: Files<File = File>>(
     Err(RunFault::of(&failed, dir, Resource::Text(EndText::Jobs)))
 }
 
-/// Returns the file of the jobs, locked, or `None` if another one took its place meanwhile. A missing file is created.
+/// Opens the file of the jobs, and locks it. Returns `None` if another file replaced it meanwhile. Creates a missing
+/// file.
 fn lock_jobs<R: Files<File = File>>(
     rt: &R,
     dir: EndDir<'_>,
@@ -73,7 +74,7 @@ fn lock_jobs<R: Files<File = File>>(
     }
 }
 
-/// Opens a file to append to, and waits for its lock.
+/// Opens a file for appending, and waits for its lock.
 fn open_locked<R: Files<File = File>>(rt: &R, path: &str) -> io::Result<File> {
     let file = OpenOptions::new().append(true).create(true).open(rt, path)?;
     file.lock()?;
@@ -124,7 +125,7 @@ fn has_job<A: Allocator + Copy>(alloc: A, text: &[u8], job: &Job) -> Result<bool
     Ok(is_among(queue.pending(), job))
 }
 
-/// Appends a job to the file of the jobs, which has this text, unless the text would then be bad or too long.
+/// Appends a job to the file of the jobs, which has this text. Fails if the text would then be bad or too long.
 fn append<A: Allocator + Copy, R: Files>(
     alloc: A,
     rt: &R,
@@ -146,7 +147,7 @@ fn append<A: Allocator + Copy, R: Files>(
     }
 }
 
-/// Checks that a text, with what is added to it, is one of jobs, and not too long.
+/// Checks that a text with this addition is one of jobs, and not too long.
 fn see_text<A: Allocator + Copy>(
     alloc: A,
     dir: EndDir<'_>,

@@ -1,4 +1,4 @@
-//! The files of an end's folder that somebody looks at while a session may run: nothing is locked or changed for it.
+//! Looks at files of an end's folder while a session may run. Locks and changes nothing.
 ghost use Rattle.std.specs.Prelude.{◌≡◌, ◌≤◌, IfErr, IfOk, length};
 ghost use Rattle.uug_disk.specs.Seen.{held_by};
 ghost use Rattle.uug_failure.specs.Faults.{IsCopyFault, IsFolderFault};
@@ -25,7 +25,7 @@ use uug_talk::Name;
 pub struct SeenFile {
     /// The number of its bytes.
     pub size: u64,
-    /// The seconds since it was written, if the clock gives them.
+    /// The seconds since it was last written, if they are known.
     pub age: Option<u64>,
 }
 
@@ -36,7 +36,7 @@ pub struct HeldFile {
     pub name: Name,
     /// The size of the whole file.
     pub whole: u32,
-    /// The bytes that are held, and the seconds since the last ones came.
+    /// The number of bytes that are held, and the seconds since the last ones were written.
     pub held: SeenFile,
 }
 
@@ -59,7 +59,7 @@ pub fn see_sent<A: Allocator + Copy, R: Files + Clock>(
     }
 }
 
-/// Returns what is at a path, if anything is.
+/// Returns the size and the age of what is at a path, if anything is.
 pub fn see_file<R: Files + Clock>(rt: &R, path: &str) -> Option<SeenFile> {
     let metadata = fs::metadata(rt, path).ok()?;
     Some(seen(rt, &metadata))
@@ -108,8 +108,8 @@ fn end_of<A: Allocator + Copy, R: Files<File = File>>(
     Ok(end)
 }
 
-/// Returns the files that an end holds in the folder at `path`, by their names. What can't be read is not held. Without
-/// a folder there, or with a link to one, nothing is held.
+/// Returns the files that an end holds in the folder at `path`, sorted by name. Skips files that can't be read. There
+/// are none if no folder is at `path`, or only a link to one.
 pub fn see_held<A: Allocator + Copy, R: Files + Clock + Alloc + Clone + Drop>(
     alloc: A,
     rt: &R,
@@ -130,7 +130,7 @@ pub fn see_held<A: Allocator + Copy, R: Files + Clock + Alloc + Clone + Drop>(
     Ok(held)
 }
 
-/// Returns what an entry of that folder holds, if it is such a file.
+/// Returns the file that an entry of that folder holds, if it is a partial file.
 fn see_entry<A: Allocator + Copy, R: Files + Clock + Drop, B: Allocator>(
     alloc: A,
     rt: &R,
@@ -149,7 +149,7 @@ fn see_entry<A: Allocator + Copy, R: Files + Clock + Drop, B: Allocator>(
     }
 }
 
-/// Returns the first bytes of a file, among which is its line.
+/// Returns the first bytes of a partial file, enough for its line.
 fn front_of<A: Allocator, R: Files>(alloc: A, rt: &R, path: &str) -> io::Result<Vec<u8, A>> {
     let mut front = Vec::new(alloc);
     let mut reader = File::open(rt, path)?.take(HELD_LINE_MAX as u64);
@@ -157,7 +157,7 @@ fn front_of<A: Allocator, R: Files>(alloc: A, rt: &R, path: &str) -> io::Result<
     Ok(front)
 }
 
-/// Returns the file that is held in a text of this size and age, of which these are the first bytes.
+/// Returns the file that is held in a text of this size and age. `front` has the first bytes of the text.
 fn held_by<A: Allocator>(front: Vec<u8, A>, text: SeenFile) -> Option<HeldFile>
     ensures { result ≡ held_by (length front.items) (partial_in front.items) text }
 {
@@ -174,7 +174,7 @@ fn held_by<A: Allocator>(front: Vec<u8, A>, text: SeenFile) -> Option<HeldFile>
     })
 }
 
-/// Returns the place of a file among others, which are in order.
+/// Returns the index at which a file belongs among others, which are sorted.
 fn place_of(held: &[HeldFile], file: &HeldFile) -> usize
     ensures { result ≤ length held.now }
 {
@@ -186,7 +186,7 @@ fn place_of(held: &[HeldFile], file: &HeldFile) -> usize
     held.len()
 }
 
-/// Returns whether a file is listed before another one: by their names, and of one name by what is held.
+/// Returns whether a file is listed before another one. Files are sorted by name, and then by the number of bytes held.
 fn is_before(file: &HeldFile, other: &HeldFile) -> bool {
     match file.name.as_bytes().cmp(other.name.as_bytes()) {
         Ordering::Less => true,

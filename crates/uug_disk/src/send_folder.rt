@@ -1,4 +1,4 @@
-//! Reads the jobs in an end's folder at the start, and the files that it has to give.
+//! Reads the texts in an end's folder, and the files that an end of `pair` has to give.
 ghost use Rattle.std.specs.Prelude.{◌≡◌, ◌+◌, ◌<◌, ◌≤◌, IfOk, IfErr, IfSome, OnOk, length};
 ghost use Rattle.uug_failure.specs.Faults.{IsFolderFault};
 
@@ -25,8 +25,8 @@ pub const GIVEN_MODE: u16 = 0o644;
 /// The maximum number of bytes of a text in a folder, for example that of its jobs.
 pub const TEXT_MAX: usize = 16_777_216;
 
-/// Returns whether there is a regular file at a path. Links are followed. A link that leads nowhere has no file.
-/// Callers thus open no pipe, which would wait for a writer.
+/// Returns whether there is a regular file at a path. Follows links: one that leads nowhere has no file. Callers check
+/// this before they open a file, since opening a pipe would wait for a writer.
 pub(crate) fn is_file<R: Files>(rt: &R, path: &str) -> io::Result<bool> {
     match fs::metadata(rt, path) {
         Ok(metadata) => Ok(metadata.is_file()),
@@ -99,7 +99,7 @@ pub fn read_text<A: Allocator + Copy, R: Files>(
     read_text_at(alloc, rt, dir, which, path.as_str())
 }
 
-/// Reads the same from this path.
+/// Does the same with the file at this path.
 pub(crate) fn read_text_at<A: Allocator + Copy, R: Files>(
     alloc: A,
     rt: &R,
@@ -126,9 +126,10 @@ pub(crate) fn read_text_at<A: Allocator + Copy, R: Files>(
     }
 }
 
-/// Returns the files in the folder `send` below that of an end of a pair. A missing folder counts as empty. Files whose
-/// name is not a `Name`, and anything but a regular file, are skipped. A file of more than `FILE_MAX` bytes is skipped
-/// too, but counts among the `FILES_MAX`. A listing that a signal has ended is repeated.
+/// Returns the files in the folder `send` of an end of a pair. A missing folder counts as empty. Skips incomplete
+/// files, marks of copies, files whose name is text but not a `Name`, and anything but a regular file. Also skips a
+/// file of more than `FILE_MAX` bytes, but counts it among the `FILES_MAX`. A name that is not text is a failure.
+/// Repeats a listing that a signal has ended.
 pub fn read_send<A: Allocator + Copy, R: Files + Alloc + Clone + Drop>(
     alloc: A,
     rt: &R,
@@ -161,7 +162,7 @@ fn list_send<A: Allocator + Copy, R: Files + Alloc + Clone + Drop>(
     Ok(files)
 }
 
-/// Adds the files in the folder `send` below that of an end to `files`, which is empty.
+/// Adds the files in the folder `send` of an end to `files`, which is empty.
 fn add_sends<A: Allocator + Copy, R: Files + Alloc + Clone + Drop>(
     files: &mut Vec<Stored<A>, A>,
     alloc: A,
@@ -267,7 +268,7 @@ pub(crate) fn is_no_text(error: &io::Error) -> bool {
     error.kind() == ErrorKind::InvalidFilename
 }
 
-/// Returns the path of a file in the folder `send` below that of an end.
+/// Returns the path of a file in the folder `send` of an end.
 pub(crate) fn path_in_send<A: Allocator + Copy>(
     alloc: A,
     dir: EndDir<'_>,

@@ -1,4 +1,4 @@
-//! The copies of queued files, once jobs are over: they go where their jobs go.
+//! Moves or removes the copies of queued files once their jobs are over.
 ghost use Rattle.std.specs.Prelude.{IfErr};
 ghost use Rattle.uug_failure.specs.Faults.{IsFolderFault, IsReadingFault};
 
@@ -17,9 +17,9 @@ use uug_failure::{EndDir, EndText, Resource, RunFault};
 use uug_session::Job;
 use uug_talk::Name;
 
-/// Puts the copies in `send` where they belong when a session is over. The copy of a job that is done is removed, and
-/// that of a failed one goes to `failed.files`. If somebody queues at this moment, that run does it. What can't be done
-/// is left to the next run.
+/// Puts the copies in `send` where they belong after a session. The copy of a failed job is moved to `failed.files`. A
+/// copy that neither a pending nor a failed job sends is removed. If somebody queues a file at this moment, this is
+/// left to that run, or to a later one. A copy that can't be moved or removed is left to the next run.
 pub fn settle_copies<A: Allocator + Copy, R: Files<File = File> + Alloc + Clone + Drop>(
     alloc: A,
     rt: &R,
@@ -32,8 +32,8 @@ pub fn settle_copies<A: Allocator + Copy, R: Files<File = File> + Alloc + Clone 
     }
 }
 
-/// Does the same while `send` is locked. Nothing is moved if there is no file of jobs, as while somebody replaces it,
-/// or if it can't be read which jobs have failed.
+/// Does the same while `send` is locked. Does nothing if there is no file of jobs, as while somebody replaces it, or if
+/// the file of failed jobs can't be read.
 pub(crate) fn settle_now<A: Allocator + Copy, R: Files + Alloc + Clone + Drop>(
     alloc: A,
     rt: &R,
@@ -51,7 +51,7 @@ pub(crate) fn settle_now<A: Allocator + Copy, R: Files + Alloc + Clone + Drop>(
     Ok(())
 }
 
-/// Locks `send` for one who queues, and waits for that.
+/// Locks `send` for a run that queues a file. Waits for the lock.
 pub(crate) fn lock_send<A: Allocator + Copy, R: Files<File = File>>(
     alloc: A,
     rt: &R,
@@ -73,7 +73,7 @@ fn open_and_wait<R: Files<File = File>>(rt: &R, send: &str) -> io::Result<File> 
     Ok(file)
 }
 
-/// Locks `send`, if nobody queues.
+/// Locks `send`, unless somebody queues a file.
 fn lock_free_send<A: Allocator + Copy, R: Files<File = File>>(
     alloc: A,
     rt: &R,
@@ -88,7 +88,7 @@ fn lock_free_send<A: Allocator + Copy, R: Files<File = File>>(
     }
 }
 
-/// Returns the text that lists the jobs that have failed, or `None` if it can't be read.
+/// Returns the text that lists the failed jobs, or `None` if it can't be read. A missing file has an empty text.
 pub(crate) fn failed_text<A: Allocator + Copy, R: Files>(
     alloc: A,
     rt: &R,
@@ -101,8 +101,8 @@ pub(crate) fn failed_text<A: Allocator + Copy, R: Files>(
     }
 }
 
-/// Puts the copies in `send` where they belong while these jobs wait, and this text lists those that have failed. What
-/// is left of incomplete copies is removed, too.
+/// Puts the copies in `send` where they belong, for these pending jobs and the text that lists the failed ones. Also
+/// removes incomplete copies.
 fn settle_all<A: Allocator + Copy, R: Files + Alloc + Clone + Drop>(
     alloc: A,
     rt: &R,
@@ -132,7 +132,7 @@ fn settle_all<A: Allocator + Copy, R: Files + Alloc + Clone + Drop>(
     Ok(())
 }
 
-/// Puts a copy where it belongs while these jobs wait, and this text lists those that have failed.
+/// Puts a copy where it belongs, for these pending jobs and the text that lists the failed ones.
 #[tactic(auto, using(crate::proofs::CopyLemmas::nowhere_needed, crate::proofs::CopyLemmas::aside_needed))]
 fn settle_copy<A: Allocator, R: Files>(
     rt: &R,

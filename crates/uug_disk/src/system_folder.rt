@@ -18,7 +18,7 @@ use uug_talk::{NAME_MAX, Name};
 /// The maximum number of folders in `got` whose names are barred.
 pub(crate) const FOLDERS_MAX: usize = 256;
 
-/// The files received for an end, in the folder `got` below its own. That folder is not created.
+/// The folder `got` of an end, with the files that the end has received. The folder is not created here.
 #[derive(Drop)]
 pub struct SystemFolder<'a, R: Files, A: Allocator> {
     rt: &'a R,
@@ -41,8 +41,8 @@ pub struct SystemFolder<'a, R: Files, A: Allocator> {
 }
 
 impl<'a, R: Files, A: Allocator + Copy> SystemFolder<'a, R, A> {
-    /// Makes the folder of received files of an end. All memory for its calls is allocated here. It bars no name, and
-    /// each name that can't be put is thus a fault.
+    /// Prepares the folder `got` of an end. Allocates all memory that later calls need. Bars no name, so each name
+    /// under which no file can be put causes a fault.
     pub fn new(alloc: A, rt: &'a R, end: EndDir<'a>) -> Result<Self, AllocError>
         ensures calm { IfOk result (λ folder.
             ⟦<SystemFolder<'a, R, A> as Folder>⟧.fault_count folder ≡ 0) }
@@ -68,8 +68,8 @@ impl<'a, R: Files, A: Allocator + Copy> SystemFolder<'a, R, A> {
         })
     }
 
-    /// Makes the same folder, but bars the names of folders that are in it now, up to `FOLDERS_MAX`, and names that are
-    /// too long for the system.
+    /// Prepares the same folder, but bars the names of folders that are in it now, up to `FOLDERS_MAX`, and names that
+    /// are too long for the system.
     pub fn looking(alloc: A, rt: &'a R, end: EndDir<'a>) -> Result<Self, AllocError>
     where
         R: Alloc + Clone + Drop,
@@ -84,7 +84,7 @@ impl<'a, R: Files, A: Allocator + Copy> SystemFolder<'a, R, A> {
 }
 
 impl<R: Files, A: Allocator> SystemFolder<'_, R, A> {
-    /// Returns the first failure of a call of the system on this folder, if there was one.
+    /// Returns the first failure of a system call on this folder, if there was one.
     pub fn failure(&self) -> Option<SystemFailure>
         ensures told { 0 < self.now.faults.count → IsSome result }
     {
@@ -153,7 +153,7 @@ fn folder_names<A: Allocator + Copy, R: Files + Alloc + Clone + Drop>(
     Ok(names)
 }
 
-/// Returns the name of an entry that is a folder.
+/// Returns the name of an entry, if it is a folder.
 fn folder_name<R: Files + Drop, A: Allocator>(entry: io::Result<DirEntry<R, A>>) -> Option<Name> {
     let entry = entry.ok()?;
     if entry.file_type().ok()?.is_dir() {

@@ -11,7 +11,7 @@ use uug_failure::{Cause, EndText, Resource, SystemFailure};
 use uug_folder::{FolderFailed, JobTexts, TextFile};
 use uug_stream::ToolFault;
 
-/// The files of an end's jobs in its folder: `jobs` has those that wait, and `failed` lists those that were given up.
+/// The files of an end's jobs in its folder: `jobs` has the pending ones, and `failed` lists those that were given up.
 #[derive(Drop)]
 pub struct SystemJobs<'a, R: Files, A: Allocator> {
     pub(crate) file: SystemText<'a, R, A>,
@@ -20,7 +20,7 @@ pub struct SystemJobs<'a, R: Files, A: Allocator> {
 }
 
 impl<'a, R: Files, A: Allocator + Copy> SystemJobs<'a, R, A> {
-    /// Creates the files of an end's jobs, from the file of those that wait.
+    /// Returns the files of an end's jobs, given the file of the pending ones. Creates no file.
     pub fn new(alloc: A, file: SystemText<'a, R, A>) -> Result<Self, AllocError>
         ensures { IfOk result (λ jobs. jobs.file ≡ file.entry) }
     {
@@ -32,7 +32,7 @@ impl<'a, R: Files, A: Allocator + Copy> SystemJobs<'a, R, A> {
 }
 
 impl<R: Files, A: Allocator> SystemJobs<'_, R, A> {
-    /// Returns why a call of the system on one of the files failed first, if one did.
+    /// Returns the first failure of a system call on one of the files, if there was one.
     pub fn failure(&self) -> Option<SystemFailure>
         ensures told { 0 < self.now.file.faults.count → IsSome result }
     {

@@ -9,12 +9,12 @@ use uug_failure::SystemFailure;
 use uug_folder::{FolderFailed, TextFile, read_number_text};
 use uug_stream::ToolFault;
 
-/// The file of the number of an end's conversations. The number that it has is not written again. Neither is the one
-/// before it, with which a called end may begin a session: a number in the file never falls by one.
+/// The file of the number of an end's conversations. The number that it has is not written again. The number before
+/// that is not written either: a called end may begin a session with it, but a number in the file never falls by one.
 #[derive(Drop)]
 pub struct SystemNumber<'a, R: Files, A: Allocator> {
     pub(crate) file: SystemText<'a, R, A>,
-    /// The number that it has, if it has one.
+    /// The number in the file, if there is one.
     held: Option<u32>,
 }
 
@@ -26,14 +26,14 @@ impl<'a, R: Files, A: Allocator> SystemNumber<'a, R, A> {
         SystemNumber { file, held }
     }
 
-    /// Returns why a call of the system on the file failed first, if one did.
+    /// Returns the first failure of a system call on the file, if there was one.
     pub fn failure(&self) -> Option<SystemFailure>
         ensures told { 0 < self.now.file.faults.count → IsSome result }
     {
         self.file.failure()
     }
 
-    /// Returns whether the file is left as it is for this number.
+    /// Returns whether the file stays as it is for this number.
     fn stays_with(&self, number: Option<u32>) -> bool
         ensures { result ≡ stays_with self.now.held number }
     {

@@ -16,8 +16,8 @@ use uug_failure::{Cause, EndDir, EndText, Faults, Resource, RunFault, SystemFail
 use uug_folder::{FolderFailed, TextFile};
 use uug_stream::ToolFault;
 
-/// A file in the folder of an end, whose text is replaced as a whole. If its name there is a link, it is the file at
-/// the end of that, and the link stays.
+/// A file in the folder of an end, whose text is replaced as a whole. If there is a link of its name, this is the file
+/// to which the link leads, and the link stays.
 #[derive(Drop)]
 pub struct SystemText<'a, R: Files, A: Allocator> {
     rt: &'a R,
@@ -28,13 +28,13 @@ pub struct SystemText<'a, R: Files, A: Allocator> {
     path: String<A>,
     /// The folder of the file.
     folder: String<A>,
-    /// The number of bytes that were read of it last, if it was read.
+    /// The number of bytes that were last read from it, if it was read.
     read_len: Option<u64>,
     faults: Faults,
 }
 
 impl<'a, R: Files, A: Allocator + Copy> SystemText<'a, R, A> {
-    /// Prepares this file of an end. All memory for its writing is allocated here.
+    /// Prepares this file of an end. Allocates all memory that is needed to write it.
     pub fn new(alloc: A, rt: &'a R, dir: EndDir<'a>, which: EndText) -> Result<Self, AllocError>
         ensures { IfOk result (λ file. file.faults.count ≡ 0) }
     {
@@ -76,12 +76,12 @@ impl<'a, R: Files, A: Allocator> SystemText<'a, R, A> {
         self.dir
     }
 
-    /// Returns the system of the file.
+    /// Returns the runtime that makes the system calls on the file.
     pub(crate) fn runtime(&self) -> &'a R {
         self.rt
     }
 
-    /// Counts that a call of the system failed.
+    /// Counts a failed system call.
     pub(crate) fn note(&mut self, resource: Resource, cause: Cause)
         ensures counted { HasFailed u64.MAX self.old.faults.count self.new.faults.count }
         ensures grows { self.old.faults.count ≤ self.new.faults.count }
@@ -89,7 +89,7 @@ impl<'a, R: Files, A: Allocator> SystemText<'a, R, A> {
         self.faults.note(self.dir.failure(resource, cause));
     }
 
-    /// Returns why a call of the system on the file failed first, if one did.
+    /// Returns the first failure of a system call on the file, if there was one.
     pub fn failure(&self) -> Option<SystemFailure>
         ensures told { 0 < self.now.faults.count → IsSome result }
     {
@@ -109,7 +109,7 @@ impl<R: Files<File = File>, A: Allocator> TextFile for SystemText<'_, R, A> {
         }
     }
 
-    /// Replaces the text. What was appended to the file since it was read stays after the new text.
+    /// Replaces the text. Bytes that were appended to the file since it was read stay, after the new text.
     fn replace(&mut self, bytes: &[u8]) -> Result<(), FolderFailed> {
         let path = self.path.as_str();
         let dir = self.folder.as_str();
@@ -134,7 +134,7 @@ impl<R: Files<File = File>, A: Allocator> TextFile for SystemText<'_, R, A> {
     }
 }
 
-/// Returns the path of the file at a path: at the end of the links, if the path is one.
+/// Returns the path to which a link leads, or the path itself if it is no link or can't be resolved.
 pub(crate) fn end_of_links<A: Allocator + Copy, R: Files>(
     alloc: A,
     rt: &R,
@@ -160,7 +160,7 @@ pub(crate) fn folder_of(path: &str) -> &str {
     }
 }
 
-/// Returns the text of this file in the folder of an end, which is at this path, or an empty one if there is none.
+/// Returns the text of this file of an end, which is at this path. A missing file has an empty text.
 fn text_or_none<B: Allocator + Copy, R: Files>(
     alloc: B,
     rt: &R,

@@ -1,4 +1,4 @@
-//! Trials of what a session writes in the folder of an end, before its line is opened.
+//! Checks that a session can write in the folder of an end, before its line is opened.
 ghost use Rattle.std.specs.Prelude.{IfErr};
 ghost use Rattle.uug_failure.specs.Faults.{IsFolderFault};
 
@@ -12,7 +12,7 @@ use std::{fs, io};
 use uug_failure::{EndDir, EndText, Resource, RunFault};
 use uug_session::Job;
 
-/// Checks that what a session of an end writes can be written: the jobs if some wait, the number if the end keeps one,
+/// Checks that a session of an end can write its files: the jobs if some are pending, the number if the end keeps one,
 /// and files in `got`.
 pub fn see_writable<A: Allocator + Copy, R: Files<File = File>>(
     alloc: A,
@@ -30,8 +30,8 @@ pub fn see_writable<A: Allocator + Copy, R: Files<File = File>>(
     see_got(alloc, rt, dir)
 }
 
-/// Checks that these jobs can be removed from `jobs`, and be listed in `failed`. A job that stays there would be sent
-/// again in each session.
+/// Checks that these jobs can be removed from `jobs`, and appended to `failed`. A job that can't be removed would be
+/// sent again in each session.
 pub fn see_jobs<A: Allocator + Copy, R: Files<File = File>>(
     alloc: A,
     rt: &R,
@@ -106,7 +106,7 @@ fn see_failed<A: Allocator + Copy, R: Files<File = File>>(
     }
 }
 
-/// Makes an incomplete file in a folder, and removes it.
+/// Creates an incomplete file in a folder, and removes it.
 fn make_part<A: Allocator + Copy, R: Files>(alloc: A, rt: &R, folder: &str) -> io::Result<()> {
     let mut part = PartPath::new(alloc, rt, folder)?;
     let file = part.create(rt)?;
@@ -114,8 +114,9 @@ fn make_part<A: Allocator + Copy, R: Files>(alloc: A, rt: &R, folder: &str) -> i
     fs::remove_file(rt, part.as_str())
 }
 
-/// Checks that this run may remove a file, and removes nothing: the call is one that removes a folder. The system asks
-/// whether a name may go before it says that a file has it. In a folder like `/tmp` the names of others may not.
+/// Checks that this run may remove a file, without removing it: calls `rmdir`, which fails on a file. The system checks
+/// whether the name may be removed before it reports that the name is not a folder's. In a folder like `/tmp` a user
+/// may not remove the names of others.
 fn see_removable<R: Files>(rt: &R, path: &str) -> io::Result<()> {
     match fs::remove_dir(rt, path) {
         Err(error) if is_refusal(error.kind()) => Err(error),
@@ -123,7 +124,7 @@ fn see_removable<R: Files>(rt: &R, path: &str) -> io::Result<()> {
     }
 }
 
-/// Returns whether an error of this kind says that the system lets nothing be removed.
+/// Returns whether an error of this kind means that the system refuses the removal.
 fn is_refusal(kind: ErrorKind) -> bool {
     matches!(
         kind,

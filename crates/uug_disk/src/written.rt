@@ -1,4 +1,4 @@
-//! Writes to a file of the system, and shows which bytes were written.
+//! Writes to a file, and shows clauses which bytes were written.
 ghost use Rattle.std.specs.Io.KnownBytes.{Appends};
 ghost use Rattle.std.specs.Prelude.{◌≡◌, IfOk, OnOk};
 ghost use Rattle.uug_disk.specs.Parts.{written_bytes};
@@ -7,7 +7,7 @@ use std::io;
 use std::io::{ErrorKind, Write};
 use std::snapshot::Snapshot;
 
-/// The bytes that were written to a file, for clauses alone. Only the functions that write them make one.
+/// The bytes that were written to a file, for clauses alone. Only the functions that write them create one.
 #[derive(Drop)]
 pub(crate) struct Written<'b> {
     bytes: Snapshot<&'b [u8]>,
@@ -37,7 +37,7 @@ pub(crate) fn write_once<'b, W: Write>(file: &mut W, bytes: &'b [u8]) -> io::Res
     })
 }
 
-/// Requires that just these bytes were written, and does nothing.
+/// Requires that exactly these bytes were written, and does nothing.
 pub(crate) fn see_written(written: Written<'_>, bytes: &[u8])
     requires { written_bytes written ≡ bytes.now }
 {
