@@ -15,7 +15,7 @@ pub record Failed : Type 0 where
 abbrev pub shown_failed : FailedJob → Failed
 shown_failed f = record { job = f.job; why = f.why.now }
 
--- the words of a line that is a comment
+-- the text of a line that is a comment
 abbrev pub comment_in : (line : List ℕ) → Option (List ℕ)
 comment_in line = if starts_with nat_eq line (codes "# ") then Some (drop 2 line) else None
 

@@ -8,7 +8,7 @@ use Rattle.uug_talk.specs.Lines.{lines}
 use Rattle.uug_pending.specs.declared.last_session.LastSession.{LastSession}
 use Rattle.uug_pending.specs.declared.last_session.LogEntry.{LogEntry}
 
--- the process has a parenthesis behind
+-- the process has a parenthesis after it
 pub record Entry : Type 0 where
   pub system : List ℕ
   pub date : List ℕ
@@ -22,7 +22,7 @@ shown_entry e = record { system = e.system.now; date = e.date.now; time = e.time
 abbrev pub is_space : ℕ → Bool
 is_space b = b == 32
 
--- what is before and behind the first space
+-- the parts before and after the first space
 abbrev pub parts_at : (at : Option ℕ) → (text : List ℕ) → Option (List ℕ × List ℕ)
 parts_at None text = None
 parts_at (Some at) text = Some (take at text, drop (at + 1) text)
@@ -33,7 +33,7 @@ parts_in text = parts_at (position is_space text) text
 abbrev pub shown_parts : Bor (List ℕ) × Bor (List ℕ) → List ℕ × List ℕ
 shown_parts p = (p.0.now, p.1.now)
 
--- the date has one in front
+-- the date has a parenthesis before it
 abbrev pub date_in : (word : List ℕ) → Option (List ℕ)
 date_in word = if starts_with nat_eq word (codes "(") then Some (drop 1 word) else None
 
@@ -59,7 +59,7 @@ kept holds (Some e) = if holds e then Some e else None
 abbrev pub start_in : (line : List ℕ) → Option Entry
 start_in line = kept is_start (entry_in line)
 
--- a line of the same process says what went wrong, or that the session is over
+-- an entry of the same process reports an error, or that the session is over
 abbrev pub is_told : (process : List ℕ) → Entry → Bool
 is_told process e =
     bytes_eq e.process process && (starts_with nat_eq e.text (codes "ERROR: ") || starts_with nat_eq e.text (codes "Call complete "))
@@ -67,7 +67,7 @@ is_told process e =
 abbrev pub told_in : (process line : List ℕ) → Option Entry
 told_in process line = kept (is_told process) (entry_in line)
 
--- the start of a session, and the lines behind it
+-- the start of a session, and the lines after it
 pub record Last : Type 0 where
   pub start : Entry
   pub behind : List (List ℕ)

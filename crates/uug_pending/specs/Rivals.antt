@@ -1,4 +1,4 @@
--- The words for a job that sends to the target of another one (this project's profile).
+-- The remark on a job that sends to the target of another one (this project's profile).
 use Rattle.std.specs.Prelude.{ℕ, List, ◌++◌, codes}
 use Rattle.uug_talk.specs.Lines.{ended}
 

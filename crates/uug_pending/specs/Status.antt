@@ -18,7 +18,7 @@ abbrev pub status_as : (is_json : Bool) → (session : Option SeenFile) → Opti
 status_as is_json session last pending held failed =
     if is_json then status_json session last pending held failed else status_text session last pending held failed
 
--- the text is the status of a folder, or a part of a spool, that has these
+-- the text is the status of a folder, or of a part of a spool, that has these
 pub record IsStatus (is_json : Bool) (text : List ℕ) : Type 0 where
   pub session : Option SeenFile
   pub last : Option Last
@@ -27,7 +27,7 @@ pub record IsStatus (is_json : Bool) (text : List ℕ) : Type 0 where
   pub failed : List FailedJob
   pub is : text ≡ status_as is_json session last pending held failed
 
--- such a status is written
+-- a status is appended to the output
 pub record WritesStatus (is_json : Bool) (written written_after : Option (List ℕ)) : Type 0 where
   pub text : List ℕ
   pub is : IsStatus is_json text

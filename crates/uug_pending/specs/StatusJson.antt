@@ -14,7 +14,8 @@ use Rattle.uug_talk.specs.Lines.{ended}
 
 -- ---- values
 
--- A quotation mark has a backslash in front. What the plain text writes in hex is so here; JSON writes its backslash twice.
+-- A quotation mark has a backslash before it. A byte that the plain text writes in hex is in hex here too, and JSON
+-- writes the backslash before it twice.
 abbrev pub byte_words : ℕ → List ℕ
 byte_words b =
     if b == 34 then codes "\\\"" else
@@ -83,7 +84,7 @@ file_members file = codes ",\"bytes\":" ++ (number_words (size_of file) ++ (code
 abbrev pub pending_object : PendingJob → List ℕ
 pending_object p = codes "{" ++ (job_members p.job ++ (file_members p.file ++ codes "}"))
 
--- those behind the first one
+-- those after the first one
 abbrev pub pending_rest : List PendingJob → List ℕ
 pending_rest [] = []
 pending_rest (p ∷ more) = codes "," ++ (pending_object p ++ pending_rest more)

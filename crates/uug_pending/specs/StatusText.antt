@@ -17,7 +17,7 @@ abbrev pub count_words : (pending held failed : ℕ) → List ℕ
 count_words pending held failed =
     decimal pending ++ (codes " pending, " ++ (decimal held ++ (codes " held, " ++ (decimal failed ++ ended (codes " failed")))))
 
--- the greatest unit of which a span of time has one
+-- in the largest unit of which a span of time has at least one
 abbrev pub span_words : (seconds : ℕ) → List ℕ
 span_words seconds =
     if nat_lt seconds 60 then decimal seconds ++ codes " s" else
@@ -29,7 +29,7 @@ abbrev pub age_words : Option ℕ → List ℕ
 age_words None = []
 age_words (Some seconds) = codes ", " ++ (span_words seconds ++ codes " old")
 
--- the mark of a session is there while it runs, and after one that was broken off
+-- the mark of a session is there while it runs, and after it was broken off
 abbrev pub mark_line : (words : List ℕ) → (age : Option ℕ) → List ℕ
 mark_line words age = words ++ ended (age_words age)
 
@@ -40,7 +40,7 @@ session_words (Some mark) = mark_line (codes "session not over: its mark is ther
 abbrev pub moment_words : Entry → List ℕ
 moment_words e = codes " " ++ (escaped e.date ++ (codes " " ++ escaped e.time))
 
--- of the last session in the log: its start, and what the log says of its end
+-- a line on the last session in the log: on its start, or on its end
 abbrev pub entry_line : Entry → List ℕ
 entry_line e = codes "session " ++ (escaped e.system ++ (moment_words e ++ (codes ": " ++ ended (escaped e.text))))
 
@@ -56,7 +56,7 @@ abbrev pub last_lines : Option Last → List ℕ
 last_lines None = []
 last_lines (Some l) = entry_line l.start ++ told_lines l.start.process l.behind
 
--- of the file that a job sends; one that requests a file has none here
+-- the file that a job sends; a job that requests a file has none here
 abbrev pub file_words : Job → Option SeenFile → List ℕ
 file_words (Request source target user) file = []
 file_words (Send source target user temp) None = codes ": no file"
@@ -78,7 +78,7 @@ abbrev pub held_lines : List HeldFile → List ℕ
 held_lines [] = []
 held_lines (h ∷ more) = held_line h ++ held_lines more
 
--- why a job failed, where that is said
+-- why a job failed, if a reason is given
 abbrev pub why_words : (why : List ℕ) → List ℕ
 why_words why = if length why == 0 then [] else codes ": " ++ escaped why
 

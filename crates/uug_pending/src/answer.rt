@@ -1,4 +1,4 @@
-//! Answers a person who cancels a job.
+//! The answer to a person who cancels a job.
 ghost use Rattle.std.specs.Prelude.{◌≡◌, ◌≤◌, IfErr, IfOk, string_bytes};
 ghost use Rattle.uug_pending.specs.Cancelled.{IsSayingFault, SaysAnswer, status_of};
 
@@ -7,25 +7,25 @@ use std::alloc::Allocator;
 use uug_session::Job;
 use uug_stream::{Output, ToolFault, write_all};
 
-/// Says whether a word named a job, and which.
+/// The job that a word named, if it named one.
 #[derive(Clone, Copy)]
 pub(crate) enum Answer {
     /// This job was cancelled.
     Cancelled(Job),
-    /// None of so many jobs has that name.
+    /// The word names none of the pending jobs, of which there are this many.
     Unknown(usize),
 }
 
-/// The outcome of a cancel.
+/// The outcome of cancelling a job.
 #[derive(Drop)]
 pub struct CancelOutcome<A: Allocator> {
-    /// The program's status: 1 if no such job waits.
+    /// The exit status: 1 if no such job is pending, and otherwise 0.
     pub status: u8,
-    /// The line for standard error that says so, or an empty text.
+    /// The line for standard error if no such job is pending, and otherwise an empty text.
     pub remark: String<A>,
 }
 
-/// Prints which job was cancelled. Returns the program's status, and a line that says so if none was.
+/// Prints the cancelled job. Returns the exit status, and a line for standard error if no job was cancelled.
 pub(crate) fn say<A: Allocator + Copy, O: Output>(
     alloc: A,
     answer: Answer,

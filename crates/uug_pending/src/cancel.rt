@@ -1,4 +1,4 @@
-//! A job that a person cancels while no session runs over its folder.
+//! Cancels a pending job for a person, while no session runs over its folder.
 ghost use Rattle.std.specs.Prelude.{◌≡◌, ◌≤◌, IfErr, IfOk, None};
 ghost use Rattle.uug_failure.specs.Faults.{IsFolderFault, IsReadingFault};
 ghost use Rattle.uug_pending.specs.Cancelled.{IsCancelFault};
@@ -13,14 +13,14 @@ use uug_failure::{EndDir, RunFault, SystemFailure};
 use uug_folder::JobsFile;
 use uug_stream::{Output, ToolFault};
 
-/// The words of a person who cancels a job.
+/// The arguments of the command `queue --cancel`.
 #[derive(Clone, Copy, Debug, PartialEq, Eq)]
 pub struct CancelTask<'a> {
     /// The folder of the end.
     pub dir: &'a str,
     /// The number of the job, or its line.
     pub job: &'a str,
-    /// The order that is given as well, for which nothing is done.
+    /// The order, if one is given as well. Then no job is cancelled.
     pub order: Option<&'a str>,
 }
 
@@ -43,10 +43,10 @@ pub enum CancelFault {
     Run(RunFault),
 }
 
-/// Cancels the job that a word names in the folder of an end: by its number in the list of those that wait, counted
-/// from 1, or by its line. Of equal lines the first goes. The copy that was made when it was queued is removed with it.
-/// The folder is locked as for a session, so a job that one holds stays. Returns the program's status, and a line that
-/// says if no such job waits.
+/// Cancels the job that a word names in the folder of an end: by its number in the list of pending jobs, counted from
+/// 1, or by its line. Removes the first of equal lines. Then puts the copies in `send` where they belong, which removes
+/// the one that was made for the job unless another job sends it. Locks the folder as a session does, so no job is
+/// cancelled during a session. Returns the exit status, and a line for standard error if no such job is pending.
 pub fn cancel_run<A, R, O>(
     alloc: A,
     rt: &R,
@@ -59,7 +59,7 @@ where
     O: Output,
     ensures status { IfOk result (λ done. done.status ≤ 1) }
     ensures alone { IfOk result (λ _. task.now.order ≡ None) }
-    // A device fault always says which call it was.
+    // A device fault always names the call that failed.
     ensures why { IfErr result (IsCancelFault task.now.order) }
 {
     if task.order.is_some() {
@@ -75,7 +75,7 @@ where
     }
 }
 
-/// Cancels the job that a word names in the folder of an end, which is locked meanwhile.
+/// Cancels the job that a word names in the folder of an end. Locks the folder meanwhile.
 fn cancel_at<A, R>(alloc: A, rt: &R, dir: EndDir<'_>, word: &str) -> Result<Answer, RunFault>
 where
     A: Allocator + Copy,
@@ -119,7 +119,7 @@ where
     }
 }
 
-/// Returns why a store of jobs gave up: over a call of the system that failed, or for memory.
+/// Returns the fault of a store of jobs that gave up: the system call that failed, or else out of memory.
 fn fault_of(failure: Option<SystemFailure>) -> RunFault
     ensures { IsFolderFault result }
 {

@@ -1,4 +1,4 @@
-//! The jobs in the text of those that have failed.
+//! The failed jobs that a text lists.
 ghost use Rattle.std.specs.Option.{option_copied};
 ghost use Rattle.std.specs.Prelude.{◌≡◌, IfOk, map};
 ghost use Rattle.uug_pending.specs.Failed.{comment_in, failed_in, shown_failed};
@@ -8,17 +8,16 @@ use std::alloc::{AllocError, Allocator};
 use uug_session::Job;
 use uug_talk::split_line;
 
-/// A job that has failed.
+/// A failed job.
 #[derive(Clone, Copy)]
 pub struct FailedJob<'a> {
     /// The job.
     pub job: Job,
-    /// The comment before it, which says why. It is empty if there is none.
+    /// The comment before it, which says why it failed. It is empty if there is none.
     pub why: &'a [u8],
 }
 
-/// Returns the jobs of the text that lists those that have failed, each with the last comment before it. Other lines are
-/// skipped.
+/// Returns the failed jobs that a text lists, each with the last comment before it. Skips other lines.
 pub(crate) fn failed_jobs<A: Allocator + Copy>(
     alloc: A,
     text: &[u8],
@@ -40,7 +39,7 @@ pub(crate) fn failed_jobs<A: Allocator + Copy>(
     Ok(failed)
 }
 
-/// Returns the words of a line that is a comment.
+/// Returns the text of a line that is a comment.
 fn comment_in(line: &[u8]) -> Option<&[u8]>
     ensures { option_copied result ≡ comment_in line.now }
 {

@@ -15,8 +15,8 @@ use uug_scan::add_byte;
 use uug_session::Job;
 use uug_talk::{Name, split_line};
 
-/// Returns the status of a folder as one object of JSON, in a line: what `status_text` says. A byte that is no printing
-/// character is `\xNN` in a string, as there.
+/// Returns the status of a folder as a JSON object on one line, with the facts of `status_text`. In a string, a byte
+/// that is no printing character becomes `\xNN`, as in `status_text`.
 pub fn status_json<A: Allocator>(
     alloc: A,
     session: &Option<SeenFile>,
@@ -42,7 +42,7 @@ pub fn status_json<A: Allocator>(
     Ok(text)
 }
 
-/// Appends the mark of a session that is not over.
+/// Appends the mark of a session that is not over, or `null` if there is none.
 fn add_session<A: Allocator>(
     text: &mut String<A>,
     session: &Option<SeenFile>,
@@ -73,7 +73,7 @@ fn add_last<A: Allocator>(
     add_behind(text, last.start.process, last.behind)
 }
 
-/// Appends what these lines of a log say of the end of a session of this process.
+/// Appends the entries of these lines of a log that report how a session of this process ended.
 fn add_behind<A: Allocator>(
     text: &mut String<A>,
     process: &[u8],
@@ -90,7 +90,7 @@ fn add_behind<A: Allocator>(
     Ok(())
 }
 
-/// Appends what a line of a log says of the end of a session of this process.
+/// Appends the entry of a line of a log, if it reports how a session of this process ended.
 fn add_told<A: Allocator>(
     text: &mut String<A>,
     process: &[u8],
@@ -105,7 +105,7 @@ fn add_told<A: Allocator>(
     }
 }
 
-/// Appends an entry behind another one.
+/// Appends an entry after another one.
 fn add_item<A: Allocator>(text: &mut String<A>, entry: &LogEntry<'_>) -> Result<(), AllocError>
     ensures { OnOk result (string_bytes text.new
         ≡ string_bytes text.old ++ told_item (Some (shown_entry entry.now))) }
@@ -127,7 +127,7 @@ fn add_entry<A: Allocator>(text: &mut String<A>, entry: &LogEntry<'_>) -> Result
     text.push_str("}")
 }
 
-/// Appends the members for the moment of an entry.
+/// Appends the members for the date and the time of an entry.
 fn add_moment<A: Allocator>(text: &mut String<A>, entry: &LogEntry<'_>) -> Result<(), AllocError>
     ensures { OnOk result (string_bytes text.new
         ≡ string_bytes text.old ++ moment_members (shown_entry entry.now)) }
@@ -138,7 +138,7 @@ fn add_moment<A: Allocator>(text: &mut String<A>, entry: &LogEntry<'_>) -> Resul
     add_text(text, entry.time)
 }
 
-/// Appends the jobs that wait.
+/// Appends the pending jobs.
 fn add_pending<A: Allocator>(text: &mut String<A>, pending: &[PendingJob]) -> Result<(), AllocError>
     ensures { OnOk result
         (string_bytes text.new ≡ string_bytes text.old ++ pending_items pending.now) }
@@ -150,7 +150,7 @@ fn add_pending<A: Allocator>(text: &mut String<A>, pending: &[PendingJob]) -> Re
     add_pending_rest(text, more)
 }
 
-/// Appends the jobs that wait behind the first one.
+/// Appends the pending jobs after the first one.
 fn add_pending_rest<A: Allocator>(
     text: &mut String<A>,
     more: &[PendingJob],
@@ -165,7 +165,7 @@ fn add_pending_rest<A: Allocator>(
     Ok(())
 }
 
-/// Appends a job that waits.
+/// Appends a pending job.
 fn add_pending_job<A: Allocator>(
     text: &mut String<A>,
     pending: &PendingJob,
@@ -179,7 +179,7 @@ fn add_pending_job<A: Allocator>(
     text.push_str("}")
 }
 
-/// Appends the members of the file of a job.
+/// Appends the members for the file of a job.
 fn add_file<A: Allocator>(text: &mut String<A>, file: &Option<SeenFile>) -> Result<(), AllocError>
     ensures { OnOk result
         (string_bytes text.new ≡ string_bytes text.old ++ file_members file.now) }
@@ -200,7 +200,7 @@ fn size_of(file: &Option<SeenFile>) -> Option<u64>
     }
 }
 
-/// Returns the age of a file, if there is one, and it is known.
+/// Returns the age of a file, if there is one and its age is known.
 fn age_of(file: &Option<SeenFile>) -> Option<u64>
     ensures { result ≡ age_of file.now }
 {
@@ -221,7 +221,7 @@ fn add_number<A: Allocator>(text: &mut String<A>, number: Option<u64>) -> Result
     }
 }
 
-/// Appends the members of a job.
+/// Appends the members for a job.
 fn add_job<A: Allocator>(text: &mut String<A>, job: &Job) -> Result<(), AllocError>
     ensures { OnOk result
         (string_bytes text.new ≡ string_bytes text.old ++ job_members job.now) }
@@ -241,7 +241,7 @@ fn add_job<A: Allocator>(text: &mut String<A>, job: &Job) -> Result<(), AllocErr
     }
 }
 
-/// Appends the members of a job of this kind.
+/// Appends the members for a job of this kind.
 fn add_members<A: Allocator>(
     text: &mut String<A>,
     kind: &str,
@@ -260,7 +260,7 @@ fn add_members<A: Allocator>(
     add_text(text, user.as_bytes())
 }
 
-/// Appends a string of these bytes.
+/// Appends these bytes as a string.
 fn add_text<A: Allocator>(text: &mut String<A>, bytes: &[u8]) -> Result<(), AllocError>
     ensures { OnOk result
         (string_bytes text.new ≡ string_bytes text.old ++ text_words bytes.now) }
@@ -281,8 +281,8 @@ fn add_bytes<A: Allocator>(text: &mut String<A>, bytes: &[u8]) -> Result<(), All
     Ok(())
 }
 
-/// Appends a byte inside a string: one that is no printing character, or is a backslash, in hex behind a backslash, which
-/// JSON writes twice.
+/// Appends a byte inside a string. A quotation mark gets a backslash before it. A backslash, or a byte that is no
+/// printing character, is written in hex after a backslash, which JSON writes twice.
 fn add_one<A: Allocator>(text: &mut String<A>, byte: u8) -> Result<(), AllocError>
     ensures { OnOk result
         (string_bytes text.new ≡ string_bytes text.old ++ byte_words byte) }
@@ -297,14 +297,14 @@ fn add_one<A: Allocator>(text: &mut String<A>, byte: u8) -> Result<(), AllocErro
     }
 }
 
-/// Returns whether a byte is written as it is, but for a quotation mark.
+/// Returns whether a byte that is not a quotation mark is written as it is.
 fn is_plain(byte: u8) -> bool
     ensures { result ≡ is_plain byte }
 {
     (byte.is_ascii_graphic() || byte == b' ') && byte != b'\\'
 }
 
-/// Appends the files that are held.
+/// Appends the held files.
 fn add_held<A: Allocator>(text: &mut String<A>, held: &[HeldFile]) -> Result<(), AllocError>
     ensures { OnOk result
         (string_bytes text.new ≡ string_bytes text.old ++ held_items held.now) }
@@ -316,7 +316,7 @@ fn add_held<A: Allocator>(text: &mut String<A>, held: &[HeldFile]) -> Result<(),
     add_held_rest(text, more)
 }
 
-/// Appends the files that are held behind the first one.
+/// Appends the held files after the first one.
 fn add_held_rest<A: Allocator>(text: &mut String<A>, more: &[HeldFile]) -> Result<(), AllocError>
     ensures { OnOk result
         (string_bytes text.new ≡ string_bytes text.old ++ held_rest more.now) }
@@ -328,7 +328,7 @@ fn add_held_rest<A: Allocator>(text: &mut String<A>, more: &[HeldFile]) -> Resul
     Ok(())
 }
 
-/// Appends a file that is held.
+/// Appends a held file.
 fn add_held_file<A: Allocator>(text: &mut String<A>, file: &HeldFile) -> Result<(), AllocError>
     ensures { OnOk result
         (string_bytes text.new ≡ string_bytes text.old ++ held_object file.now) }
@@ -342,7 +342,7 @@ fn add_held_file<A: Allocator>(text: &mut String<A>, file: &HeldFile) -> Result<
     text.push_str("}")
 }
 
-/// Appends the jobs that have failed.
+/// Appends the failed jobs.
 fn add_failed<A: Allocator>(
     text: &mut String<A>,
     failed: &[FailedJob<'_>],
@@ -357,7 +357,7 @@ fn add_failed<A: Allocator>(
     add_failed_rest(text, more)
 }
 
-/// Appends the jobs that have failed behind the first one.
+/// Appends the failed jobs after the first one.
 fn add_failed_rest<A: Allocator>(
     text: &mut String<A>,
     more: &[FailedJob<'_>],
@@ -372,7 +372,7 @@ fn add_failed_rest<A: Allocator>(
     Ok(())
 }
 
-/// Appends a job that has failed.
+/// Appends a failed job.
 fn add_failed_job<A: Allocator>(
     text: &mut String<A>,
     failed: &FailedJob<'_>,

@@ -14,7 +14,7 @@ pub struct LogEntry<'a> {
     /// The date and the time.
     pub date: &'a [u8],
     pub time: &'a [u8],
-    /// The number of the process.
+    /// The number of the process, with the parenthesis after it.
     pub process: &'a [u8],
     /// The text.
     pub text: &'a [u8],
@@ -25,7 +25,7 @@ pub struct LogEntry<'a> {
 pub struct LastSession<'a> {
     /// The line of its start.
     pub start: LogEntry<'a>,
-    /// The log behind that line.
+    /// The log after that line.
     pub behind: &'a [u8],
 }
 
@@ -44,7 +44,7 @@ pub fn last_in(log: &[u8]) -> Option<LastSession<'_>>
     last
 }
 
-/// Returns what a line of the same process says of the end of a session.
+/// Returns the entry of a line, if it reports how a session of this process ended.
 pub(crate) fn told_in<'a>(process: &[u8], line: &'a [u8]) -> Option<LogEntry<'a>>
     ensures { option_map shown_entry result ≡ told_in process.now line.now }
 {
@@ -56,7 +56,7 @@ pub(crate) fn told_in<'a>(process: &[u8], line: &'a [u8]) -> Option<LogEntry<'a>
     }
 }
 
-/// Returns the start of a session that a line tells.
+/// Returns the entry of a line, if it is the start of a session.
 fn start_in(line: &[u8]) -> Option<LogEntry<'_>>
     ensures { option_map shown_entry result ≡ start_in line.now }
 {
@@ -71,7 +71,7 @@ fn is_start(entry: &LogEntry<'_>) -> bool
     entry.text.starts_with(b"Calling system ") || entry.text.starts_with(b"Incoming call ")
 }
 
-/// Returns whether an entry of this process says how a session ends.
+/// Returns whether an entry is of this process, and reports an error or the end of a session.
 fn is_told(process: &[u8], entry: &LogEntry<'_>) -> bool
     ensures { result ≡ is_told process.now (shown_entry entry.now) }
 {
@@ -79,7 +79,7 @@ fn is_told(process: &[u8], entry: &LogEntry<'_>) -> bool
         && (entry.text.starts_with(b"ERROR: ") || entry.text.starts_with(b"Call complete "))
 }
 
-/// Returns the parts of a line of a log.
+/// Returns the parts of a line of a log, if it has that form.
 fn entry_in(line: &[u8]) -> Option<LogEntry<'_>>
     ensures { option_map shown_entry result ≡ entry_in line.now }
 {
@@ -99,7 +99,7 @@ fn entry_in(line: &[u8]) -> Option<LogEntry<'_>>
     })
 }
 
-/// Returns the date of a word that has a parenthesis in front of it.
+/// Returns the date in a word, after the parenthesis with which the word begins.
 fn date_in(word: &[u8]) -> Option<&[u8]>
     ensures { option_copied result ≡ date_in word.now }
 {
@@ -110,7 +110,7 @@ fn date_in(word: &[u8]) -> Option<&[u8]>
     }
 }
 
-/// Returns what is before and behind the first space of a text.
+/// Returns the parts of a text before and after its first space.
 fn parts_in(text: &[u8]) -> Option<(&[u8], &[u8])>
     ensures { option_map shown_parts result ≡ parts_in text.now }
 {
@@ -120,7 +120,7 @@ fn parts_in(text: &[u8]) -> Option<(&[u8], &[u8])>
     Some((&text[..at], &text[at + 1..]))
 }
 
-/// Returns the place of the first space of a text.
+/// Returns the index of the first space of a text.
 fn space_in(text: &[u8]) -> Option<usize>
     ensures { result ≡ position is_space text.now }
 {

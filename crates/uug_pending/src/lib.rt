@@ -1,5 +1,5 @@
-//! The jobs that wait in the folder of an end, for a person who cancels one of them, the status of the folder, and the
-//! words for two jobs that send to one target.
+//! Cancels pending jobs in the folder of an end, and shows the status of the folder. Also has the remark on two jobs
+//! that send to one target.
 #![tactic(auto)]
 
 mod answer;

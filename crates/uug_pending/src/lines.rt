@@ -23,8 +23,8 @@ const HOUR: u64 = 3_600;
 
 const DAY: u64 = 86_400;
 
-/// Returns the status of a folder, a line for each fact: how many jobs wait, files are held and jobs have failed; the age
-/// of the mark of a session that is not over; the last session in the log; and each of them.
+/// Returns the status of a folder, a line for each fact: the numbers of pending jobs, held files and failed jobs; the
+/// age of the mark of a session that is not over; the last session in the log; and each of these jobs and files.
 pub fn status_text<A: Allocator>(
     alloc: A,
     session: &Option<SeenFile>,
@@ -46,7 +46,7 @@ pub fn status_text<A: Allocator>(
     Ok(text)
 }
 
-/// Appends how many there are of each.
+/// Appends the numbers of pending jobs, held files and failed jobs.
 fn add_counts<A: Allocator>(
     text: &mut String<A>,
     pending: usize,
@@ -59,7 +59,7 @@ fn add_counts<A: Allocator>(
     write!(text, "{pending} pending, {held} held, {failed} failed\n")
 }
 
-/// Appends that a session is not over, if its mark is there.
+/// Appends a line that a session is not over, if its mark is there.
 fn add_session<A: Allocator>(
     text: &mut String<A>,
     session: &Option<SeenFile>,
@@ -73,7 +73,7 @@ fn add_session<A: Allocator>(
     add_mark(text, "session not over: its mark is there", mark.age)
 }
 
-/// Appends the line of a mark of this age.
+/// Appends a line with these words, and the age of a mark.
 fn add_mark<A: Allocator>(
     text: &mut String<A>,
     words: &str,
@@ -87,7 +87,7 @@ fn add_mark<A: Allocator>(
     text.push_str("\n")
 }
 
-/// Appends the lines of the last session in the log, if there is one: its start, and what is said of its end.
+/// Appends the lines of the last session in the log, if there is one: its start, and what the log says of its end.
 fn add_last<A: Allocator>(
     text: &mut String<A>,
     last: &Option<LastSession<'_>>,
@@ -102,7 +102,7 @@ fn add_last<A: Allocator>(
     add_behind(text, last.start.process, last.behind)
 }
 
-/// Appends what these lines of a log say of the end of a session of this process.
+/// Appends a line for each of these lines of a log that reports how a session of this process ended.
 fn add_behind<A: Allocator>(
     text: &mut String<A>,
     process: &[u8],
@@ -119,7 +119,7 @@ fn add_behind<A: Allocator>(
     Ok(())
 }
 
-/// Appends what a line of a log says of the end of a session of this process.
+/// Appends a line for this line of a log, if it reports how a session of this process ended.
 fn add_told<A: Allocator>(
     text: &mut String<A>,
     process: &[u8],
@@ -158,7 +158,7 @@ fn add_moment<A: Allocator>(text: &mut String<A>, entry: &LogEntry<'_>) -> Resul
     add_escaped(text, entry.time)
 }
 
-/// Appends the lines of the jobs that wait.
+/// Appends the lines of the pending jobs.
 fn add_pending_lines<A: Allocator>(
     text: &mut String<A>,
     pending: &[PendingJob],
@@ -172,7 +172,7 @@ fn add_pending_lines<A: Allocator>(
     Ok(())
 }
 
-/// Appends the line of a job that waits.
+/// Appends the line of a pending job.
 fn add_pending_line<A: Allocator>(
     text: &mut String<A>,
     pending: &PendingJob,
@@ -206,7 +206,7 @@ fn add_job<A: Allocator>(text: &mut String<A>, job: &Job) -> Result<(), AllocErr
     }
 }
 
-/// Appends these words, with a space between each two.
+/// Appends these words, separated by spaces.
 fn add_words<A: Allocator>(
     text: &mut String<A>,
     first: &str,
@@ -223,7 +223,7 @@ fn add_words<A: Allocator>(
     write!(text, "{first} {source} {target} {user}")
 }
 
-/// Appends what is known of the file of a job that sends one.
+/// Appends the size and the age of the file of a job that sends one, or that there is no file.
 fn add_file<A: Allocator>(
     text: &mut String<A>,
     job: &Job,
@@ -255,7 +255,7 @@ fn add_age<A: Allocator>(text: &mut String<A>, age: Option<u64>) -> Result<(), A
     text.push_str(" old")
 }
 
-/// Appends a span of time, in the greatest unit of which it has one.
+/// Appends a span of time, in the largest unit of which it has at least one.
 fn add_span<A: Allocator>(text: &mut String<A>, seconds: u64) -> Result<(), AllocError>
     ensures { OnOk result
         (string_bytes text.new ≡ string_bytes text.old ++ span_words seconds) }
@@ -275,7 +275,7 @@ fn add_span<A: Allocator>(text: &mut String<A>, seconds: u64) -> Result<(), Allo
     write!(text, "{days} d")
 }
 
-/// Appends the lines of the files that are held.
+/// Appends the lines of the held files.
 fn add_held_lines<A: Allocator>(text: &mut String<A>, held: &[HeldFile]) -> Result<(), AllocError>
     ensures { OnOk result
         (string_bytes text.new ≡ string_bytes text.old ++ held_lines held.now) }
@@ -286,7 +286,7 @@ fn add_held_lines<A: Allocator>(text: &mut String<A>, held: &[HeldFile]) -> Resu
     Ok(())
 }
 
-/// Appends the line of a file that is held.
+/// Appends the line of a held file.
 fn add_held_line<A: Allocator>(text: &mut String<A>, file: &HeldFile) -> Result<(), AllocError>
     ensures { OnOk result
         (string_bytes text.new ≡ string_bytes text.old ++ held_line file.now) }
@@ -299,7 +299,7 @@ fn add_held_line<A: Allocator>(text: &mut String<A>, file: &HeldFile) -> Result<
     text.push_str("\n")
 }
 
-/// Appends the lines of the jobs that have failed.
+/// Appends the lines of the failed jobs.
 fn add_failed_lines<A: Allocator>(
     text: &mut String<A>,
     failed: &[FailedJob<'_>],
@@ -313,7 +313,7 @@ fn add_failed_lines<A: Allocator>(
     Ok(())
 }
 
-/// Appends the line of a job that has failed.
+/// Appends the line of a failed job.
 fn add_failed_line<A: Allocator>(
     text: &mut String<A>,
     failed: &FailedJob<'_>,
@@ -327,7 +327,7 @@ fn add_failed_line<A: Allocator>(
     text.push_str("\n")
 }
 
-/// Appends why a job has failed, if that is said.
+/// Appends why a job failed, if a reason is given.
 fn add_why<A: Allocator>(text: &mut String<A>, why: &[u8]) -> Result<(), AllocError>
     ensures { OnOk result
         (string_bytes text.new ≡ string_bytes text.old ++ why_words why.now) }

@@ -1,4 +1,4 @@
-//! The job that a person means.
+//! The job that a person names.
 ghost use Rattle.std.specs.Prelude.{◌≡◌, IfOk};
 ghost use Rattle.uug_folder.specs.JobsText.{jobs_of};
 ghost use Rattle.uug_pending.specs.Cancelled.{named_job, nth_job, only_job, said_job, waiting};
@@ -7,7 +7,7 @@ use std::alloc::{AllocError, Allocator};
 use uug_folder::{JobsFault, is_among, read_jobs, read_number_text};
 use uug_session::Job;
 
-/// Returns the one of these jobs that a word names: by its number, counted from 1, or by its line.
+/// Returns the job among these that a word names: by its number, counted from 1, or by its line.
 pub(crate) fn named_job<A: Allocator + Copy>(
     alloc: A,
     jobs: &[Job],
@@ -37,7 +37,7 @@ fn nth_job(jobs: &[Job], number: u32) -> Option<Job>
     }
 }
 
-/// Returns the job of a text that has one alone.
+/// Returns the job of a text, if it has exactly one.
 pub(crate) fn said_job<A: Allocator + Copy>(
     alloc: A,
     text: &[u8],
@@ -51,7 +51,7 @@ pub(crate) fn said_job<A: Allocator + Copy>(
     }
 }
 
-/// Returns the only one of these jobs.
+/// Returns the job, if there is exactly one.
 fn only_job(jobs: &[Job]) -> Option<Job>
     ensures { result ≡ only_job jobs.now }
 {
@@ -62,7 +62,7 @@ fn only_job(jobs: &[Job]) -> Option<Job>
     }
 }
 
-/// Returns the job if one of the same words is among these.
+/// Returns the job, if one with the same words is among these.
 fn waiting(jobs: &[Job], said: Option<Job>) -> Option<Job>
     ensures { result ≡ waiting jobs.now said }
 {

@@ -1,8 +1,8 @@
-//! A job that waits, with its file.
+//! A pending job, with its file.
 use uug_disk::SeenFile;
 use uug_session::Job;
 
-/// A job that waits.
+/// A pending job.
 #[derive(Clone, Copy, Debug, PartialEq, Eq)]
 pub struct PendingJob {
     /// The job.

@@ -1,4 +1,4 @@
-//! The status of an end's folder, which anybody may look at while a session runs over it.
+//! The status of an end's folder, which may be looked at while a session runs over it.
 ghost use Rattle.std.specs.Prelude.{◌≡◌, IfErr, IfOk, OnOk, map, string_bytes};
 ghost use Rattle.uug_failure.specs.Faults.{IsCopyFault, IsFolderFault, IsQueueFault, IsReadingFault};
 ghost use Rattle.std.specs.Option.{option_map};
@@ -22,20 +22,20 @@ use uug_failure::{EndDir, EndText, RunFault};
 use uug_session::Job;
 use uug_stream::{Output, write_all};
 
-/// The words of a person who asks for the status of a folder.
+/// The arguments of the command `status`.
 #[derive(Clone, Copy, Debug, PartialEq, Eq)]
 pub struct StatusTask<'a> {
     /// The folder of the end, or a spool.
     pub dir: &'a str,
-    /// The log of the end, if it is read.
+    /// The path of the end's log, if it is to be read.
     pub log: Option<&'a str>,
-    /// Set if it is printed as JSON.
+    /// Set if the status is printed as JSON.
     pub is_json: bool,
     /// Set if `dir` is a spool.
     pub is_spool: bool,
     /// The system of the spool.
     pub peer: Option<&'a str>,
-    /// The folder of the lock files, of which a session over the spool has one.
+    /// The folder of the lock files. A session over the spool holds one of them.
     pub locks: &'a str,
 }
 
@@ -49,8 +49,9 @@ impl<'a> StatusTask<'a> {
     }
 }
 
-/// Prints the status of an end's folder: which jobs wait, what is held of files that were cut off, which jobs have failed
-/// and why, whether a session is marked that is not over, and with a log the last one. Nothing is locked or changed.
+/// Prints the status of an end's folder: the pending jobs, the bytes held of files that were cut off, the failed jobs
+/// and why they failed, the mark of a session that is not over, and with a log the last session in it. Locks and
+/// changes nothing.
 pub fn status_run<A, R, O>(
     alloc: A,
     rt: &R,
@@ -63,7 +64,7 @@ where
     O: Output,
     ensures prints { OnOk result
         (WritesStatus task.now.is_json (O.written output.old) (O.written output.new)) }
-    // A device fault always says which call it was.
+    // A device fault always names the call that failed.
     ensures no_other { IfErr result IsQueueFault }
 {
     let log = log_at(alloc, rt, task.log)?;
@@ -104,7 +105,7 @@ where
     see_dir(rt, dir)?;
     let pending = pending_at(alloc, rt, dir)?;
     let held = held_at(alloc, rt, dir)?;
-    // A job that fails meanwhile is rather listed twice than not at all.
+    // Read after the pending jobs: a job that fails meanwhile is listed twice rather than not at all.
     let failed = failed_at(alloc, rt, dir)?;
     let failed = failed_jobs(alloc, failed.as_slice())?;
     let session = session_at(alloc, rt, dir)?;
@@ -140,7 +141,7 @@ pub fn status_as<A: Allocator>(
     }
 }
 
-/// Returns the jobs that wait in the folder of an end, with their files.
+/// Returns the pending jobs in the folder of an end, with their files.
 fn pending_at<A: Allocator + Copy, R: Files + Clock>(
     alloc: A,
     rt: &R,
@@ -184,7 +185,7 @@ where
     see_held(alloc, rt, path.as_str())
 }
 
-/// Returns the text of the jobs that have failed, which is empty if there is no file.
+/// Returns the text that lists the failed jobs. A missing file has an empty text.
 fn failed_at<A: Allocator + Copy, R: Files>(
     alloc: A,
     rt: &R,
@@ -199,7 +200,7 @@ fn failed_at<A: Allocator + Copy, R: Files>(
     }
 }
 
-/// Returns the mark of a session that is not over.
+/// Returns the mark of a session that is not over, if there is one.
 fn session_at<A: Allocator + Copy, R: Files + Clock>(
     alloc: A,
     rt: &R,

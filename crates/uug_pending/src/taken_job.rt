@@ -1,4 +1,4 @@
-//! A job that is taken out of a store.
+//! Removes a job from a store.
 ghost use Rattle.std.specs.Prelude.{◌≡◌, IfErr, IfOk, OnErr, OnOk};
 ghost use Rattle.uug_folder.specs.TextFiles.{IsReadFault};
 ghost use Rattle.uug_pending.specs.Cancelled.{IsLeftOrNot, left_of, named_job};
@@ -22,7 +22,7 @@ pub(crate) fn cancel_in<J: JobStore, A: Allocator + Copy>(
         ≡ left_of (named_job word.now jobs.now) (J.open_jobs store.old)) }
     ensures err { OnErr result (IsLeftOrNot (named_job word.now jobs.now)
         (J.open_jobs store.old) (J.open_jobs store.new)) }
-    // Nothing is said of it as of a job that has failed.
+    // The job is not listed as failed.
     ensures untold { J.told store.new ≡ J.told store.old }
     ensures calm { OnOk result (J.fault_count store.new ≡ J.fault_count store.old) }
     ensures fault { IfErr result (λ fault.

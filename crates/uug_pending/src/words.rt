@@ -1,4 +1,4 @@
-//! The words about a job that is cancelled, that nobody knows, or that another one replaces.
+//! The lines about a cancelled job, a job that is not found, and a job that replaces another one's file.
 ghost use Rattle.std.specs.Prelude.{◌≡◌, ◌++◌, IfOk, OnOk, string_bytes};
 ghost use Rattle.uug_pending.specs.Cancelled.{cancelled_line, count_words, unknown_line};
 ghost use Rattle.uug_pending.specs.Rivals.{rival_remark};
@@ -22,7 +22,7 @@ pub(crate) fn cancelled_line<A: Allocator + Copy>(
     Ok(line)
 }
 
-/// Returns that a word names none of so many jobs, as a line for standard error.
+/// Returns the line for standard error that a word names none of the `waiting` jobs.
 pub(crate) fn unknown_line<A: Allocator>(
     alloc: A,
     word: &str,
@@ -38,7 +38,7 @@ pub(crate) fn unknown_line<A: Allocator>(
     Ok(line)
 }
 
-/// Returns that another job sends a file to this target, as a line for standard error.
+/// Returns the line for standard error that another job sends a file to this target.
 pub fn rival_remark<A: Allocator>(alloc: A, target: &Name) -> Result<String<A>, AllocError>
     ensures { IfOk result (λ line. string_bytes line ≡ rival_remark target.now) }
 {
@@ -46,7 +46,7 @@ pub fn rival_remark<A: Allocator>(alloc: A, target: &Name) -> Result<String<A>, 
     format!(in alloc; "uucpair: another job sends to {target}, and this one replaces its file\n")
 }
 
-/// Appends how one of so many jobs is named.
+/// Appends how to name one of the `waiting` jobs.
 fn add_count<A: Allocator>(text: &mut String<A>, waiting: usize) -> Result<(), AllocError>
     ensures { OnOk result
         (string_bytes text.new ≡ string_bytes text.old ++ count_words waiting) }
