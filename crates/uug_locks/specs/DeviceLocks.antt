@@ -1,4 +1,4 @@
--- The lock file of a device, as the programs of Taylor UUCP and HDB have it (this project's profile).
+-- The lock file of a device, in the form of Taylor UUCP and HDB (this project's profile).
 use Rattle.std.specs.Fmt.{decimal}
 use Rattle.std.specs.Prelude.{ℕ, ◌-◌, ◌==◌, Bool, true, false, not, List, [], ◌∷◌, ◌++◌, length, replicate, codes, Option, Some, None, if◌then◌else◌}
 use Rattle.std.specs.Option.{option_map_or}
@@ -15,20 +15,20 @@ use Rattle.uug_locks.specs.declared.holder.Holder.TheVariants.{Process, Nobody, 
 abbrev pub slash : ℕ
 slash = 47
 
--- the name of a device: what stands behind the last slash of its path
+-- the name of a device: the part of its path after the last slash
 abbrev pub device_name : (path : List ℕ) → List ℕ
 device_name path = option_map_or (λ parts. parts.1) (rsplit_once slash path) path
 
 abbrev pub lock_named : (folder name : List ℕ) → List ℕ
 lock_named folder name = folder ++ (codes "/LCK.." ++ name)
 
--- in the folder of the locks it is called after the device
+-- a file in the folder of the locks, named after the device
 abbrev pub lock_path : (folder device : List ℕ) → List ℕ
 lock_path folder device = lock_named folder (device_name device)
 
 -- ---- its text
 
--- the word, right in a column of this width
+-- the word, right-aligned in a column of this width
 abbrev pub at_right : (width : ℕ) → (word : List ℕ) → List ℕ
 at_right width word = replicate (width - length word) 32 ++ word
 
@@ -50,11 +50,11 @@ abbrev pub holder_of_lines : List (List ℕ) → Holder
 holder_of_lines [] = Nobody
 holder_of_lines (line ∷ more) = holder_of_words (words line)
 
--- the process whose number is the first word of its first line; nobody where there is none, or where that is 0
+-- the process whose number is the first word of the first line; nobody if there is no word, or if the number is 0
 abbrev pub holder_in : (text : List ℕ) → Holder
 holder_in text = holder_of_lines (lines text)
 
--- Whether a lock is held: not by a process that is gone. What can't be read may be anybody's.
+-- A process that is gone holds no lock. A lock that can't be read may be anybody's, so it counts as held.
 abbrev pub is_held : Holder → (is_gone : Bool) → Bool
 is_held (Process number) is_gone = not is_gone
 is_held Nobody is_gone = false

@@ -1,21 +1,21 @@
-//! The text of the lock file of a device, and the holder by that text.
+//! The text of a device's lock file, and the holder that it names.
 ghost use Rattle.std.specs.Prelude.{◌≡◌, ◌<◌, ◌≤◌, IfOk, string_bytes};
 ghost use Rattle.uug_locks.specs.DeviceLocks.{holder_in, device_name, is_held, lock_named, lock_path, lock_text};
 
 use std::alloc::{AllocError, Allocator};
 use uug_talk::{NUMBER_MAX, read_number, split_line, split_word};
 
-/// The number of columns for the number of a process.
+/// The number of columns of a process number.
 const COLUMNS: usize = 10;
 
-/// The holder of the lock file of a device, by its text.
+/// The holder of a device's lock file, by its text.
 #[derive(Clone, Copy, Debug, PartialEq, Eq)]
 pub enum Holder {
     /// The process of this number.
     Process(u32),
     /// No process.
     Nobody,
-    /// The text names no process that can be read.
+    /// The text, or the process number in it, can't be read.
     Unknown,
 }
 
@@ -57,7 +57,7 @@ pub fn lock_text<A: Allocator + Copy>(alloc: A, process: u32) -> Result<Vec<u8, 
     written_text(alloc, process)
 }
 
-/// Returns the number of a process in its columns, and a line feed.
+/// Returns the number of a process, right-aligned in its columns, and a line feed.
 fn written_text<A: Allocator + Copy>(alloc: A, process: u32) -> Result<Vec<u8, A>, AllocError>
     ensures text { IfOk result (λ text. text.items ≡ lock_text process) }
     ensures within { process ≤ u32.MAX }
@@ -69,8 +69,9 @@ fn written_text<A: Allocator + Copy>(alloc: A, process: u32) -> Result<Vec<u8, A
     Ok(text)
 }
 
-/// Returns who holds a lock file with this text: the process whose number is the first word of its first line. Nobody
-/// does if there is no word, as in a file that was created and not written, or if the number is 0.
+/// Returns the holder of a lock file with this text: the process whose number is the first word of the first line.
+/// Nobody holds it if there is no word, as in a file that was created but not written, or if the number is 0. The
+/// holder is unknown if the word is not a number.
 pub fn holder_of(text: &[u8]) -> Holder
     ensures { result ≡ holder_in text.now }
 {
@@ -87,7 +88,8 @@ pub fn holder_of(text: &[u8]) -> Holder
     }
 }
 
-/// Returns whether a lock is held. `is_gone` says whether its process is gone.
+/// Returns whether a lock is held. `is_gone` is set if its process is gone. A lock whose holder is unknown counts as
+/// held.
 pub fn is_held(holder: Holder, is_gone: bool) -> bool
     ensures { result ≡ is_held holder is_gone }
 {

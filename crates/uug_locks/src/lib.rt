@@ -1,4 +1,4 @@
-//! The lock files of devices, as the programs of Taylor UUCP and HDB have them: their names and their texts.
+//! The lock files of devices, in the form of Taylor UUCP and HDB: their names and their texts.
 #![tactic(auto)]
 
 mod holder;
