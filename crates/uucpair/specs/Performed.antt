@@ -30,39 +30,39 @@ pub record ShowsVersion (s : Streams) (answer : Result ℕ RunFault) : Type 0 wh
   pub status : IfOk answer (λ status. status ≡ 0)
   pub writes : OnOk answer (Appends version_line s.before s.after)
 
--- `pair`: nothing was read of the input, and of a device fault it is known which call it was
+-- `pair`: no input was read, and a device fault names the system call that failed
 pub record Pairs (s : Streams) (answer : Result ℕ RunFault) : Type 0 where
   pub status : IfOk answer (λ status. status ≤ 1)
   pub reads : StaysUnread s
   pub no_other : IfErr answer IsRunFault
 
--- its report goes to standard output, which is not its line
+-- the report goes to standard output, which is not the line
 pub record PrintsReport (task : CallTask) : Type 0 where
   pub no_file : task.report ≡ None
   pub apart : line_of task.line.now ≢ Some standard
 
--- `call` and `answer`: the same. Where a caller prints its report, that is the report of an end that has run its session to its
--- end, and the status is that of this session; or another run talks with that system, and nothing is printed. A called end
--- prints one or more such reports, one behind the other, and its status is the greatest.
+-- `call` and `answer`: the same. If a caller prints a report, it is that of an end that has run its session to its end,
+-- and the status is that of this session. Or another run talks with that system, and nothing is printed. A called end
+-- prints one or more of these reports, one after the other, and its status is the greatest of theirs.
 pub record Calls (task : CallTask) (s : Streams) (answer : Result ℕ RunFault) : Type 0 where
   pub status : IfOk answer (λ status. status ≤ 1)
   pub reads : StaysUnread s
   pub no_other : IfErr answer IsRunFault
   pub reported : PrintsReport task → IfOk answer (λ status. HasTalked task.side status s.before s.after)
 
--- `queue`: the same as `pair`
+-- `queue`: the same as `pair`, but the status is 0, and a file that can't be read is a fault too
 pub record Queues (s : Streams) (answer : Result ℕ RunFault) : Type 0 where
   pub status : IfOk answer (λ status. status ≡ 0)
   pub reads : StaysUnread s
   pub no_other : IfErr answer IsQueueFault
 
--- `queue --cancel`: the same, and that no such job waits is a status of its own
+-- `queue --cancel`: the same, with a separate status if no such job waits
 pub record Cancels (s : Streams) (answer : Result ℕ RunFault) : Type 0 where
   pub status : IfOk answer (λ status. status ≤ 1)
   pub reads : StaysUnread s
   pub no_other : IfErr answer IsQueueFault
 
--- `status`: nothing was read of the input, and what was written is the status of a folder, or of a part of a spool
+-- `status`: no input was read, and the status of a folder, or of a part of a spool, was written
 pub record ShowsStatus (is_json : Bool) (s : Streams) (answer : Result ℕ RunFault) : Type 0 where
   pub status : IfOk answer (λ status. status ≡ 0)
   pub reads : StaysUnread s
@@ -87,8 +87,8 @@ Does (Status task) s remark answer = ShowsStatus task.is_json s answer
 
 -- ---- the program
 
--- There was no task, and nothing was read or written. That is so of words that a tool takes only where there was no memory for
--- reading them.
+-- There was no task, and nothing was read or written. For words that a tool takes, the only cause is that there was no
+-- memory for reading them.
 pub record HasNoTask (words : List (List ℕ)) (s : Streams) (ends : Result ℕ Stop) : Type 0 where
   pub stop : Stop
   pub ends_so : ends ≡ Err stop
@@ -97,7 +97,7 @@ pub record HasNoTask (words : List (List ℕ)) (s : Streams) (ends : Result ℕ 
   pub unread : StaysUnread s
   pub unwritten : StaysUnwritten s
 
--- the task that the words ask for was done, or given up
+-- the task that the words ask for was done or given up
 pub record HasDone (words : List (List ℕ)) (s : Streams) (ends : Result ℕ Stop) : Type 0 where
   pub task : Task
   pub asked : Asks words task
@@ -106,6 +106,6 @@ pub record HasDone (words : List (List ℕ)) (s : Streams) (ends : Result ℕ St
   pub does : Does task s remark answer
   pub ends_so : EndsSo task answer remark ends
 
--- of the words the first is the program's name
+-- the first word is the program's name
 abbrev pub Performs : (words : List (List ℕ)) → Streams → Result ℕ Stop → Type 0
 Performs words s ends = HasNoTask words s ends ⊎ HasDone words s ends

@@ -6,8 +6,8 @@ use uug_observe::jobs_remark_at;
 use uug_stream::ToolFault;
 use uug_words::full_remark;
 
-/// Returns what is wrong with a line of the jobs in this folder, if that is the fault. It is empty if none is bad. A
-/// remark that can't be made is left out.
+/// Returns what is wrong with a line of the jobs in this folder, if that is the fault. The text is empty if no line is
+/// bad. A remark that can't be made is left out.
 pub fn jobs_remark<R: Files + AllocGlobal>(rt: &R, dir: &str, fault: &RunFault) -> Option<String> {
     match fault {
         RunFault::Tool(ToolFault::Jobs(line)) => jobs_remark_at(rt.alloc(), rt, dir, *line).ok(),
@@ -15,7 +15,7 @@ pub fn jobs_remark<R: Files + AllocGlobal>(rt: &R, dir: &str, fault: &RunFault) 
     }
 }
 
-/// Does the same for jobs that a person queues or cancels. If none is bad they are as many as may wait.
+/// Does the same for jobs that a person queues or cancels. If no line is bad, the remark is that the queue is full.
 pub fn waiting_remark<R: Files + AllocGlobal>(
     rt: &R,
     dir: &str,

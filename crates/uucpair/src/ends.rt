@@ -1,4 +1,4 @@
-//! Runs of one end or both, with their messages beside the report, and the log.
+//! Runs one end or both, with their log and their messages in addition to the report.
 ghost use Rattle.std.specs.Prelude.{◌≡◌, ◌≤◌, IfErr, IfOk};
 ghost use Rattle.uug_failure.specs.Faults.{IsFolderFault, IsRunFault};
 ghost use Rattle.uug_stop.specs.declared.of_end.TheConstants.{LOG};
@@ -29,8 +29,8 @@ use uug_sys::call_run;
 use uug_task::{CallTask, ReportPlace, System};
 use uug_words::{PairTask, lacks_spool};
 
-/// Runs both ends over one socket, and reports their files on standard error if that is a terminal. One folder for both
-/// is bad usage.
+/// Runs both ends over one socket, and reports their files on standard error if that is a terminal. The same folder for
+/// both is bad usage.
 pub fn do_pair<R, O>(
     rt: &R,
     pair: &PairTask<'_>,
@@ -72,7 +72,7 @@ where
     }
 }
 
-/// Returns whether two paths are of one folder.
+/// Returns whether two paths lead to the same folder.
 fn is_one_folder<R: Files>(rt: &R, path: &str, other: &str) -> bool {
     match (fs::metadata(rt, path), fs::metadata(rt, other)) {
         (Ok(one), Ok(other)) => one.dev() == other.dev() && one.ino() == other.ino(),
@@ -80,7 +80,7 @@ fn is_one_folder<R: Files>(rt: &R, path: &str, other: &str) -> bool {
     }
 }
 
-/// Returns what is wrong with the jobs of either end, if a line of them is the fault.
+/// Returns what is wrong with the jobs of either end, if a bad line of them is the fault.
 fn either_jobs_remark<R: Files + AllocGlobal>(
     rt: &R,
     pair: &PairTask<'_>,
@@ -93,8 +93,8 @@ fn either_jobs_remark<R: Files + AllocGlobal>(
 }
 
 /// Runs one end, and reports its state on standard error if that is asked for. Its report goes to the file that is
-/// named, else to the output, or to standard error if the standard streams are its line. An option of a spool without one
-/// is bad usage.
+/// named, else to the output, or to standard error if the standard streams are its line. An option that needs a spool
+/// is bad usage without one.
 pub fn do_call<R, O>(
     rt: &R,
     call: &CallTask<'_>,
@@ -121,7 +121,7 @@ where
     }
 }
 
-/// Does the same, with its report to this place, which is not the output.
+/// Does the same, but writes the report to this place, which is not the output.
 fn do_call_beside<R>(
     rt: &R,
     call: &CallTask<'_>,
@@ -143,8 +143,8 @@ where
     }
 }
 
-/// Checks of one end that may be run that neither its report, its log, nor the statistics is a named pipe. One is not
-/// opened, since that might wait for a reader.
+/// Checks that neither the report, the log nor the statistics of an end that may be run is a named pipe. A named pipe
+/// is not opened, since that might wait for a reader.
 fn see_outputs<R: Files + AllocGlobal>(rt: &R, call: &CallTask<'_>) -> Result<(), RunFault>
     ensures { IfErr result IsFolderFault }
 {
@@ -156,7 +156,7 @@ fn see_outputs<R: Files + AllocGlobal>(rt: &R, call: &CallTask<'_>) -> Result<()
     see_output(rt, call.stats, STATS)
 }
 
-/// Checks that the output of this number, which is at this path, is no named pipe.
+/// Checks that the output of this number, at this path, is not a named pipe.
 fn see_output<R: Files + AllocGlobal>(
     rt: &R,
     path: Option<&str>,
@@ -179,7 +179,7 @@ fn see_output<R: Files + AllocGlobal>(
     Ok(())
 }
 
-/// Does the same, with its report to the file of this path.
+/// Does the same, but writes the report to the file of this path.
 fn do_call_reporting<R>(
     rt: &R,
     call: &CallTask<'_>,
@@ -209,7 +209,7 @@ where
     Outcome { answer, remark }
 }
 
-/// Does the same, with its report to this output.
+/// Does the same, but writes the report to this output.
 fn do_call_over<'a, R, O>(
     rt: &'a R,
     call: &'a CallTask<'a>,
@@ -287,8 +287,8 @@ where
     Ok(SystemObserver::new(rt.alloc(), rt, call, at_terminal, log)?)
 }
 
-/// Opens the log of one end, if one is named, and the end may be run. The line of its call is in it. An end over a
-/// spool writes its log itself, but for how sessions end badly, and leaves that out where the log can't be opened.
+/// Opens the log of one end, if one is named and the end may be run. The start of a caller's session is then logged. An
+/// end over a spool writes its log itself, except how sessions end badly. That is left out if the log can't be opened.
 fn open_log<'a, R>(rt: &'a R, call: &CallTask<'a>) -> io::Result<Option<SessionLog<'a, R, Global>>>
 where
     R: Files<File = File> + Env + Clock + AllocGlobal,
@@ -323,7 +323,7 @@ fn failure_of_log(error: &io::Error) -> SystemFailure
     }
 }
 
-/// Logs why one end gave up, and what else is said of that, if there is a log. What can't be written is left out.
+/// Logs why one end gave up, with this remark on it, if there is a log. Errors in writing the log are ignored.
 fn log_answer<R>(rt: &R, call: &CallTask<'_>, fault: &RunFault, said: &str)
 where
     R: Files<File = File> + Env + Clock + AllocGlobal,
@@ -348,7 +348,7 @@ fn fault_text(alloc: Global, call: &CallTask<'_>, fault: &RunFault) -> Result<St
     format!(in alloc; "{answer}")
 }
 
-/// Returns which call of the system failed, on what and why, for the log of one end.
+/// Returns which system call failed, on what and why, for the log of one end.
 fn failure_text(
     alloc: Global,
     call: &CallTask<'_>,

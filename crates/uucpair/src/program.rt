@@ -34,7 +34,7 @@ use uug_words::{
     target_remark, task_of, waiting_words,
 };
 
-/// The remark on an order beside a job to cancel.
+/// The remark if both an order and a job to cancel are given.
 const QUEUED_OR_CANCELLED: &str = "a job is queued or cancelled, not both";
 
 /// Prints the name of the program and its version.
@@ -48,8 +48,8 @@ fn show_version<O: Output>(alloc: Global, output: &mut O) -> Result<u8, RunFault
     Ok(0)
 }
 
-/// Lists the jobs that wait, or queues one more, and remarks on a target that an end won't take, and on another job that
-/// sends there.
+/// Lists the jobs that wait, or queues one more. Remarks on a target that an end refuses, and on another job that sends
+/// to the same target.
 fn do_queue<R, O>(rt: &R, queue: &QueueTask<'_>, output: &mut O) -> Outcome<u8, Global>
 where
     R: Files<File = File> + Env + AllocGlobal + Clone + Drop,
@@ -143,7 +143,7 @@ where
     }
 }
 
-/// Shows the status of the part of a spool that is this system's.
+/// Shows the status of this system's part of a spool.
 fn do_spool_status<R, O>(
     rt: &R,
     status: &StatusTask<'_>,
@@ -165,7 +165,7 @@ where
     }
 }
 
-/// Returns that the usage is bad, with this remark if there was memory for it.
+/// Returns that the usage is bad, with this remark, or a memory fault if there was no memory for it.
 fn bad_usage(alloc: Global, remark: Result<String, AllocError>) -> Outcome<u8, Global>
     ensures gives_up { IsErr result.answer }
     ensures no_other { IfErr result.answer IsQueueFault }
@@ -179,7 +179,7 @@ fn bad_usage(alloc: Global, remark: Result<String, AllocError>) -> Outcome<u8, G
     }
 }
 
-/// Returns that a run over the jobs in this folder gave up, with what is wrong with them if that is the fault.
+/// Returns that a run over the jobs in this folder gave up, and what is wrong with them if that is the fault.
 fn gave_up<R: Files + AllocGlobal>(rt: &R, dir: &str, fault: RunFault) -> Outcome<u8, Global>
     ensures { result.answer ≡ Err fault }
 {
@@ -222,8 +222,9 @@ where
     do_on(rt, over, file, input, output)
 }
 
-/// Says that standard input is read, or at which line a call is waited for, if somebody sits there. Nobody has to, for
-/// it to be said of a port that only this machine can call because no host is given, or that no caller knows.
+/// Prints at which line an end waits for a call, or that standard input is read, if a person may see that on a
+/// terminal. A line that only this machine can call because no host is given, or whose port no caller knows, is printed
+/// anyway.
 fn greet<R: Eprint + AllocGlobal>(rt: &R, task: Task<'_>, console: Console) {
     match task {
         Task::Call(call)
@@ -247,7 +248,7 @@ fn greet<R: Eprint + AllocGlobal>(rt: &R, task: Task<'_>, console: Console) {
     }
 }
 
-/// Says at which line an end waits to be called, if it may be run and its line is not the terminal's own.
+/// Prints at which line an end waits to be called, if it may be run and its line is not standard input and output.
 fn say_waiting<R: Eprint + AllocGlobal>(rt: &R, call: &CallTask<'_>) -> Result<(), AllocError> {
     if call.line == "-" || !call.may_run() || lacks_spool(call) {
         return Ok(());
@@ -258,7 +259,7 @@ fn say_waiting<R: Eprint + AllocGlobal>(rt: &R, call: &CallTask<'_>) -> Result<(
     Ok(())
 }
 
-/// Says what to do about the first of the words that is often mistaken for one of the program's.
+/// Prints what to do about the first word that is often mistaken for one of the program's.
 fn say_hint<R: Eprint, S: AsStr>(rt: &R, words: &[S]) {
     let tool = match words.get(1) {
         Some(tool) => tool.as_str(),
@@ -281,8 +282,8 @@ fn tell(rt: &impl Eprint, outcome: &Outcome<u8, Global>) {
     }
 }
 
-/// Does what the words of a command line ask for, the name of the program first, and returns the program's status.
-/// Somebody who sits before standard input gets a message when it is read.
+/// Runs a command line, the program's name first, and returns the program's status. A person at standard input gets a
+/// message when it is read.
 pub fn perform<R, S, I, O>(
     rt: &R,
     words: &[S],
@@ -305,7 +306,7 @@ where
     end_of(rt.alloc(), task, outcome)
 }
 
-/// Does what the program's own command line asks for, on standard input and output.
+/// Runs the program's own command line, on standard input and output.
 pub fn run<R>(rt: &R, console: Console) -> Result<u8, Stop>
 where
     R: Env

@@ -1,4 +1,4 @@
--- What is done with an input: the answer, what was read, and what was written (this project's profile).
+-- Tasks on an input: the answer, what was read, and what was written (this project's profile).
 use Rattle.std.specs.Io.KnownBytes.{Keeps}
 use Rattle.std.specs.Borrow.{Bor}
 use Rattle.std.specs.Prelude.{◌≡◌, ℕ, List, Option, Some, None, Result, Ok, Err, IfOk, IfErr, OnOk, IfSome, ⊤}
@@ -17,7 +17,7 @@ use Rattle.uug_script.specs.Remarks.{remark_at}
 use Rattle.uug_input.specs.declared.input_task.InputTask.{InputTask}
 use Rattle.uug_input.specs.declared.input_task.InputTask.TheVariants as over
 
--- the bytes still to come before and after, and those written before and after, where they are told
+-- the bytes still to come before and after a task, and those written before and after it, if they are exposed
 pub record Streams : Type 0 where
   pub to_come : Option (List ℕ)
   pub left : Option (List ℕ)
@@ -33,20 +33,20 @@ StaysUnread s = Keeps s.to_come s.left
 abbrev pub StaysUnwritten : Streams → Type 0
 StaysUnwritten s = Keeps s.before s.after
 
--- `scan`: the whole input was read, and its listing written
+-- `scan`: the whole input was read, and its listing was written
 pub record Scans (s : Streams) (answer : Result ℕ ToolFault) : Type 0 where
   pub status : IfOk answer (λ status. status ≡ 0)
   pub reads : OnOk answer (ReadsAll s.to_come s.left)
   pub writes : OnOk answer (IfSome s.to_come (λ bytes. AppendsListing bytes s.before s.after))
 
--- `scan -v`: the same with the detailed listing
+-- `scan -v`: as `scan`, with the detailed listing
 pub record ScansVerbose (s : Streams) (answer : Result ℕ ToolFault) : Type 0 where
   pub status : IfOk answer (λ status. status ≡ 0)
   pub reads : OnOk answer (ReadsAll s.to_come s.left)
   pub writes : OnOk answer (IfSome s.to_come (λ bytes. AppendsDetailed bytes s.before s.after))
 
--- `play`: the whole input was read as a script, and the report written that gives the status; nothing was written of a
--- bad script
+-- `play`: the whole input was read as a script, and the report that gives the status was written. For a bad script
+-- nothing was written
 pub record Plays (s : Streams) (answer : Result ℕ ToolFault) : Type 0 where
   pub reads : OnceRead answer (ReadsAll s.to_come s.left)
   pub writes : IfOk answer (λ status. IfSome s.to_come
@@ -54,27 +54,27 @@ pub record Plays (s : Streams) (answer : Result ℕ ToolFault) : Type 0 where
   pub bad : (line : ℕ) → answer ≡ Err (faults.Script line) → IfSome s.to_come (λ script. IsFirstBad script line)
   pub nothing_written : BeforeReport answer (StaysUnwritten s)
 
--- `scan` of a file, with -v or not, whose bytes no proof knows
+-- `scan` of a file, with or without -v. No proof knows the bytes of the file
 pub record ScansFile (s : Streams) (answer : Result ℕ ToolFault) : Type 0 where
   pub unread : StaysUnread s
   pub status : IfOk answer (λ status. status ≡ 0)
   pub no_other : IfErr answer IsScanFault
 
--- `play` of a file, whose bytes no proof knows
+-- `play` of a file. No proof knows its bytes
 pub record PlaysFile (s : Streams) (answer : Result ℕ ToolFault) : Type 0 where
   pub unread : StaysUnread s
   pub nothing_written : BeforeReport answer (StaysUnwritten s)
   pub no_other : IfErr answer IsPlayFault
 
--- `play -v`: the same, and the remark is why the jobs that are not done are not, or of a bad script what is wrong with its
--- first bad line
+-- `play -v`: as `play`, and the remark says why jobs are not done, or what is wrong with the first bad line of a bad
+-- script
 pub record PlaysVerbosely (s : Streams) (remark : List ℕ) (answer : Result ℕ ToolFault) : Type 0 where
   pub plays : Plays s answer
   pub reasons : IfOk answer (λ status. IfSome s.to_come
       (λ script. AppendsVerbosely script remark status s.before s.after))
   pub remarks : (line : ℕ) → answer ≡ Err (faults.Script line) → IfSome s.to_come (λ script. remark ≡ remark_at line script)
 
--- `play --settle`: the same, and what the run settles to was written too, or which condition of that fails
+-- `play --settle`: as `play`, and what the run settles to was written too, or else which condition for that fails
 pub record PlaysSettled (s : Streams) (answer : Result ℕ ToolFault) : Type 0 where
   pub reads : OnceRead answer (ReadsAll s.to_come s.left)
   pub writes : IfOk answer (λ status. IfSome s.to_come
@@ -82,7 +82,8 @@ pub record PlaysSettled (s : Streams) (answer : Result ℕ ToolFault) : Type 0 w
   pub bad : (line : ℕ) → answer ≡ Err (faults.Script line) → IfSome s.to_come (λ script. IsFirstBad script line)
   pub nothing_written : BeforeReport answer (StaysUnwritten s)
 
--- `play --ladder`: the whole input was read as a script, and the report and the ladder written; nothing was written of a bad script
+-- `play --ladder`: the whole input was read as a script, and the report and the ladder were written. For a bad script
+-- nothing was written
 pub record PlaysDrawn (s : Streams) (answer : Result ℕ ToolFault) : Type 0 where
   pub reads : OnceRead answer (ReadsAll s.to_come s.left)
   pub writes : IfOk answer (λ status. IfSome s.to_come
@@ -90,13 +91,13 @@ pub record PlaysDrawn (s : Streams) (answer : Result ℕ ToolFault) : Type 0 whe
   pub bad : (line : ℕ) → answer ≡ Err (faults.Script line) → IfSome s.to_come (λ script. IsFirstBad script line)
   pub nothing_written : BeforeWriting answer (StaysUnwritten s)
 
--- of a file
+-- `play --ladder` of a file
 pub record PlaysFileDrawn (s : Streams) (answer : Result ℕ ToolFault) : Type 0 where
   pub unread : StaysUnread s
   pub nothing_written : BeforeWriting answer (StaysUnwritten s)
   pub no_other : IfErr answer IsDrawingFault
 
--- what is done with an input
+-- a task was performed on an input
 abbrev pub DoesOver : InputTask → Streams → (remark : List ℕ) → Result ℕ ToolFault → Type 0
 DoesOver over.Scan s remark answer = Scans s answer
 DoesOver over.ScanVerbose s remark answer = ScansVerbose s answer
@@ -105,7 +106,7 @@ DoesOver over.PlayVerbose s remark answer = PlaysVerbosely s remark answer
 DoesOver over.PlaySettled s remark answer = PlaysSettled s answer
 DoesOver over.PlayDrawn s remark answer = PlaysDrawn s answer
 
--- the faults that it may give
+-- the faults that a task may give
 abbrev pub IsFaultOf : InputTask → ToolFault → Type 0
 IsFaultOf over.Scan fault = IsScanFault fault
 IsFaultOf over.ScanVerbose fault = IsScanFault fault
@@ -114,7 +115,7 @@ IsFaultOf over.PlayVerbose fault = IsPlayFault fault
 IsFaultOf over.PlaySettled fault = IsPlayFault fault
 IsFaultOf over.PlayDrawn fault = IsDrawingFault fault
 
--- what is done with a file, and s are the streams that the program was given
+-- a task was performed on a file. `s` are the streams that the program was given
 abbrev pub DoesOverFile : InputTask → Streams → Result ℕ ToolFault → Type 0
 DoesOverFile over.Scan s answer = ScansFile s answer
 DoesOverFile over.ScanVerbose s answer = ScansFile s answer
@@ -123,17 +124,17 @@ DoesOverFile over.PlayVerbose s answer = PlaysFile s answer
 DoesOverFile over.PlaySettled s answer = PlaysFile s answer
 DoesOverFile over.PlayDrawn s answer = PlaysFileDrawn s answer
 
--- what the program answers
+-- the program's answer
 abbrev pub answered : Result ℕ RunFault → Result ℕ ToolFault
 answered (Ok status) = Ok status
 answered (Err fault) = Err (fault_of_run fault)
 
--- of a file that can't be read it is known why
+-- a fault that gives the reason, if the file can't be read
 abbrev pub IsNamed : RunFault → Type 0
 IsNamed (Tool faults.Read) = ⊥
 IsNamed _ = ⊤
 
--- what is done with the file of this name, or with standard input where none is named
+-- a task was performed on the file of this name, or on standard input if none is named
 abbrev pub DoesOn : InputTask → (file : Option (Bor (List ℕ))) → Streams → (remark : List ℕ) → Result ℕ RunFault → Type 0
 DoesOn task None s remark answer = DoesOver task s remark (answered answer)
 DoesOn task (Some path) s remark answer = DoesOverFile task s (answered answer) × IfErr answer IsNamed

@@ -1,4 +1,4 @@
-//! Tasks with an input: with standard input, or with a file.
+//! Performs tasks on an input: standard input, or a file.
 ghost use Rattle.std.specs.Prelude.{◌≡◌, IfErr, IsSome, string_bytes};
 ghost use Rattle.uug_scan.specs.Scan.{IsScanFault};
 ghost use Rattle.uug_stream.specs.Streams.{CountsFault};
@@ -15,7 +15,7 @@ use uug_port::SystemInput;
 use uug_scan::{READ_LIMIT, scan_detailed, scan_stream};
 use uug_stream::{Output, ToolFault};
 
-/// Lists the input.
+/// Lists the packets of the input.
 fn scan<I, O>(alloc: Global, input: &mut I, output: &mut O) -> Result<u8, ToolFault>
 where
     I: uug_stream::Input,
@@ -30,7 +30,7 @@ where
     Ok(0)
 }
 
-/// Lists the input in detail.
+/// Lists the packets of the input in detail.
 fn scan_verbose<I, O>(alloc: Global, input: &mut I, output: &mut O) -> Result<u8, ToolFault>
 where
     I: uug_stream::Input,
@@ -45,7 +45,7 @@ where
     Ok(0)
 }
 
-/// Does a task with an input.
+/// Performs a task on an input.
 fn do_over<I, O>(alloc: Global, task: InputTask, input: &mut I, output: &mut O) -> Remarked<Global>
 where
     I: uug_stream::Input,
@@ -70,7 +70,7 @@ where
     }
 }
 
-/// Returns this answer. `first` is the first read of the input that failed, if one did.
+/// Returns this answer. `first`, the first failed read of the input, becomes the cause if the fault is a failed read.
 fn with_cause(answer: Result<u8, ToolFault>, first: Option<SystemFailure>) -> Result<u8, RunFault>
     ensures answered { answered result ≡ answer }
     ensures named { (answer ≡ Err ToolFault.Read → IsSome first) → IfErr result IsNamed }
@@ -81,7 +81,7 @@ fn with_cause(answer: Result<u8, ToolFault>, first: Option<SystemFailure>) -> Re
     }
 }
 
-/// Does a task with the file of this name, or with the input if none is named.
+/// Performs a task on the file at this path, or on the input if no file is named.
 pub fn do_on<R, I, O>(
     rt: &R,
     task: InputTask,

@@ -3,11 +3,11 @@
 /// A task with an input.
 #[derive(Clone, Copy, Debug, PartialEq, Eq)]
 pub enum InputTask {
-    /// Its packets are listed.
+    /// The packets of the input are listed.
     Scan,
-    /// They are listed in detail.
+    /// The packets are listed in detail.
     ScanVerbose,
-    /// The script in it is played.
+    /// The script in the input is played.
     Play,
     /// The script is played, with a remark on its jobs, or on the script if it is bad.
     PlayVerbose,

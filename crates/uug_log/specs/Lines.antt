@@ -1,4 +1,4 @@
--- The lines of what is followed (this project's profile).
+-- The lines that report jobs, the progress of files, and losses (this project's profile).
 use Rattle.std.specs.Prelude.{◌==◌, ◌-◌, ◌/◌, ℕ, List, [], ◌++◌, length, codes, nat_lt, Option, Some, None, if◌then◌else◌}
 use Rattle.std.specs.Fmt.{decimal}
 use Rattle.uug_log.specs.Paces.{percent}
@@ -30,12 +30,12 @@ outcome_word TooLarge = codes "refused, maybe for its size"
 outcome_word Later = codes "put off"
 outcome_word Differs = codes "wrong digest"
 
--- uucpair: SECOND s: and whose job it is, with the file that it is of
+-- `uucpair: SECOND s:`, whose job it is, its kind and its source
 abbrev pub job_words : ℕ → Transfer → List ℕ
 job_words seconds job =
     codes "uucpair: " ++ decimal seconds ++ codes " s: " ++ whose job.way ++ wish_word job.wish ++ codes " " ++ job.source
 
--- with these words at its end
+-- the line of a job, with these words at its end
 abbrev pub job_line : ℕ → Transfer → (ending : List ℕ) → List ℕ
 job_line seconds job ending = job_words seconds job ++ codes " " ++ job.target ++ ending ++ codes "\n"
 
@@ -60,11 +60,11 @@ news_line seconds took (Begins job) = begin_line seconds job
 news_line seconds took (Resumes job size position) = resume_line seconds job position
 news_line seconds took (Ends job outcome bytes) = end_line seconds took job outcome bytes
 
--- how long the rest of a file takes at a rate, if anything goes
+-- how long the rest of a file takes at this rate, or nothing if the rate is 0
 abbrev pub left_words : (rest rate : ℕ) → List ℕ
 left_words rest rate = if rate == 0 then [] else codes ", " ++ decimal (rest / rate) ++ codes " s left"
 
--- how often a packet was repeated, if one was
+-- the number of repeats, or nothing if there were none
 abbrev pub repeat_words : ℕ → List ℕ
 repeat_words repeats = if repeats == 0 then [] else codes ", " ++ decimal repeats ++ codes " repeats"
 
@@ -72,7 +72,7 @@ abbrev pub pace_words : (rate position size repeats : ℕ) → List ℕ
 pace_words rate position size repeats =
     decimal (percent position size) ++ codes "%, " ++ decimal rate ++ codes " B/s" ++ left_words (size - position) rate ++ repeat_words repeats
 
--- the longer of two lines, where a terminal has room for it
+-- the long line if it fits into a terminal, else the short one
 abbrev pub fitting : (long short : List ℕ) → List ℕ
 fitting long short = if nat_lt (length long) COLUMNS then long else short
 
@@ -89,7 +89,7 @@ abbrev pub file_line : (words : List ℕ) → (rate position : ℕ) → (size : 
 file_line words rate position None repeats = unsized_line words rate position repeats
 file_line words rate position (Some size) repeats = sized_line words rate position size repeats
 
--- how far the file of a job is in this second, and the bytes a second at which it goes
+-- the progress of a job's file in this second, with the rate in bytes a second
 abbrev pub progress_line : (seconds rate : ℕ) → FileProgress → List ℕ
 progress_line seconds rate p = file_line (job_words seconds p.job) rate p.position p.size p.repeats
 
@@ -98,7 +98,7 @@ lost_words counts =
     codes " rejects " ++ decimal counts.rejects ++ codes " repeats " ++ decimal counts.repeats ++ codes " damaged "
     ++ decimal counts.damaged
 
--- what was done with them, as wrote or read
+-- the verb says what was done with the bytes: wrote or read
 abbrev pub counts_line : (verb : List ℕ) → (bytes : ℕ) → Counts → List ℕ
 counts_line verb bytes counts =
     codes "uucpair: " ++ verb ++ codes " " ++ decimal bytes ++ codes " bytes" ++ lost_words counts ++ codes "\n"

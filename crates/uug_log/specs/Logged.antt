@@ -1,4 +1,4 @@
--- What an end has in its log (this project's profile, in the form of Taylor UUCP 1.07).
+-- The entries of an end's log (this project's profile, in the format of Taylor UUCP 1.07).
 use Rattle.std.specs.Prelude.{◌/◌, ◌%◌, ℕ, Bool, true, false, List, [], ◌∷◌, ◌++◌, Option, Some, codes, unsigned_abs}
 use Rattle.jiff_core.specs.declared.civil.datetime.DateTime.{DateTime}
 use Rattle.uug_conversation.specs.declared.side.Side.{Side}
@@ -15,7 +15,7 @@ use Rattle.uug_scan.specs.Detailed.{escaped}
 use Rattle.uug_spool.specs.LogLines.{Entry, called, calls, fault, receives, receives_from, sends, sends_from}
 use Rattle.uug_spool.specs.declared.moment.Moment.{Moment}
 
--- the moment at which a clock shows a date and a time of it
+-- the moment of a date and a time that a clock shows
 abbrev pub moment_at : DateTime → Moment
 moment_at shown = record {
   year = unsigned_abs shown.date.year;
@@ -27,24 +27,24 @@ moment_at shown = record {
   hundredths = shown.time.subsec_nanosecond / 10000000 % 100;
 }
 
--- a session begins at this side: nobody has logged in to call it
+-- the start of a session at this side. The caller has not logged in, so its login is `-`
 abbrev pub start_entry : Side → (line : List ℕ) → Entry
 start_entry Caller line = calls (escaped line)
 start_entry Called line = called (codes "-") (escaped line)
 
--- whether a file goes to the other end: it is sent there by a job of this one, or that one has asked for it
+-- whether a file goes to the other end: this end sends it, or the other end has requested it
 abbrev pub is_sent : Way → Wish → Bool
 is_sent Out Send = true
 is_sent In Request = true
 is_sent Out Request = false
 is_sent In Send = false
 
--- what the job was that is not done, and why
+-- the words for a job that is not done, and why
 abbrev pub unfinished : Transfer → Outcome → List ℕ
 unfinished job outcome =
     wish_word job.wish ++ (codes " " ++ (escaped job.source ++ (codes " " ++ (escaped job.target ++ (codes ": " ++ outcome_word outcome)))))
 
--- a job that is done has its file, under the name that it has here
+-- the entry of a job that is done: its file, under the name that it has at this end, and its bytes
 abbrev pub done_entry : (sent : Bool) → (source target : List ℕ) → (bytes : ℕ) → Entry
 done_entry true source target bytes = sends (escaped source) bytes
 done_entry false source target bytes = receives (escaped target) (Some bytes)
@@ -56,18 +56,18 @@ job_entry job TooLarge bytes = fault (unfinished job TooLarge)
 job_entry job Later bytes = fault (unfinished job Later)
 job_entry job Differs bytes = fault (unfinished job Differs)
 
--- a file of this size, if that was told, was cut off and goes on here
+-- the entry of a file that resumes at this position, with its whole size, if that was announced
 abbrev pub resumed_entry : (sent : Bool) → (source target : List ℕ) → (size : Option ℕ) → (position : ℕ) → Entry
 resumed_entry true source target size position = sends_from (escaped source) size position
 resumed_entry false source target size position = receives_from (escaped target) size position
 
--- the other end was refused a job that ended so
+-- whether a job with this direction and outcome is one that the other end was refused
 abbrev pub is_refused_to_it : Way → Outcome → Bool
 is_refused_to_it In Never = true
 is_refused_to_it In TooLarge = true
 is_refused_to_it way outcome = false
 
--- how a session or a run ended badly
+-- the text of a session or a run that ended badly
 abbrev pub end_text : (word said : List ℕ) → List ℕ
 end_text word [] = word
 end_text word (c ∷ said) = word ++ (codes ": " ++ c ∷ said)

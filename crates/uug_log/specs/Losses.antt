@@ -1,4 +1,4 @@
--- What the packets that go one way tell of losses (this project's profile).
+-- The losses that the packets of one direction show (this project's profile).
 use Rattle.std.specs.Prelude.{◌≡◌, ℕ, ◌+◌, ◌-◌, ◌%◌, ◌^◌, min, List, [], ◌∷◌, nat_eq, Option, Some, None, if◌then◌else◌}
 use Rattle.uug_packet.specs.Packet.{rj, srj, control, carry}
 use Rattle.uug_reader.specs.Cut.{Item, found, bad}
@@ -6,7 +6,7 @@ use Rattle.uug_reader.specs.Scan.{Finds}
 use Rattle.uug_log.specs.declared.passed.Counts.{Counts}
 use Rattle.uug_log.specs.declared.passed.Passed.{Passed}
 
--- one more; the count stands at the greatest number
+-- one more. The count saturates
 abbrev pub one_more : ℕ → ℕ
 one_more count = min (count + 1) (2 ^ 64 - 1)
 
@@ -22,7 +22,7 @@ with_repeat c = record { rejects = c.rejects; repeats = one_more c.repeats; dama
 abbrev pub with_damage : Counts → Counts
 with_damage c = record { rejects = c.rejects; repeats = c.repeats; damaged = one_more c.damaged }
 
--- what is counted of an item, where this is the number of the next data packet
+-- the counts after an item. `next` is the number of the next data packet
 abbrev pub counted : (next : ℕ) → Counts → Item → Counts
 counted next c bad = with_damage c
 counted next c (found (control (rj y))) = with_reject c
@@ -30,13 +30,13 @@ counted next c (found (control (srj y))) = with_reject c
 counted next c (found (control other)) = c
 counted next c (found (carry seq ack k message)) = if nat_eq seq next then c else with_repeat c
 
--- numbers go up by one and are counted modulo eight
+-- the number of the next data packet after an item, modulo eight
 abbrev pub next_behind : (next : ℕ) → Item → ℕ
 next_behind next bad = next
 next_behind next (found (control other)) = next
 next_behind next (found (carry seq ack k message)) = if nat_eq seq next then (next + 1) % 8 else next
 
--- what the next data packet carries
+-- the message of an item, if it is the next data packet
 abbrev pub next_message : (next : ℕ) → Item → Option (List ℕ)
 next_message next bad = None
 next_message next (found (control other)) = None
@@ -45,11 +45,11 @@ next_message next (found (carry seq ack k message)) = if nat_eq seq next then So
 abbrev pub passed_after : Passed → Item → Passed
 passed_after p item = record { next = next_behind p.next item; counts = counted p.next p.counts item }
 
--- after these items, one after the other
+-- after these items, in order
 abbrev pub passed_with : Passed → List Item → Passed
 passed_with p [] = p
 passed_with p (item ∷ items) = passed_with (passed_after p item) items
 
--- what is found in the bytes in front of the others is counted
+-- all that is found in the bytes before the others is counted
 abbrev pub AddsCounts : (s others : List ℕ) → (before after : Passed) → Type 0
 AddsCounts s others before after = (items : List Item) × Finds s items others × (after ≡ passed_with before items)

@@ -1,4 +1,4 @@
--- What somebody keeps who sees the bytes that go both ways (this project's profile).
+-- The state of an observer of the bytes that go both ways (this project's profile).
 use Rattle.std.specs.Prelude.{◌≡◌, List, [], ◌++◌, ℕ}
 use Rattle.uug_packet.specs.Waits.{Waits}
 use Rattle.uug_log.specs.Losses.{AddsCounts}
@@ -6,7 +6,7 @@ use Rattle.uug_log.specs.declared.passed.Passed.{Passed}
 use Rattle.uug_log.specs.declared.way.Way.{Way}
 use Rattle.uug_log.specs.declared.way.Way.TheVariants.{Out, In}
 
--- of one way: the bytes in which nothing is found until more come, and what has passed before them
+-- the state of one way: the bytes in which nothing is found until more arrive, and what has passed before them
 pub record Passing : Type 0 where
   pub held : List ℕ
   pub passed : Passed
@@ -23,7 +23,7 @@ passing In w = w.inward
 abbrev pub nothing_yet : Passing
 nothing_yet = record { held = []; passed = record { next = 1; counts = record { rejects = 0; repeats = 0; damaged = 0 } } }
 
--- all that is found in the bytes that were held and a piece after them is counted, and the rest is held
+-- a piece is appended to the held bytes. All that is found in them is counted, and the rest is held
 pub record Takes (piece : List ℕ) (before after : Passing) : Type 0 where
   pub counts : AddsCounts (before.held ++ piece) after.held before.passed after.passed
   pub waits : Waits after.held

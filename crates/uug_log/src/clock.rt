@@ -1,4 +1,4 @@
-//! The time of a line of a log.
+//! The time of a log line.
 ghost use Rattle.std.specs.Prelude.{◌≡◌};
 ghost use Rattle.uug_log.specs.Logged.{moment_at};
 
@@ -21,11 +21,11 @@ pub struct LocalClock {
 }
 
 impl LocalClock {
-    /// Reads the clock, with the time zone that `TZ` or the system names.
+    /// Reads the time zone that `TZ` or the system names.
     pub fn read<R: Env + Files + AllocGlobal>(rt: &R) -> Self {
         let mut zones = TimeZoneDatabase::new(rt.alloc());
         if let Ok(name) = env::var(rt, "TZ") {
-            // A zone that can't be read is none, and the clock's is UTC.
+            // If the zone can't be read, the clock shows UTC.
             let _ = add_zone(rt, &mut zones, name.as_str());
         }
         LocalClock {
@@ -67,7 +67,7 @@ fn instant<R: Clock>(rt: &R) -> Timestamp {
     Timestamp::from_nanosecond(since.as_nanos() as i128).unwrap_or(Timestamp::UNIX_EPOCH)
 }
 
-/// Returns the moment that a clock shows.
+/// Converts a date and time that a clock shows to a moment.
 fn moment_of(shown: DateTime) -> Moment
     ensures { result ≡ moment_at shown }
 {

@@ -1,4 +1,4 @@
-//! The conversation of two ends, as heard by somebody who sees the messages of both.
+//! The conversation of two ends, followed by the messages of both.
 ghost use Rattle.std.specs.Prelude.{◌≡◌, length};
 ghost use Rattle.uug_log.specs.Losses.{bytes_with};
 
@@ -9,29 +9,29 @@ use uug_talk::{
     read_wished, told_by_answer, told_by_order,
 };
 
-/// The size of the greatest file that an end takes for which no other limit is set.
+/// The size of the largest file that an end takes if no other limit is set.
 const USUAL_LIMIT: u32 = 67_108_864;
 
-/// The present job, and the progress of its file.
+/// The current job, and the progress of its file.
 #[derive(Clone, Copy)]
 pub(crate) struct Exchange {
     job: Option<Transfer>,
     /// The digest announced for its file.
     told: Option<FileDigest>,
-    /// The direction in which a file goes now.
+    /// The direction of the file that is being sent, if one is.
     file: Option<Way>,
     /// The position from which its file is sent.
     start: u32,
-    /// The number of bytes of the job's file that have passed, up to the greatest number that fits.
+    /// The number of bytes of the job's file that have passed in this session. It saturates.
     bytes: u64,
-    /// True if the end takes its job as done when the other end has the file already.
+    /// Set if the end is lenient: its job is done if the other end has the file already, and it reads `RY 0644M`.
     is_lenient: bool,
-    /// The size of the greatest file that the end takes.
+    /// The size of the largest file that the end takes.
     limit: u32,
 }
 
 impl Exchange {
-    /// Makes an exchange in which nothing was said yet.
+    /// Creates an exchange in which nothing was said yet.
     pub(crate) fn new(is_lenient: bool, limit: u32) -> Self {
         Exchange {
             job: None,
@@ -44,7 +44,7 @@ impl Exchange {
         }
     }
 
-    /// Returns the present job.
+    /// Returns the current job.
     pub(crate) fn job(&self) -> Option<Transfer> {
         self.job
     }
@@ -59,12 +59,12 @@ impl Exchange {
         self.told.map(|told| told.size)
     }
 
-    /// Returns whether a file goes this way now: the next message is a part of it.
+    /// Returns whether a file is being sent this way: the next message is a part of it.
     pub(crate) fn is_file(&self, way: Way) -> bool {
         self.file == Some(way)
     }
 
-    /// Takes a message of a file that has passed. An empty one ends the file.
+    /// Takes a message of the file. An empty message ends it.
     pub(crate) fn take_part(&mut self, message: &[u8])
         ensures { self.new.bytes ≡ bytes_with self.old.bytes (length message.now) }
     {
@@ -74,7 +74,7 @@ impl Exchange {
         }
     }
 
-    /// Takes a complete text that has passed this way.
+    /// Takes a complete text that went this way, and returns its news of a job.
     pub(crate) fn take_text(&mut self, way: Way, text: &[u8]) -> Option<News> {
         match read_order(text) {
             Ok(order) => self.begin(way, &order, told_by_order(text)),
@@ -98,7 +98,7 @@ impl Exchange {
         }
     }
 
-    /// Begins the job of an order of one of the ends, with the digest that it announced for the file.
+    /// Begins the job of an order from either end, with the digest that the order announces for the file.
     fn begin(&mut self, way: Way, order: &Order, told: Option<FileDigest>) -> Option<News> {
         self.job = Transfer::of(way, order);
         self.told = told;
@@ -108,8 +108,8 @@ impl Exchange {
         Some(News::Begins(job))
     }
 
-    /// Takes an answer of one of the ends, which may hold the file already. CN4 reports a received file that differs
-    /// from its digest, if one was announced.
+    /// Takes an answer from either end. `held` is set if that end has the file already, which counts as done. CN4
+    /// reports a received file that differs from its digest, if one was announced.
     fn take_answer(&mut self, way: Way, answer: Answer, held: bool) -> Option<News> {
         match answer {
             Answer::SendYes | Answer::GiveYes(_) => self.begin_file(),
@@ -123,7 +123,7 @@ impl Exchange {
         }
     }
 
-    /// Begins the file of the present job, or goes on with it.
+    /// Begins the file of the current job, and returns the news if it resumes.
     fn begin_file(&mut self) -> Option<News> {
         let job = self.job?;
         self.file = Some(job.file_way());
@@ -133,8 +133,8 @@ impl Exchange {
         Some(News::Resumes(job, self.size(), self.start))
     }
 
-    /// Returns whether the announced size of the file is more than the end takes whose answer went this way. The limit
-    /// of the other end is not known, so it counts as the usual one.
+    /// Returns whether the announced size of the file exceeds the limit of the end whose answer went this way. The
+    /// limit of the other end is not known, so `USUAL_LIMIT` is assumed.
     fn is_too_large(&self, way: Way) -> bool {
         let limit = match way {
             Way::Out => self.limit,
@@ -146,7 +146,7 @@ impl Exchange {
         }
     }
 
-    /// Ends the present job.
+    /// Ends the current job.
     fn end(&mut self, outcome: Outcome) -> Option<News> {
         let job = self.job.take()?;
         Some(News::Ends(job, outcome, self.bytes))

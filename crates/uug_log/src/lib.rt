@@ -1,6 +1,6 @@
-//! What is told of a session. An observer follows it by the bytes that pass between its two ends: the jobs of both, and
-//! what was lost on the way. The log has the form of Taylor UUCP: a line for the start of a session, for the end of
-//! each job and for the session's end, each appended to a file by one write.
+//! Reports of a session. An observer follows the bytes that pass between the two ends, and finds the jobs of both and
+//! the losses. The log has the format of Taylor UUCP: a line for the start of a session, for the end of each job and
+//! for the session's end, each appended to a file by one write.
 #![tactic(auto)]
 
 mod clock;

@@ -13,7 +13,7 @@ use uug_conversation::Side;
 use uug_reason::add_escaped;
 use uug_spool::{LogEvent, LogHead, log_line};
 
-/// Returns the line of a session that begins. The system is called over the line of this name, or has called there.
+/// Returns the line for the start of a session: the system is called, or has called, over the line of this name.
 pub fn start_line<A: Allocator + Copy>(
     alloc: A,
     head: &LogHead<'_>,
@@ -31,8 +31,8 @@ pub fn start_line<A: Allocator + Copy>(
     log_line(alloc, head, &event)
 }
 
-/// Returns the line of a job that has ended. It has the file that was sent or received, and its bytes, or says why it
-/// was not.
+/// Returns the line for the end of a job. It gives the file that was sent or received, and its bytes, or else the
+/// reason why it was not.
 pub fn job_line<A: Allocator + Copy>(
     alloc: A,
     head: &LogHead<'_>,
@@ -75,7 +75,7 @@ fn done_line<A: Allocator + Copy>(
     }
 }
 
-/// Returns the line of a file that was cut off and goes on at this position, with its whole size, if that was announced.
+/// Returns the line of a file that resumes at this position, with its whole size, if that was announced.
 pub fn resumed_line<A: Allocator + Copy>(
     alloc: A,
     head: &LogHead<'_>,
@@ -133,7 +133,7 @@ fn unfinished<A: Allocator>(
     Ok(text)
 }
 
-/// Returns the line that reports what went wrong.
+/// Returns the line that reports a fault.
 pub fn fault_line<A: Allocator + Copy>(
     alloc: A,
     head: &LogHead<'_>,
@@ -145,7 +145,7 @@ pub fn fault_line<A: Allocator + Copy>(
     log_line(alloc, head, &LogEvent::Fault(text.as_bytes()))
 }
 
-/// Returns the line of a session that is over, with its seconds and the bytes of files that went in it.
+/// Returns the line for the end of a session, with its seconds and the bytes of the files transferred in it.
 pub fn over_line<A: Allocator + Copy>(
     alloc: A,
     head: &LogHead<'_>,
@@ -158,7 +158,7 @@ pub fn over_line<A: Allocator + Copy>(
     log_line(alloc, head, &LogEvent::Over(seconds, bytes))
 }
 
-/// Returns how a session or a run ended badly: its word, and what is said of it, if anything is.
+/// Returns the text of a session or a run that ended badly: the word for how, and the details, if there are any.
 pub fn end_text<A: Allocator>(alloc: A, word: &str, said: &str) -> Result<String<A>, AllocError>
     ensures { IfOk result (λ text. string_bytes text ≡ end_text word.now said.now) }
 {
@@ -170,13 +170,13 @@ pub fn end_text<A: Allocator>(alloc: A, word: &str, said: &str) -> Result<String
     Ok(text)
 }
 
-/// Returns the words of a line on standard error, without the name of the program before them.
+/// Returns a line of standard error without the program's name before it, and without its line feed.
 pub fn words_of(line: &str) -> &str {
     let words = line.strip_prefix("uucpair: ").unwrap_or(line);
     words.strip_suffix('\n').unwrap_or(words)
 }
 
-/// Returns a text in which all can be seen.
+/// Returns the bytes as a text in which those that can't be seen are written in hex.
 fn escaped<A: Allocator>(alloc: A, bytes: &[u8]) -> Result<String<A>, AllocError>
     ensures { IfOk result (λ text. string_bytes text ≡ escaped bytes.now) }
 {

@@ -14,10 +14,10 @@ use uug_spool::LogHead;
 /// The name of this program in a log.
 const PROGRAM: &[u8] = b"uucpair";
 
-/// The name of the program in whose place an end over a spool stands.
+/// The name of the program that an end over a spool replaces.
 const REPLACED: &[u8] = b"uucico";
 
-/// A file to which lines are appended, with the clock for their times and the number of the process.
+/// A file to which log lines are appended, and the clock and the process number that they show.
 #[derive(Drop)]
 pub struct LogFile<'a, R> {
     rt: &'a R,
@@ -29,7 +29,8 @@ pub struct LogFile<'a, R> {
 }
 
 impl<'a, R: Files<File = File> + Env + AllocGlobal> LogFile<'a, R> {
-    /// Opens the file of this path to append to, of an end over a spool or a folder. A missing file is created.
+    /// Opens the file at this path for appending, and creates it if it is missing. `is_spool` says whether the end
+    /// works over a spool or a folder.
     pub fn open(rt: &'a R, path: &str, is_spool: bool) -> io::Result<Self> {
         let file = OpenOptions::new().append(true).create(true).open(rt, path)?;
         Ok(LogFile {
@@ -57,7 +58,7 @@ impl<R> LogFile<'_, R> {
 }
 
 impl<'a, R: Clock> LogFile<'a, R> {
-    /// Returns the head of a line that is written now, of this system, which is empty if it isn't known.
+    /// Returns the head of a line that is written now. `system` is empty if it isn't known.
     pub fn head<'b>(&self, system: &'b [u8]) -> LogHead<'b> {
         LogHead {
             program: self.program(),
@@ -68,7 +69,7 @@ impl<'a, R: Clock> LogFile<'a, R> {
         }
     }
 
-    /// Appends a line, by one write. A line for which there is no memory, or that can't be written, is left out.
+    /// Appends a line by one write. A line is left out if there was no memory for it, or if it can't be written.
     pub fn append<A: Allocator>(&mut self, line: Result<Vec<u8, A>, AllocError>) {
         if let Ok(line) = line {
             let _ = write_again(&mut self.file, line.as_slice());

@@ -10,10 +10,10 @@ use crate::transfer::{FileProgress, News, Outcome, Transfer, Wish};
 use crate::way::Way;
 use std::alloc::{AllocError, Allocator};
 
-/// The columns of a terminal. A line of progress that fills them is made shorter, as far as its names allow.
+/// The columns of a terminal. A progress line that fills them is shortened, as far as its names allow.
 const COLUMNS: usize = 80;
 
-/// Returns the line of what becomes of a job in this second of the session. One that ends has taken `took` seconds.
+/// Returns the line that reports news of a job in this second of the session. A job that ends has taken `took` seconds.
 pub fn news_line<A: Allocator + Copy>(
     alloc: A,
     seconds: u64,
@@ -29,7 +29,7 @@ pub fn news_line<A: Allocator + Copy>(
     }
 }
 
-/// Returns whose job it is, and its file.
+/// Returns the second, whose job it is, its kind, and its source.
 fn job_words<A: Allocator + Copy>(
     alloc: A,
     seconds: u64,
@@ -56,7 +56,7 @@ fn begin_line<A: Allocator + Copy>(
     Ok(line)
 }
 
-/// Returns the position at which a job goes on.
+/// Returns the words for the position at which a file resumes.
 fn resumed_words<A: Allocator + Copy>(alloc: A, position: u32) -> Result<String<A>, AllocError>
     ensures { IfOk result (λ words. string_bytes words ≡ resumed_words position) }
 {
@@ -120,8 +120,8 @@ fn job_line<A: Allocator + Copy>(
     Ok(line)
 }
 
-/// Returns how far the file of a job is in this second of the session, and the bytes a second at which it goes: a line
-/// without a line feed.
+/// Returns the progress line of a job's file in this second of the session, with the rate in bytes a second. It has no
+/// line feed.
 pub fn progress_line<A: Allocator + Copy>(
     alloc: A,
     seconds: u64,
@@ -137,7 +137,7 @@ pub fn progress_line<A: Allocator + Copy>(
     }
 }
 
-/// Returns the line of a file whose size isn't known.
+/// Returns the progress line of a file whose size isn't known.
 fn unsized_line<A: Allocator + Copy>(
     alloc: A,
     words: &str,
@@ -153,7 +153,7 @@ fn unsized_line<A: Allocator + Copy>(
     Ok(line)
 }
 
-/// Returns the line of a file of this size: without the bytes, where it would be too long with them.
+/// Returns the progress line of a file of this size. It leaves out the bytes if it would be too long with them.
 fn sized_line<A: Allocator + Copy>(
     alloc: A,
     words: &str,
@@ -174,7 +174,7 @@ fn sized_line<A: Allocator + Copy>(
     Ok(short)
 }
 
-/// Returns the part of a file that has passed, how fast it goes, and how often a packet was repeated.
+/// Returns the percentage of a file that has passed, its rate, the time left, and the repeats.
 fn pace_words<A: Allocator + Copy>(
     alloc: A,
     rate: u64,
@@ -193,7 +193,7 @@ fn pace_words<A: Allocator + Copy>(
     Ok(words)
 }
 
-/// Returns how often a packet was repeated: nothing if none was.
+/// Returns the number of repeats, or nothing if there were none.
 fn repeat_words<A: Allocator + Copy>(alloc: A, repeats: u64) -> Result<String<A>, AllocError>
     ensures { IfOk result (λ words. string_bytes words ≡ repeat_words repeats) }
 {
@@ -204,7 +204,7 @@ fn repeat_words<A: Allocator + Copy>(alloc: A, repeats: u64) -> Result<String<A>
     Ok(words)
 }
 
-/// Returns how long the rest of a file takes at this rate: nothing if nothing goes.
+/// Returns how long the rest of a file takes at this rate, or nothing if the rate is 0.
 fn left_words<A: Allocator + Copy>(alloc: A, rest: u64, rate: u64) -> Result<String<A>, AllocError>
     ensures { IfOk result (λ words. string_bytes words ≡ left_words rest rate) }
 {
@@ -224,7 +224,7 @@ fn lost_words<A: Allocator + Copy>(alloc: A, counts: Counts) -> Result<String<A>
     Ok(words)
 }
 
-/// Returns the line of all that went one way: the verb for what this end did, the number of bytes, and the losses.
+/// Returns the line for one direction: the verb for what this end did, the number of bytes, and the losses.
 pub fn counts_line<A: Allocator + Copy>(
     alloc: A,
     verb: &str,
@@ -258,7 +258,7 @@ pub fn wish_word(wish: Wish) -> &'static str
     }
 }
 
-/// Returns the words for what became of a job.
+/// Returns the words for the outcome of a job.
 pub fn outcome_word(outcome: Outcome) -> &'static str
     ensures { result.now ≡ outcome_word outcome }
 {

@@ -17,9 +17,9 @@ use std::marker::Model;
 use uug_reader::Reader;
 use uug_talk::{Gather, Progress};
 
-/// A journal of the reports of an observer.
+/// A journal of what an observer reports.
 pub trait Journal {
-    /// Notes what becomes of a job.
+    /// Notes news of a job.
     fn note(&mut self, news: &News);
 }
 
@@ -28,7 +28,7 @@ pub trait Journal {
 struct Stream<A: Allocator> {
     reader: Reader<A>,
     passed: Passed,
-    /// The command or answer that has begun.
+    /// The command or answer that is being gathered.
     text: Gather<A>,
 }
 
@@ -45,7 +45,7 @@ impl<A: Allocator> Stream<A> {
     }
 }
 
-/// An observer of a session, by the bytes that go both ways. Clauses see what has passed each way.
+/// An observer that follows a session by the bytes that go both ways. Clauses see what has passed each way.
 #[derive(Drop)]
 pub struct Observer<A: Allocator> {
     outward: Stream<A>,
@@ -65,8 +65,8 @@ impl<A: Allocator> Model for Observer<A> {
 }
 
 impl<A: Allocator + Copy> Observer<A> {
-    /// Makes an observer that has seen nothing of the session, of an end that is lenient or not and takes files up to
-    /// this limit. No other call takes memory, except for a text of a command that is longer than one packet.
+    /// Creates an observer of an end, which may be lenient and takes files of up to `limit` bytes. It has seen nothing
+    /// of the session. The observer allocates in no other call.
     pub fn new(alloc: A, is_lenient: bool, limit: u32) -> Result<Self, AllocError>
         ensures outward { IfOk result (λ observer. observer.outward ≡ nothing_yet) }
         ensures inward { IfOk result (λ observer. observer.inward ≡ nothing_yet) }
@@ -78,7 +78,7 @@ impl<A: Allocator + Copy> Observer<A> {
         })
     }
 
-    /// Takes the bytes that go this way, after those before.
+    /// Takes the next bytes that go this way.
     pub fn see<J: Journal>(&mut self, way: Way, piece: &[u8], journal: &mut J)
         ensures { Sees way piece.now self.old self.new }
     {
@@ -98,7 +98,7 @@ impl<A: Allocator + Copy> Observer<A> {
         }
     }
 
-    /// Returns how far the file of the present job is.
+    /// Returns the progress of the current job's file, or `None` if there is no job.
     pub fn progress(&self) -> Option<FileProgress> {
         let job = self.exchange.job()?;
         let way = job.file_way();
@@ -132,7 +132,7 @@ fn see_piece<A: Allocator, J: Journal>(
     }
 }
 
-/// Takes up all that is found in the held bytes.
+/// Takes all that is found in the held bytes.
 fn take_found<A: Allocator, J: Journal>(
     stream: &mut Stream<A>,
     exchange: &mut Exchange,
@@ -152,7 +152,7 @@ fn take_found<A: Allocator, J: Journal>(
     }
 }
 
-/// Takes up the item that is shown.
+/// Takes the item that the reader shows.
 fn take_shown<A: Allocator>(
     stream: &mut Stream<A>,
     exchange: &mut Exchange,

@@ -1,8 +1,8 @@
-//! The rate at which a file goes.
+//! The rate of a file transfer.
 ghost use Rattle.std.specs.Prelude.{◌≡◌, ◌-◌};
 ghost use Rattle.uug_log.specs.Paces.{pace_after, pace_from, percent, rate};
 
-/// The seconds after which a newer mark takes the place of the older one.
+/// The seconds after which the newer mark replaces the older one.
 const MARK_SECONDS: u64 = 10;
 
 /// The position of a file in a second of the session.
@@ -12,8 +12,8 @@ pub struct Mark {
     pub position: u64,
 }
 
-/// Two earlier marks of a file. The rate is taken from the older one: it covers the last 10 to 20 seconds, or the time
-/// since the file began.
+/// Two earlier marks of a file. The rate is taken from the older one. If a mark is taken each second, it covers the
+/// last 10 to 20 seconds, or the time since the file began.
 #[derive(Clone, Copy)]
 pub struct Pace {
     older: Mark,
@@ -21,7 +21,7 @@ pub struct Pace {
 }
 
 impl Pace {
-    /// Begins at this mark.
+    /// Starts with both marks at `start`.
     pub fn new(start: Mark) -> Self
         ensures { result ≡ pace_from start }
     {
@@ -31,7 +31,7 @@ impl Pace {
         }
     }
 
-    /// Takes the present mark.
+    /// Takes the current mark, and keeps it if the newer one is old enough.
     pub fn take(&mut self, now: Mark)
         ensures { self.new ≡ pace_after self.old now }
     {
@@ -41,7 +41,7 @@ impl Pace {
         }
     }
 
-    /// Returns the bytes a second up to the present mark.
+    /// Returns the rate from the older mark to the current one, in bytes a second.
     pub fn rate(&self, now: Mark) -> u64
         ensures { result ≡ rate (now.position - self.now.older.position)
             (now.second - self.now.older.second) }
@@ -52,14 +52,14 @@ impl Pace {
     }
 }
 
-/// Returns the bytes a second; 0 if no second has passed.
+/// Returns the bytes a second, or 0 if no second has passed.
 fn rate(bytes: u64, seconds: u64) -> u64
     ensures { result ≡ rate bytes seconds }
 {
     if seconds == 0 { 0 } else { bytes / seconds }
 }
 
-/// Returns the part of a file of this size that has passed, in percent.
+/// Returns the part of a file of this size that has passed, in percent. It is 100 for an empty file.
 pub(crate) fn percent(position: u64, size: u32) -> u64
     ensures { result ≡ percent position size }
 {

@@ -7,12 +7,12 @@ ghost use Rattle.uug_log.specs.Watched.{nothing_yet};
 use uug_packet::{Control, Packet};
 use uug_reader::Found;
 
-/// The numbers of packets of a kind that went one way, up to the greatest numbers that fit.
+/// Numbers of packets that went one way, by kind. They saturate.
 #[derive(Clone, Copy, Debug, PartialEq, Eq)]
 pub struct Counts {
-    /// Rejects, selective ones too.
+    /// Rejects, including selective ones.
     pub rejects: u64,
-    /// Data packets that were not the next one: they are sent once more, or one in front of them was lost.
+    /// Data packets that were not the next one: they were sent before, or one before them was lost.
     pub repeats: u64,
     /// Data packets with a wrong checksum or field.
     pub damaged: u64,
@@ -21,13 +21,13 @@ pub struct Counts {
 /// The state of one direction.
 #[derive(Clone, Copy, Debug, PartialEq, Eq)]
 pub struct Passed {
-    /// The number of the data packet that is the next one.
+    /// The number of the next data packet, modulo eight.
     pub next: u8,
     pub counts: Counts,
 }
 
 impl Passed {
-    /// Begins with nothing. The first data packet has the number 1.
+    /// Starts with nothing passed. The first data packet has the number 1.
     pub(crate) fn new() -> Self
         ensures { result ≡ nothing_yet.passed }
     {
@@ -41,7 +41,7 @@ impl Passed {
         }
     }
 
-    /// Takes what has passed. Returns the message of the next data packet.
+    /// Counts an item that has passed. Returns its message if it is the next data packet.
     pub(crate) fn take<'a>(&mut self, found: Found<'a>) -> Option<&'a [u8]>
         ensures passed { self.new ≡ passed_after self.old (item_of found.entry) }
         ensures message { MatchOption result

@@ -12,9 +12,9 @@ use std::time::{Clock, Instant};
 use uug_conversation::Side;
 use uug_talk::Name;
 
-/// The log of the sessions of an end, in a file. Results of a job are written once they are on the disk. An end over a
-/// spool writes what it has done itself. Of its sessions only how they ended badly is logged here, and what the other
-/// end was refused.
+/// The log of an end's sessions, in a file. The outcome of a job is written once it is on the disk. An end over a spool
+/// logs its own work itself. Of its sessions this log gets only faults, bad ends, files that resume, and jobs that the
+/// other end was refused.
 #[derive(Drop)]
 pub struct SessionLog<'a, R, A: Allocator> {
     alloc: A,
@@ -24,20 +24,20 @@ pub struct SessionLog<'a, R, A: Allocator> {
     /// The other end's name, which is empty if any may call, and the name of the line to it.
     system: &'a str,
     line: &'a str,
-    /// The name that the caller gave, if any may call and one did.
+    /// The name that the caller gave, if any system may call and it gave one.
     caller: Option<Name>,
     /// The time at which the session began, if it has and the clock gives one.
     since: Option<Instant>,
     /// Set once it has begun.
     is_begun: bool,
-    /// The number of bytes of files that have come to their places. It saturates.
+    /// The number of bytes of the files of jobs that are done. It saturates.
     bytes: u64,
     /// News of jobs, held back until the results are on the disk.
     held: Vec<News, A>,
 }
 
 impl<'a, R: Clock, A: Allocator + Copy> SessionLog<'a, R, A> {
-    /// Creates the log in this file, of an end whose sessions have not begun.
+    /// Creates the log in this file. No session has begun.
     pub fn new(
         alloc: A,
         rt: &'a R,
@@ -66,7 +66,8 @@ impl<'a, R: Clock, A: Allocator + Copy> SessionLog<'a, R, A> {
         self.caller = Some(name);
     }
 
-    /// Logs the start of a session, once: the end calls, or the first byte of its caller has come.
+    /// Logs the start of a session, once: when the end calls, or when its caller's first byte arrives. Logs nothing
+    /// over a spool.
     pub fn begin(&mut self) {
         if self.is_begun || self.file.is_spool() {
             return;
@@ -83,7 +84,7 @@ impl<'a, R: Clock, A: Allocator + Copy> SessionLog<'a, R, A> {
         self.file.append(line);
     }
 
-    /// Logs the ends of jobs that were held back: all that has become of them is on the disk.
+    /// Logs the ends of jobs that were held back. Their results are on the disk by now.
     pub fn write_held(&mut self) {
         let system = system_of(&self.caller, self.system);
         for news in &self.held {
@@ -97,7 +98,7 @@ impl<'a, R: Clock, A: Allocator + Copy> SessionLog<'a, R, A> {
     }
 
     /// Logs the end of a session, and how many jobs were given up in it. If it ended badly, `bad` is the word for how,
-    /// and `said` what else is to be said of it.
+    /// and `said` gives the details.
     pub fn end(&mut self, bad: Option<&str>, said: &str, failed: usize) {
         if failed > 0 && !self.file.is_spool() {
             let words = if failed == 1 { "job was" } else { "jobs were" };
@@ -122,13 +123,13 @@ impl<'a, R: Clock, A: Allocator + Copy> SessionLog<'a, R, A> {
         self.held.clear();
     }
 
-    /// Logs what went wrong.
+    /// Logs a fault.
     pub fn fault(&mut self, text: &str) {
         let head = self.file.head(system_of(&self.caller, self.system));
         self.file.append(fault_line(self.alloc, &head, text));
     }
 
-    /// Logs that the file of a job, which has this size if one was announced, goes on at this position.
+    /// Logs that the file of a job resumes at this position. `size` is its whole size, if that was announced.
     fn resume(&mut self, job: &Transfer, size: Option<u64>, position: u64) {
         let head = self.file.head(system_of(&self.caller, self.system));
         let line = resumed_line(self.alloc, &head, job, size, position);
@@ -155,7 +156,7 @@ fn system_of<'a>(caller: &'a Option<Name>, expected: &'a str) -> &'a [u8] {
     }
 }
 
-/// Returns whether the other end was refused a job that ended so.
+/// Returns whether a job with this direction and outcome is one that the other end was refused.
 fn is_refused_to_it(way: Way, outcome: Outcome) -> bool
     ensures { result ≡ is_refused_to_it way outcome }
 {
@@ -177,7 +178,7 @@ impl<R: Clock, A: Allocator + Copy> Journal for SessionLog<'_, R, A> {
             if *outcome == Outcome::Done {
                 self.bytes = self.bytes.saturating_add(*bytes);
             }
-            // News for which there is no memory is left out.
+            // If there is no memory, the news is left out.
             let _ = self.held.push(*news);
         }
     }

@@ -8,7 +8,7 @@ pub enum Wish {
     Request,
 }
 
-/// A job of one of the two ends, as its command says.
+/// A job of either end, as its command describes it.
 #[derive(Clone, Copy, Debug, PartialEq, Eq)]
 pub struct Transfer {
     /// The direction of its command: out for a job of this end.
@@ -48,28 +48,28 @@ impl Transfer {
 pub enum Outcome {
     /// The file is in its place.
     Done,
-    /// It will never be sent, given, or put in its place.
+    /// It was refused for good: its file will never be sent, given, or put in its place.
     Never,
-    /// It is refused for good, and the announced size of its file may be more than that end takes.
+    /// It was refused for good, and the announced size of its file may exceed the limit of the end that refused it.
     TooLarge,
-    /// It may be later.
+    /// It was put off: it may succeed later.
     Later,
-    /// The received file is not the one that was announced: the job may be later, and nothing of the file was kept.
+    /// The received file is not the one that was announced. Nothing of it was kept, and the job may succeed later.
     Differs,
 }
 
-/// Reports what becomes of a job.
+/// A report on a job.
 #[derive(Clone, Copy, Debug, PartialEq, Eq)]
 pub enum News {
     Begins(Transfer),
-    /// The announced size of its whole file, and the position from which that is sent: an earlier session has brought
-    /// what is before it.
+    /// The announced size of its whole file, and the position from which the file is sent: an earlier session has
+    /// transferred the bytes before it.
     Resumes(Transfer, Option<u32>, u32),
     /// The outcome, and the number of bytes of its file that have passed in this session.
     Ends(Transfer, Outcome, u64),
 }
 
-/// Tells how far the file of a job is.
+/// The progress of a job's file.
 #[derive(Clone, Copy)]
 pub struct FileProgress {
     pub job: Transfer,
@@ -77,6 +77,6 @@ pub struct FileProgress {
     pub position: u64,
     /// The announced size of the file.
     pub size: Option<u32>,
-    /// The number of data packets of this session that went its way more than once, or behind a lost one.
+    /// The number of data packets of this session that went the file's way again, or after a lost one.
     pub repeats: u64,
 }

@@ -1,4 +1,4 @@
--- Spells what is said of a device that another run holds (this project's profile).
+-- Spells the remark on a device that another run holds (this project's profile).
 use Rattle.std.specs.Fmt.{decimal}
 use Rattle.std.specs.Prelude.{ℕ, List, [], ◌++◌, codes}
 use Rattle.uug_locks.specs.declared.holder.Holder.{Holder}

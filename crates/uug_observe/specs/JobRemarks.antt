@@ -1,4 +1,5 @@
--- What is said of the jobs that an end has given up, and of those that its session put off (this project's profile).
+-- Spells the remarks on the jobs that an end has given up, and on those that its session put off (this project's
+-- profile).
 use Rattle.std.specs.Fmt.{decimal}
 use Rattle.std.specs.Prelude.{ℕ, ◌==◌, Bool, true, false, List, [], ◌∷◌, ◌++◌, Option, Some, None, codes, length, if◌then◌else◌}
 use Rattle.uug_conversation.specs.Choice.{fetched_by}
@@ -21,7 +22,7 @@ use Rattle.uug_talk.specs.Words.{joined}
 abbrev pub job_line : Job → (why : List ℕ) → List ℕ
 job_line job why = codes "uucpair: " ++ (joined (job_words job) ++ (codes ": " ++ ended why))
 
--- ---- of a job that was given up
+-- ---- a job that was given up
 
 abbrev pub source_of : Job → List ℕ
 source_of (Send source target user temp) = source
@@ -31,7 +32,7 @@ abbrev pub target_of : Job → List ℕ
 target_of (Send source target user temp) = target
 target_of (Request source target user) = target
 
--- of the file of this name in `send` of this folder, which is too large or not there
+-- for the file of this name in `send` of this folder, which is too large or missing
 abbrev pub path_lack : (dir name : List ℕ) → (is_large : Bool) → List ℕ
 path_lack dir name true = dir ++ (codes "/send/" ++ (name ++ codes " is larger than --file-limit"))
 path_lack dir name false = codes "no file " ++ (dir ++ (codes "/send/" ++ name))
@@ -40,7 +41,7 @@ abbrev pub local_lack : (dir : List ℕ) → (large : List (List ℕ)) → Optio
 local_lack dir large None = codes "a source is a name: NAME or ~/NAME, without a dot in front"
 local_lack dir large (Some name) = path_lack dir name (has_name large name)
 
--- how many bytes the file has that a job sends
+-- the size of the file that a job sends, in bytes
 abbrev pub size_of : Option File → ℕ
 size_of None = 0
 size_of (Some file) = length file.bytes
@@ -49,7 +50,7 @@ abbrev pub size_sent : Holdings → Job → ℕ
 size_sent own (Send source target user temp) = size_of (own.file (fetched_by source temp))
 size_sent own (Request source target user) = 0
 
--- of a job whose target the other end refuses, for a file of this size, or this one
+-- for a file of this size whose target, a name in a folder, the other end refuses
 abbrev pub sized_words : (size : ℕ) → List ℕ
 sized_words size =
     if size == 0 then codes "refused by the other end: maybe a folder has that name there" else
@@ -63,14 +64,14 @@ abbrev pub not_taken_words : Option (List ℕ) → List ℕ
 not_taken_words (Some name) = codes "no file of this name is taken here"
 not_taken_words None = codes "a target is a name: NAME or ~/NAME, without a dot in front"
 
--- by the names of files that are too large
+-- why a job was given up; `large` are the names of files that are too large
 abbrev pub failed_words : (dir : List ℕ) → (large : List (List ℕ)) → Job → WhyFailed → (size : ℕ) → List ℕ
 failed_words dir large job NoFile size = local_lack dir large (local_source (source_of job))
 failed_words dir large job Refused size = refused_words (local_source (target_of job)) size
 failed_words dir large job NotTaken size = not_taken_words (local_source (target_of job))
 failed_words dir large job NotGiven size = codes "not given by the other end: no such file in its send, or one that may not go; or not to be put in its place here"
 
--- of each job by what the end's own files give and take
+-- a line for each job, by what the end's own files give and take
 abbrev pub failed_remark : (dir : List ℕ) → (large : List (List ℕ)) → Holdings → List Job → List ℕ
 failed_remark dir large own [] = []
 failed_remark dir large own (job ∷ more) =
@@ -82,7 +83,7 @@ has_failed true [] = false
 has_failed true (job ∷ more) = true
 has_failed false failed = false
 
--- ---- of a job that was put off, by whether its end tells digests
+-- ---- a job that was put off, by whether its end announces digests
 
 abbrev pub put_off_words : (digests : Bool) → Job → List ℕ
 put_off_words false (Send source target user temp) = codes "put off: the other end takes it later"
@@ -94,7 +95,8 @@ abbrev pub put_off_lines : (digests : Bool) → List Job → List ℕ
 put_off_lines digests [] = []
 put_off_lines digests (job ∷ more) = job_line job (put_off_words digests job) ++ put_off_lines digests more
 
--- Where a session ended as done its pending jobs are told as put off, also those that were not offered because the other end hung up.
+-- If a session ended as done, its pending jobs are reported as put off, also those that were not offered because the
+-- other end hung up.
 abbrev pub put_off_remark : Phase → (digests : Bool) → (pending : List Job) → List ℕ
 put_off_remark (Ended Done) digests pending = put_off_lines digests pending
 put_off_remark _ digests pending = []

@@ -1,4 +1,4 @@
--- What is said where two ends keep other numbers of their conversations (this project's profile).
+-- Spells the remark on two ends whose conversation numbers differ (this project's profile).
 use Rattle.std.specs.Fmt.{decimal}
 use Rattle.std.specs.Prelude.{ℕ, List, [], ◌++◌, codes, Option, Some, None}
 use Rattle.uug_session.specs.declared.end.End.TheVariants.{BadSequence}
@@ -17,11 +17,11 @@ abbrev pub heard_words : Option ℕ → List ℕ
 heard_words None = mending_words
 heard_words (Some number) = codes ", that of the other end " ++ (decimal number ++ mending_words)
 
--- the number of this end, that of the other one where it was heard, and what to do, as a line
+-- the number of this end, that of the other one if it was heard, and what to do, as a line
 abbrev pub numbers_line : (own heard : Option ℕ) → List ℕ
 numbers_line own heard = codes "uucpair: " ++ (own_words own ++ ended (heard_words heard))
 
--- that is said where the session has ended so, and nothing else
+-- that line, if the session ended because the numbers differ
 abbrev pub numbers_remark : Phase → (own heard : Option ℕ) → List ℕ
 numbers_remark (Ended BadSequence) own heard = numbers_line own heard
 numbers_remark phase own heard = []

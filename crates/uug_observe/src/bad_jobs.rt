@@ -1,11 +1,11 @@
-//! The fault of a line of an end's jobs.
+//! The remark on a bad line of an end's jobs.
 
 use std::alloc::Allocator;
 use std::rt::Files;
 use std::{fs, io};
 use uug_reason::jobs_remark;
 
-/// Returns what is wrong with this line of the jobs of this folder, which are read again.
+/// Reads the jobs of this folder again, and returns what is wrong with this line of them.
 pub fn jobs_remark_at<A: Allocator + Copy, R: Files + AllocGlobal>(
     alloc: A,
     rt: &R,

@@ -6,7 +6,7 @@ use std::alloc::{AllocError, Allocator};
 use uug_failure::SystemFailure;
 use uug_reason::reason_line;
 
-/// Returns a line that says why the line of this name, or this folder, has failed, if it has. Else returns nothing.
+/// Returns a line for standard error: why the line of this name, or this folder, failed. It is empty without a failure.
 pub fn failure_remark<A: Allocator>(
     alloc: A,
     line: &str,

@@ -1,4 +1,4 @@
-//! The lines of an end's log about faults, beside those that its observer writes.
+//! Lines about faults in the log of an end, in addition to those of its observer.
 
 use crate::job_remark::{failed_line, size_sent};
 use std::alloc::Allocator;
@@ -13,7 +13,7 @@ use uug_session::{Job, Spool};
 use uug_talk::Name;
 use uug_task::CallTask;
 
-/// Appends what went wrong to the log of an end, if it has one. What can't be written is left out.
+/// Appends what went wrong to the log of an end, if it has one. Errors in writing the log are ignored.
 pub fn log_fault<A, R>(alloc: A, rt: &R, task: &CallTask<'_>, text: &str)
 where
     A: Allocator + Copy,
@@ -28,7 +28,7 @@ where
     }
 }
 
-/// Appends why each of these jobs was given up, as it is said on standard error. `large` are the names of the files in
+/// Appends why each of these jobs was given up, in the words for standard error. `large` are the names of the files in
 /// `send` that are too large to be sent.
 pub fn log_failed<A, R, S>(
     alloc: A,
@@ -51,7 +51,7 @@ where
     }
 }
 
-/// Appends these lines, which are said on standard error.
+/// Appends these lines, which are also printed on standard error.
 pub fn log_lines<A, R>(alloc: A, rt: &R, task: &CallTask<'_>, lines: &[String<A>])
 where
     A: Allocator + Copy,
@@ -62,7 +62,7 @@ where
     }
 }
 
-/// Appends how many jobs of an end wait for its next session, if any does.
+/// Appends how many jobs of an end wait for its next session, if any do.
 pub fn log_waiting<A, R>(alloc: A, rt: &R, task: &CallTask<'_>, count: usize)
 where
     A: Allocator + Copy,

@@ -2,7 +2,7 @@
 
 use uug_reason::{Heard, Passed};
 
-/// The maximum number of bytes that are kept of a text.
+/// The maximum number of bytes of a text that are kept.
 const KEPT_MAX: usize = 60;
 
 /// The byte before each text.
@@ -20,7 +20,7 @@ pub(crate) const NOTHING_PASSED: Passed = Passed {
     has_flow: false,
 };
 
-/// Returns what has come after the greeting with these bytes after it.
+/// Returns `passed` with these bytes added.
 pub(crate) fn passed_then(passed: Passed, piece: &[u8]) -> Passed {
     let mut then = passed;
     for byte in piece {
@@ -40,7 +40,7 @@ pub(crate) struct Hearing {
     count: u64,
     /// Set once a text came.
     has_text: bool,
-    /// Set while more of it may come.
+    /// Set until the text that came last has ended.
     is_open: bool,
     /// Set if a text may begin with the next byte.
     may_begin: bool,
@@ -66,7 +66,7 @@ impl Hearing {
         }
     }
 
-    /// Takes a byte. A packet begins as a text does, but its next byte differs.
+    /// Takes a byte. A packet begins with the same byte as a text, but its second byte is less than a space.
     fn hear_byte(&mut self, byte: u8) {
         self.count = self.count.saturating_add(1);
         if self.may_begin && byte >= b' ' {

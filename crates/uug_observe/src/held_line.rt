@@ -1,4 +1,4 @@
-//! The remark about a device that another run holds.
+//! The remark on a device that another run holds.
 ghost use Rattle.std.specs.Prelude.{◌≡◌, ◌++◌, IfOk, OnOk, string_bytes};
 ghost use Rattle.uug_observe.specs.HeldLines.{between, held_remark, held_words, words_of};
 

@@ -1,4 +1,4 @@
-//! Remarks about the jobs that an end has given up, and those that its session put off.
+//! Remarks on the jobs that an end has given up, and on those that its session put off.
 ghost use Rattle.std.specs.Prelude.{◌≡◌, ◌∷◌, [], ◌++◌, IfOk, OnOk, codes, string_bytes};
 ghost use Rattle.uug_conversation.specs.Choice.{fetched_by};
 ghost use Rattle.uug_scan.specs.Detailed.{escaped};
@@ -13,8 +13,8 @@ use uug_reason::add_escaped;
 use uug_session::{End, Job, Phase, Spool};
 use uug_talk::Name;
 
-/// Returns a line for each of these jobs of the folder `dir`: why it was given up. `large` are the names of the files in
-/// `send` that are too large to be sent.
+/// Returns a line for each of these jobs of the folder `dir`: why it was given up. `large` are the names of the files
+/// in `send` that are too large to be sent.
 pub fn failed_remark<A: Allocator + Copy, S: Spool>(
     alloc: A,
     dir: &str,
@@ -32,8 +32,8 @@ pub fn failed_remark<A: Allocator + Copy, S: Spool>(
     Ok(remark)
 }
 
-/// Returns a line for each of these pending jobs, which were put off, if the session of their end ended as done. Else
-/// returns nothing.
+/// Returns a line for each of these pending jobs, as put off, if the session of their end ended as done. Else the text
+/// is empty.
 pub fn put_off_remark<A: Allocator>(
     alloc: A,
     phase: Phase,
@@ -50,7 +50,8 @@ pub fn put_off_remark<A: Allocator>(
     Ok(remark)
 }
 
-/// Returns the line of a job of the folder `dir` that was given up, with the reason. `size` is that of its file.
+/// Returns the line of a job of the folder `dir` that was given up, with the reason. `size` is the size of its file in
+/// bytes.
 pub(crate) fn failed_line<A: Allocator + Copy>(
     alloc: A,
     dir: &str,
@@ -144,7 +145,7 @@ fn add_words<A: Allocator>(
     write!(text, "uucpair: {first} {source} {target} {user}: {why}\n")
 }
 
-/// Returns the words for why a job was given up. `size` is that of its file.
+/// Returns why a job was given up. `size` is the size of its file in bytes.
 fn failed_words<A: Allocator + Copy>(
     alloc: A,
     dir: &str,
@@ -187,7 +188,7 @@ fn target_of(job: &Job) -> &Name
     }
 }
 
-/// Returns why the file of this name in the folder was not sent, if its source was a name there.
+/// Returns why the file of this name in the folder was not sent, or that the source is not a name there.
 fn local_lack<A: Allocator + Copy>(
     alloc: A,
     dir: &str,
@@ -222,7 +223,7 @@ fn path_lack<A: Allocator + Copy>(
     }
 }
 
-/// Returns the number of bytes of the file that a job sends, which is 0 if it sends none.
+/// Returns the size of the file that a job sends, in bytes, or 0 if there is none.
 pub(crate) fn size_sent<S: Spool>(spool: &S, job: &Job) -> usize
     ensures { result ≡ size_sent (S.holdings spool.now) job.now }
 {
@@ -245,8 +246,8 @@ fn fetched_by<'a>(source: &'a Name, temp: &'a Option<Name>) -> &'a Name
     }
 }
 
-/// Returns the words for a target that the other end has refused, for a file of this size. It is a name in a folder, if
-/// it is one.
+/// Returns the words for a file of this size whose target the other end has refused. `name` is the target, if it is a
+/// name in a folder.
 fn refused_words<A: Allocator>(
     alloc: A,
     name: Option<Name>,
@@ -269,7 +270,7 @@ fn refused_words<A: Allocator>(
     }
 }
 
-/// Returns the words for a target that this end does not take. It is a name in a folder, if it is one.
+/// Returns the words for a target that this end does not take. `name` is the target, if it is a name in a folder.
 fn not_taken_words(name: Option<Name>) -> &'static str
     ensures { result.now ≡ not_taken_words name }
 {
@@ -279,8 +280,8 @@ fn not_taken_words(name: Option<Name>) -> &'static str
     }
 }
 
-/// Returns the words for why a job was put off, by an end that announces digests or one that does not. Without digests
-/// nobody has compared them.
+/// Returns why a job was put off, by an end that announces digests or one that does not. A wrong file is a possible
+/// reason only with digests: without them nobody compares files.
 fn put_off_words(tells_digests: bool, job: &Job) -> &'static str
     ensures { result.now ≡ put_off_words tells_digests job.now }
 {

@@ -1,11 +1,11 @@
-//! The command or answer that an end has heard last.
+//! The last command or answer that an end has heard.
 
 use std::alloc::{AllocError, Allocator};
 use uug_packet::Packet;
 use uug_reader::{Found, READER_SIZE, Reader};
 use uug_talk::Gather;
 
-/// The number of latest bytes that are kept once there are twice as many.
+/// The number of bytes to which a tail is shortened, once it has twice as many.
 const KEPT: usize = READER_SIZE;
 
 /// The bytes that came last.
@@ -24,7 +24,7 @@ impl<A: Allocator + Copy> Tail<A> {
         }
     }
 
-    /// Takes bytes that came. They are left out if there is no memory for them.
+    /// Takes bytes that came, or drops them if there is no memory for them.
     pub(crate) fn hear(&mut self, piece: &[u8]) {
         if self.bytes.len() >= 2 * KEPT {
             let old = self.bytes.len() - KEPT;
@@ -38,8 +38,8 @@ impl<A: Allocator + Copy> Tail<A> {
         self.bytes.clear();
     }
 
-    /// Returns the last text in these bytes, as far as it has come. It is what the packets after the text or the file
-    /// before it contain, up to a zero byte.
+    /// Returns the last text in these bytes, as far as it has arrived. A text is the data of the packets after the
+    /// previous text or file, up to a zero byte.
     pub(crate) fn last_text(&self) -> Result<Gather<A>, AllocError> {
         let mut reader = Reader::new(self.alloc)?;
         let mut talk = Talk {
@@ -55,7 +55,7 @@ impl<A: Allocator + Copy> Tail<A> {
     }
 }
 
-/// Hears all packets that the reader finds in what it holds.
+/// Hears all packets that the reader finds in its bytes.
 fn hear_found<A: Allocator>(reader: &mut Reader<A>, talk: &mut Talk<A>) {
     for _ in 0..READER_SIZE {
         if !reader.search() {
@@ -71,15 +71,15 @@ fn hear_found<A: Allocator>(reader: &mut Reader<A>, talk: &mut Talk<A>) {
 /// The texts of the messages in one direction.
 #[derive(Drop)]
 struct Talk<A: Allocator> {
-    /// The number of the packet before.
+    /// The number of the previous packet.
     before: Option<u8>,
-    /// The text that has begun, or is complete.
+    /// The current text, partial or complete.
     text: Gather<A>,
 }
 
 impl<A: Allocator> Talk<A> {
-    /// Takes the message in the packet of this number. A message that comes twice in a row is heard once. An empty one
-    /// ends a file. If one would make a text too long, another text begins.
+    /// Takes the message of the packet with this number. A repeat of the previous packet is skipped. An empty message
+    /// ends a file. If the text would become too long, an empty one replaces it.
     fn hear(&mut self, number: u8, message: &[u8]) {
         if self.before == Some(number) {
             return;

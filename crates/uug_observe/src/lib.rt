@@ -1,4 +1,4 @@
-//! What a run says of its sessions: to a person, on standard error, and in the log.
+//! Reports the sessions of a run: to a person on standard error, and in the log.
 #![tactic(auto)]
 
 mod bad_jobs;

@@ -1,4 +1,4 @@
-//! The remark about two ends with different numbers of their conversations, for a person who can fix that.
+//! The remark on two ends whose conversation numbers differ, for a person who can fix that.
 ghost use Rattle.std.specs.Prelude.{◌≡◌, IfOk, string_bytes};
 ghost use Rattle.uug_observe.specs.NumberRemarks.{heard_words, numbers_line, numbers_remark, own_words};
 
@@ -6,7 +6,7 @@ use std::alloc::{AllocError, Allocator};
 use uug_session::{End, Phase};
 
 /// Returns a line with the number of this end, and the one heard from the other end, if the session ended because they
-/// differ. Else returns nothing.
+/// differ. Else the text is empty.
 pub fn numbers_remark<A: Allocator + Copy>(
     alloc: A,
     phase: Phase,
@@ -44,7 +44,7 @@ fn own_words<A: Allocator>(alloc: A, own: Option<u32>) -> Result<String<A>, Allo
     }
 }
 
-/// Returns the words for the number that the other end has reported, if it has reported one, and what to do.
+/// Returns the words for the number that the other end has reported, if any, and what to do.
 fn heard_words<A: Allocator>(alloc: A, heard: Option<u32>) -> Result<String<A>, AllocError>
     ensures { IfOk result (λ words. string_bytes words ≡ heard_words heard) }
 {

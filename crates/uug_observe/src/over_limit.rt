@@ -12,7 +12,7 @@ use uug_session::Job;
 use uug_talk::Name;
 use uug_task::{CallTask, System};
 
-/// Returns the names of the files of these jobs that are in `send` of the folder of the task now, and over its limit.
+/// Returns the names of the files of these jobs that are in `send` of the task's folder now, and over its limit.
 pub fn large_files<A: Allocator + Copy, R: Files>(
     alloc: A,
     rt: &R,
@@ -32,8 +32,8 @@ pub fn large_files<A: Allocator + Copy, R: Files>(
     Ok(names)
 }
 
-/// Tells of each file of these jobs that is in `send` now, and over the limit of the task, on standard error and in the
-/// log.
+/// Reports each file of these jobs that is in `send` now, and over the task's limit, on standard error and in the log.
+/// Each is reported once.
 pub fn tell_large_files<A: Allocator + Copy, R: System>(
     alloc: A,
     rt: &R,
@@ -51,7 +51,7 @@ pub fn tell_large_files<A: Allocator + Copy, R: System>(
     Ok(())
 }
 
-/// Tells that the file of this name in `send` is over the limit, if it is.
+/// Reports that the file of this name in `send` is over the limit, if it is.
 fn tell_large<A: Allocator + Copy, R: System>(
     alloc: A,
     rt: &R,

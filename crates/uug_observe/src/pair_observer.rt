@@ -11,23 +11,23 @@ use uug_log::{FileProgress, Observer, Transfer, Way};
 use uug_session::FileLimit;
 use uug_transfer::{ReadOutcome, SessionObserver, SessionStatus};
 
-/// Reports the files of a pair at a terminal that is standard error, as the end that calls sees them: how far a long file
-/// is, and each job if it is loud.
+/// Reports the files of a pair on standard error, if that is a terminal, as the caller sees them: the progress of a
+/// long file, and each job if it is loud.
 #[derive(Drop)]
 pub struct PairObserver<'a, R, A: Allocator> {
     alloc: A,
     rt: &'a R,
-    /// The folder of the end that calls.
+    /// The folder of the caller.
     dir_a: &'a str,
-    /// The folder of the end that is called.
+    /// The folder of the called end.
     dir_b: &'a str,
-    /// None without a terminal.
+    /// None if there is no terminal, or no memory for it.
     observer: Option<Observer<A>>,
     tellers: Tellers<'a, R, A>,
 }
 
 impl<'a, R: Files + Eprint + Clock, A: Allocator + Copy> PairObserver<'a, R, A> {
-    /// Creates an observer of ends over these folders. If there is no memory for it, it reports nothing.
+    /// Creates an observer of ends over these folders. Without a terminal, or memory for it, it reports nothing.
     pub fn new(
         alloc: A,
         rt: &'a R,
@@ -55,7 +55,7 @@ impl<'a, R: Files + Eprint + Clock, A: Allocator + Copy> PairObserver<'a, R, A> 
         }
     }
 
-    /// Observes bytes that the end that calls writes or reads.
+    /// Observes bytes that the caller writes or reads.
     fn see(&mut self, way: Way, piece: &[u8]) {
         let Some(observer) = &mut self.observer else {
             return;
@@ -68,7 +68,7 @@ impl<'a, R: Files + Eprint + Clock, A: Allocator + Copy> PairObserver<'a, R, A> 
         }
     }
 
-    /// Shows how far a file is, if that is due.
+    /// Shows the progress of a file, if that is due.
     fn show(&mut self, progress: &FileProgress) {
         if self.tellers.voice.is_due(progress) {
             let sized = FileProgress {
@@ -81,7 +81,7 @@ impl<'a, R: Files + Eprint + Clock, A: Allocator + Copy> PairObserver<'a, R, A> 
         }
     }
 
-    /// Returns the size of the file of a job, as it is now in the folder of the end that sends it: no end announces it.
+    /// Returns the current size of a job's file, in the folder of the end that sends it. No end announces the size.
     fn size_of(&self, job: &Transfer) -> Option<u32> {
         let dir = match job.file_way() {
             Way::Out => self.dir_a,

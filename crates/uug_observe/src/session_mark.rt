@@ -1,4 +1,5 @@
-//! The mark of a session in the folder of an end with a log, by which the next one knows that it was broken off.
+//! The mark of a session, in the folder of an end with a log. If it is left over, the next session knows that the last
+//! one was broken off.
 
 use crate::fault_log::log_fault;
 use std::alloc::{AllocError, Allocator};
@@ -9,10 +10,11 @@ use std::rt::{Env, Files};
 use std::time::Clock;
 use uug_task::CallTask;
 
-/// Says in the log that a signal or a power cut ended the last session.
+/// The words in the log if a signal or a power cut ended the last session.
 pub const BROKEN_OFF: &str = "the last session was broken off";
 
-/// Marks that a session begins, if the end has a log. If the mark of the last one is still there the log says so.
+/// Marks the start of a session, if the end has a log. Logs that the last session was broken off, if its mark is still
+/// there.
 pub fn mark_session<A, R>(alloc: A, rt: &R, task: &CallTask<'_>)
 where
     A: Allocator + Copy,

@@ -4,7 +4,7 @@ ghost use Rattle.uug_observe.specs.SilentCallers.{others_words, silent_words};
 
 use std::alloc::{AllocError, Allocator};
 
-/// Returns the words about a caller who said nothing for so many seconds.
+/// Returns the words about a caller who said nothing for this many seconds.
 pub fn silent_words<A: Allocator>(
     alloc: A,
     seconds: u64,
@@ -16,7 +16,7 @@ pub fn silent_words<A: Allocator>(
     format!(in alloc; "the caller said nothing for {seconds} s{others}")
 }
 
-/// Returns the words about those who wait behind a caller, if others do.
+/// Returns the words about other callers that wait, if any do.
 fn others_words(do_others_wait: bool) -> &'static str
     ensures { result.now ≡ others_words do_others_wait }
 {

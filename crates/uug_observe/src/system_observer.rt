@@ -18,18 +18,18 @@ use uug_transfer::{
     LineName, ReadOutcome, SessionObserver, SessionStatus, caller_in, read_line_name,
 };
 
-/// Reports each session on standard error: its phases, the jobs of both ends, and what was lost. A log, if there is
-/// one, gets how each session begins and ends, and each job.
+/// Reports each session on standard error: its phases, the jobs of both ends, and what was lost. If there is a log,
+/// logs each job, and how each session begins and ends.
 #[derive(Drop)]
 pub struct SystemObserver<'a, R, A: Allocator> {
     alloc: A,
     is_lenient: bool,
-    /// The size of the greatest file that this end takes.
+    /// The maximum size of a file that this end takes, in bytes.
     file_limit: u32,
-    /// None if nothing is said of jobs, shown of files, or logged.
+    /// None if no jobs are reported or logged and no progress is shown, or without memory for it.
     observer: Option<Observer<A>>,
     tellers: Tellers<'a, R, A>,
-    /// The side of this end, and the name of the other end, if it is a name.
+    /// The side of this end, and the name of the other end, if it is valid.
     side: Side,
     peer: Option<Name>,
     /// Set if any system of a spool may call.
@@ -39,25 +39,25 @@ pub struct SystemObserver<'a, R, A: Allocator> {
     tail: Tail<A>,
 }
 
-/// The part of a session that has passed.
+/// The state of a session, as far as the observer has seen it.
 #[derive(Drop)]
 struct Seen {
     /// The phase that was noted last.
     phase: Option<Phase>,
-    /// Set once the session came past its greeting.
+    /// Set once the session has passed its greeting.
     has_met: bool,
     /// The numbers of bytes written and read, and of silences. They saturate.
     written: u64,
     read: u64,
     silences: u64,
-    /// The bytes heard: the first text, the texts of the greeting, and what came after that.
+    /// The bytes heard: the first text, those of the greeting, and those after it.
     hail: Hail,
     hearing: Hearing,
     passed: Passed,
 }
 
 impl Seen {
-    /// Returns nothing: the session has not begun.
+    /// Creates the state of a session that has not begun.
     fn nothing() -> Self {
         Seen {
             phase: None,
@@ -73,8 +73,8 @@ impl Seen {
 }
 
 impl<'a, R: Eprint + Clock, A: Allocator + Copy> SystemObserver<'a, R, A> {
-    /// Creates an observer that reports the session of this task, or nothing. At a terminal it shows the progress of a
-    /// long file, also where it reports nothing else. With a log it always observes.
+    /// Creates an observer of the sessions of this task. If `shows_progress` holds, it shows the progress of a long
+    /// file, even if it reports nothing else. With a log it always observes.
     pub fn new(
         alloc: A,
         rt: &'a R,
@@ -106,7 +106,7 @@ impl<'a, R: Eprint + Clock, A: Allocator + Copy> SystemObserver<'a, R, A> {
         })
     }
 
-    /// Starts over after a session, as nothing was seen yet of the next one.
+    /// Starts over after a session: nothing of the next one was seen yet.
     fn begin_anew(&mut self) {
         if self.observer.is_some() {
             self.observer = Observer::new(self.alloc, self.is_lenient, self.file_limit).ok();
@@ -115,7 +115,7 @@ impl<'a, R: Eprint + Clock, A: Allocator + Copy> SystemObserver<'a, R, A> {
         self.tail.clear();
     }
 
-    /// Says the totals of both directions.
+    /// Prints the totals of both directions, if the voice is loud.
     fn say_counts(&self) {
         let Some(observer) = &self.observer else {
             return;
@@ -129,11 +129,11 @@ impl<'a, R: Eprint + Clock, A: Allocator + Copy> SystemObserver<'a, R, A> {
         voice.say_silences(self.seen.silences);
     }
 
-    /// Returns a line with what was heard of the other end, if the session ended badly, else an empty one.
+    /// Returns a line with what was heard from the other end, if the session ended badly, else an empty one.
     fn heard(&self, phase: Phase) -> Result<String<A>, AllocError> {
         match (phase, &self.peer) {
             (Phase::Ended(End::BadTalk), _) => self.last(true),
-            // Past the greeting no text of it says why.
+            // After the greeting its texts don't say why.
             (Phase::Ended(End::GaveUp), _) if self.seen.has_met => self.passed_remark(true),
             (Phase::Ended(End::HungUp), _) if self.seen.has_met => self.passed_remark(false),
             (Phase::Ended(end), Some(peer)) => {
@@ -145,8 +145,8 @@ impl<'a, R: Eprint + Clock, A: Allocator + Copy> SystemObserver<'a, R, A> {
         }
     }
 
-    /// Returns a line with what came after the greeting of a session that ended badly, if that says why, else an empty
-    /// one. If the other end has hung up, it says so only of a line of seven bits, or if packets came damaged.
+    /// Returns a line about the bytes that came after the greeting, for a session that ended badly, or an empty one. If
+    /// the other end hung up, there is a line only if all these bytes have seven bits, or packets came damaged.
     fn passed_remark(&self, has_given_up: bool) -> Result<String<A>, AllocError> {
         let passed = self.seen.passed;
         let is_narrow = passed.count > 0 && !passed.has_high;
@@ -157,7 +157,7 @@ impl<'a, R: Eprint + Clock, A: Allocator + Copy> SystemObserver<'a, R, A> {
         }
     }
 
-    /// Returns whether packets came damaged, as far as that is observed.
+    /// Returns whether damaged packets came, as far as that is observed.
     fn has_damaged(&self) -> bool {
         match &self.observer {
             Some(observer) => observer.counts(Way::In).damaged > 0,
@@ -165,8 +165,8 @@ impl<'a, R: Eprint + Clock, A: Allocator + Copy> SystemObserver<'a, R, A> {
         }
     }
 
-    /// Returns a line with what was heard last, or an empty one. `ended_for_it` says whether the session ended because
-    /// of that text.
+    /// Returns a line with the text that was heard last, or an empty one. `ended_for_it` says whether the session ended
+    /// because of that text.
     fn last(&self, ended_for_it: bool) -> Result<String<A>, AllocError> {
         let last = self.tail.last_text()?;
         if last.is_whole() {
@@ -197,7 +197,7 @@ impl<'a, R: Eprint + Clock, A: Allocator + Copy> SystemObserver<'a, R, A> {
         self.tellers.log_end(status, line);
     }
 
-    /// Hears bytes of the greeting. If any system may call, a log gets the name of the one that does.
+    /// Hears bytes of the greeting. If any system may call, gives the log the name of the one that does.
     fn hear(&mut self, piece: &[u8]) {
         self.seen.hearing.hear(piece);
         if !self.is_hub || self.seen.hail.is_whole() {
@@ -264,7 +264,8 @@ impl<R: Eprint + Clock, A: Allocator + Copy> SessionObserver for SystemObserver<
     }
 }
 
-/// Returns whether an end shows how far its files are. At a terminal it does, but only with `-v` if that may be its line.
+/// Returns whether an end shows the progress of its files. At a terminal it does, but only with `-v` if the terminal
+/// may be its line.
 fn shows_progress(task: &CallTask<'_>, at_terminal: bool) -> bool
     ensures terminal { IsTrue result → IsTrue at_terminal }
     ensures apart { line_of task.now.line.now ≡ Some standard → IsTrue result
@@ -276,7 +277,8 @@ fn shows_progress(task: &CallTask<'_>, at_terminal: bool) -> bool
     }
 }
 
-/// Returns the line for the text that was heard last. `ended_for_it` says whether the session ended because of it.
+/// Returns the line for the text that was heard last. `ended_for_it` says whether the session ended because of that
+/// text.
 fn remark_of<A: Allocator>(
     alloc: A,
     said: &[u8],

@@ -11,28 +11,28 @@ use uug_transfer::SessionStatus;
 /// A voice on standard error, and a log, if there is one.
 #[derive(Drop)]
 pub(crate) struct Tellers<'a, R, A: Allocator> {
-    /// Set if the voice reports everything; else only what went wrong.
+    /// Set if the voice reports everything, not only what went wrong.
     pub(crate) is_loud: bool,
     pub(crate) voice: Voice<'a, R, A>,
     pub(crate) log: Option<SessionLog<'a, R, A>>,
 }
 
 impl<R: Eprint + Clock, A: Allocator + Copy> Tellers<'_, R, A> {
-    /// Notes that the first byte of the other end has come, or one more.
+    /// Logs the start of the session, once: a byte of the other end has come.
     pub(crate) fn begin(&mut self) {
         if let Some(log) = &mut self.log {
             log.begin();
         }
     }
 
-    /// Notes the name that the caller gave.
+    /// Gives the log the name of the caller.
     pub(crate) fn note_caller(&mut self, name: Name) {
         if let Some(log) = &mut self.log {
             log.set_caller(name);
         }
     }
 
-    /// Reports what was held back: all that has become of the jobs is on the disk.
+    /// Reports the messages that were held back: the results of the jobs are on the disk.
     pub(crate) fn tell_held(&mut self) {
         self.voice.say_held();
         if let Some(log) = &mut self.log {
@@ -48,14 +48,14 @@ impl<R: Eprint + Clock, A: Allocator + Copy> Tellers<'_, R, A> {
         }
     }
 
-    /// Says this line about a session that has ended badly.
+    /// Prints this line about a session that ended badly, if the voice is loud.
     pub(crate) fn tell_last(&self, line: Result<String<A>, AllocError>) {
         if self.is_loud {
             self.voice.say(line);
         }
     }
 
-    /// Logs the end of the session, and this line that was said of it, if it is not empty.
+    /// Logs the end of the session, and this line about it if it is not empty.
     pub(crate) fn log_end(&mut self, status: SessionStatus, line: &str) {
         if let Some(log) = &mut self.log {
             log.end(bad_word(status.phase), words_of(line), status.failed);
@@ -63,8 +63,8 @@ impl<R: Eprint + Clock, A: Allocator + Copy> Tellers<'_, R, A> {
     }
 }
 
-/// Returns the word of a session that ended otherwise than done. A caller whose system is locked is turned away in the
-/// greeting, which is logged where that is done.
+/// Returns the word for a session that did not end as done. In the greeting there is none: a caller whose system is
+/// locked is turned away then, and that is logged where it is done.
 fn bad_word(phase: Phase) -> Option<&'static str> {
     match phase {
         Phase::Ended(End::Done) | Phase::Hail => None,

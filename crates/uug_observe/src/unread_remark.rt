@@ -1,4 +1,4 @@
-//! Remarks about the text that was heard last.
+//! Remarks on the text that was heard last.
 ghost use Rattle.std.specs.Prelude.{◌≡◌, IfOk, string_bytes};
 ghost use Rattle.uug_observe.specs.UnreadRemarks.{front_words, is_read, last_remark, quoted_line, unread_remark};
 
@@ -6,7 +6,7 @@ use std::alloc::{AllocError, Allocator};
 use uug_reason::add_escaped;
 use uug_talk::{read_answer, read_order};
 
-/// The maximum number of its bytes that are shown.
+/// The maximum number of bytes of the text that are shown.
 const SHOWN_MAX: usize = 60;
 
 /// Returns a line for standard error: this text can't be read, or was out of turn.

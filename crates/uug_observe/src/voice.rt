@@ -8,24 +8,24 @@ use uug_log::{
 use uug_session::phase_word;
 use uug_transfer::SessionStatus;
 
-/// The bytes that wipe a line of progress off a terminal.
+/// The bytes that erase a progress line on a terminal.
 const WIPE: &str = "\r\u{1b}[K";
 
-/// Speaks to a person on standard error. What can't be written, or for which there is no memory, is left out. Results
-/// of a job are said once they are on the disk. A kill after that does not repeat a job that was said to be done.
+/// Prints messages on standard error. A message is dropped if it can't be written, or there is no memory for it. The
+/// result of a job is printed only once it is on the disk: a job that was printed as done is not repeated after a kill.
 #[derive(Drop)]
 pub(crate) struct Voice<'a, R, A: Allocator> {
     alloc: A,
     rt: &'a R,
-    /// Set if it shows how far a file is.
+    /// Set if it shows the progress of files.
     shows_progress: bool,
-    /// The time at which the session began, if the clock gives one.
+    /// The time at which this voice was created, if the clock gives one.
     since: Option<Instant>,
-    /// The second of the session in which the current job began.
+    /// The second, counted from then, in which the current job began.
     begun: u64,
-    /// The rate at which its file goes.
+    /// The transfer rate of its file.
     pace: Pace,
-    /// The second of the session in which the job's line of progress was last written, if that is still seen.
+    /// The second in which the job's progress line was last written, if it is still on the terminal.
     shown: Option<u64>,
     /// Messages about jobs, held back until the results are on the disk.
     held: String<A>,
@@ -48,7 +48,7 @@ impl<'a, R: Eprint + Clock, A: Allocator + Copy> Voice<'a, R, A> {
         }
     }
 
-    /// Returns the seconds that have passed, or 0 without a clock.
+    /// Returns the seconds since this voice was created, or 0 without a clock.
     fn seconds(&self) -> u64 {
         let Some(since) = self.since else {
             return 0;
@@ -59,28 +59,28 @@ impl<'a, R: Eprint + Clock, A: Allocator + Copy> Voice<'a, R, A> {
         }
     }
 
-    /// Says a line, if there was memory for it and it is not empty.
+    /// Prints a line, if there was memory for it and it is not empty.
     pub(crate) fn say(&self, line: Result<String<A>, AllocError>) {
         if let Ok(line) = line {
             self.say_line(line.as_str());
         }
     }
 
-    /// Says a line, if it is not empty.
+    /// Prints a line, if it is not empty.
     pub(crate) fn say_line(&self, line: &str) {
         if !line.is_empty() {
             let _ = eprint!(self.rt; "{line}");
         }
     }
 
-    /// Wipes the line of progress, if there is one.
+    /// Erases the progress line, if there is one.
     pub(crate) fn wipe(&mut self) {
         if self.shown.take().is_some() {
             let _ = eprint!(self.rt; "{WIPE}");
         }
     }
 
-    /// Says what was held back: all that has become of the jobs is on the disk.
+    /// Prints the messages that were held back: the results of the jobs are on the disk.
     pub(crate) fn say_held(&mut self) {
         if self.held.is_empty() {
             return;
@@ -91,7 +91,7 @@ impl<'a, R: Eprint + Clock, A: Allocator + Copy> Voice<'a, R, A> {
         self.held.clear();
     }
 
-    /// Says the state of the end.
+    /// Prints the state of the end.
     pub(crate) fn say_status(&self, status: SessionStatus) {
         let seconds = self.seconds();
         let phase = phase_word(status.phase);
@@ -101,17 +101,18 @@ impl<'a, R: Eprint + Clock, A: Allocator + Copy> Voice<'a, R, A> {
         ));
     }
 
-    /// Says the totals of one direction.
+    /// Prints the totals of one direction.
     pub(crate) fn say_counts(&self, verb: &str, bytes: u64, counts: Counts) {
         self.say(counts_line(self.alloc, verb, bytes, counts));
     }
 
-    /// Says how often nothing came.
+    /// Prints the number of timeouts.
     pub(crate) fn say_silences(&self, silences: u64) {
         self.say(format!(in self.alloc; "uucpair: {silences} timeouts\n"));
     }
 
-    /// Returns whether it is time to show how far a file is: once a second from the job's second one on, if that is shown.
+    /// Returns whether it is time to show the progress of a file, if that is shown: once a second, from two seconds
+    /// after the job began.
     pub(crate) fn is_due(&self, progress: &FileProgress) -> bool {
         if !self.shows_progress || progress.position == 0 {
             return false;
@@ -122,7 +123,7 @@ impl<'a, R: Eprint + Clock, A: Allocator + Copy> Voice<'a, R, A> {
         }
     }
 
-    /// Shows how far a file is, if that is due.
+    /// Shows the progress of a file, if that is due.
     pub(crate) fn show_progress(&mut self, progress: &FileProgress) {
         if self.is_due(progress) {
             let seconds = self.seconds();
@@ -132,7 +133,7 @@ impl<'a, R: Eprint + Clock, A: Allocator + Copy> Voice<'a, R, A> {
         }
     }
 
-    /// Says how far a file is, and how fast it goes.
+    /// Prints the progress of a file, and its rate.
     fn say_progress(&mut self, seconds: u64, progress: &FileProgress) {
         let now = Mark {
             second: seconds,
@@ -143,7 +144,7 @@ impl<'a, R: Eprint + Clock, A: Allocator + Copy> Voice<'a, R, A> {
         self.say(progress_line(self.alloc, seconds, rate, progress));
     }
 
-    /// Follows a job, so that the rate of its file is known. Its line of progress goes when it ends.
+    /// Follows a job, to know the rate of its file. Erases its progress line when it ends.
     pub(crate) fn follow(&mut self, news: &News) {
         let seconds = self.seconds();
         match news {
@@ -156,7 +157,7 @@ impl<'a, R: Eprint + Clock, A: Allocator + Copy> Voice<'a, R, A> {
         }
     }
 
-    /// Notes that a file begins in this second, or goes on at this position.
+    /// Starts to measure the rate of a file, in this second and from this position.
     fn begin_file(&mut self, seconds: u64, position: u64) {
         self.pace = Pace::new(Mark {
             second: seconds,

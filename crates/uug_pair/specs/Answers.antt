@@ -1,9 +1,9 @@
--- What the program answers about a run of two ends that gave up (this project's profile).
+-- The program's faults in a run of two ends that gave up (this project's profile).
 use Rattle.std.specs.Prelude.{⊤}
 use Rattle.uug_stream.specs.declared.fault.ToolFault.{ToolFault}
 use Rattle.uug_stream.specs.declared.fault.ToolFault.TheVariants as faults
 
--- a bad line of jobs, devices and memory, and a number that is out of its range
+-- a number out of its range, a bad line of jobs, a failed write, out of memory, or a failed device
 abbrev pub IsRunAnswer : ToolFault → Type 0
 IsRunAnswer faults.Usage = ⊤
 IsRunAnswer (faults.Jobs line) = ⊤

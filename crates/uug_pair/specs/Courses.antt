@@ -1,5 +1,5 @@
--- What an end has come to by the events that happen to it in a session, told of it alone (this project's profile). That is its
--- course here; nothing is said of the line, or of the other end.
+-- The course of an end: what the events that happen to it in a session have led to (this project's profile). The line
+-- and the other end are left out.
 use Rattle.std.specs.Prelude.{ℕ, max, Bool, true, List, [], ◌∷◌, ◌++◌, length}
 use Rattle.uug_packet.specs.Packet.{PacketValue}
 use Rattle.uug_session.specs.EndStep.{EndEffect, EndEvent, EndState, Emitted, Identity, Stage, end_step, linked, message_of, packet_found_whole}
@@ -15,15 +15,15 @@ pub record EndCourse : Type 0 where
   -- the packets that it has found on its link, and the messages that it has taken
   pub found : List PacketValue
   pub taken : List (List ℕ)
-  -- the most packets that were unacknowledged after any event
+  -- the greatest number of unacknowledged packets, at the beginning and after each event
   pub most : ℕ
 
--- a packet is found on a link alone
+-- a packet is found only while the end is linked
 abbrev pub packets_found : Stage → EndEvent → List PacketValue
 packets_found linked (packet_found_whole device_failed p) = p ∷ []
 packets_found _ _ = []
 
--- by whether its message was taken
+-- the message of a packet, if it was taken
 abbrev pub messages_taken : Bool → EndEvent → List (List ℕ)
 messages_taken true (packet_found_whole device_failed p) = message_of p ∷ []
 messages_taken _ _ = []
@@ -37,7 +37,7 @@ after_effect event effect c = record {
   most = max c.most (length effect.state.link.unacked);
 }
 
--- the end that is so called, with a spool that gives and accepts this
+-- one event, at an end with this identity, whose spool gives and accepts this
 abbrev pub course_step : Holdings → Identity → EndEvent → EndCourse → EndCourse
 course_step h id event c = after_effect event (end_step (end_keeper id.side h) id event c.state) c
 
@@ -45,7 +45,7 @@ abbrev pub course_after : Holdings → Identity → List EndEvent → EndCourse 
 course_after h id [] c = c
 course_after h id (event ∷ events) c = course_after h id events (course_step h id event c)
 
--- a session has begun, and nothing has happened in it
+-- the course of a session that has begun, before any event
 abbrev pub begun : EndEffect DialogueState → EndCourse
 begun effect = record {
   state = effect.state;
@@ -58,6 +58,6 @@ begun effect = record {
 abbrev pub first_course : Side → EndBeginning → EndCourse
 first_course side b = begun (first_effect side b)
 
--- from there on by these events
+-- the course after these events, from the beginning of the session
 abbrev pub course : Side → EndBeginning → List EndEvent → EndCourse
 course side b events = course_after b.holdings (identity_of side b) events (first_course side b)

@@ -1,4 +1,4 @@
--- A job that is gone from an end's pending ones, and where its file then is (this project's profile).
+-- A job that is gone from an end's pending jobs, and where its file then is (this project's profile).
 use Rattle.std.specs.Prelude.{◌≡◌, ℕ, Contains, List, Some}
 use Rattle.uug_conversation.specs.Choice.{fetched_by}
 use Rattle.uug_conversation.specs.Holdings.{File, Holdings, Kept, kept_as, to_give}
@@ -15,15 +15,15 @@ pub record IsGone (which : Job) (before now : Lists) : Type 0 where
   pub not_pending : Contains (pending now) which → ⊥
   pub not_failed : Contains now.failed which → ⊥
 
--- the file that the giver has under its name stands among the files that were kept, under the name where it lands
+-- the file that the giver has under this name is among the files that were kept, under the name where it lands
 pub record WasKept (h : Holdings) (name landing : List ℕ) (kept : List Kept) : Type 0 where
   pub file : File
   pub is_given : to_give h name ≡ Some file
   pub is_kept : Contains kept (kept_as landing file)
 
--- The file of a job of the end on the side, whole: what it sends, in what the other end's spool has kept; what it asks for,
--- in what its own has kept. The one end's holdings give it, and the other's spool keeps it, under the name that its own
--- holdings say.
+-- The file of a job of the end on this side was kept, complete. A file that the end sends was kept by the other end's
+-- spool, and a file that it requests by its own. The holdings of the giving end give the file. The holdings of the
+-- keeping end say the name where it lands.
 abbrev pub FileWasKept : AtBoth Holdings → (kept : AtBoth (List Kept)) → Side → Job → Type 0
 FileWasKept holdings kept side (job.Send source target user temp) =
     WasKept (at side holdings) (fetched_by source temp) ((at (other side) holdings).landing source target) (at (other side) kept)

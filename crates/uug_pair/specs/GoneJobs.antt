@@ -1,4 +1,4 @@
--- What became of the jobs that are gone from two ends that have run their sessions (this project's profile).
+-- The files of the jobs that are gone after two ends have run their sessions (this project's profile).
 use Rattle.std.specs.Prelude.{List}
 use Rattle.uug_conversation.specs.Holdings.{Holdings, Kept}
 use Rattle.uug_conversation.specs.Sides.{AtBoth, at}
@@ -15,26 +15,26 @@ use Rattle.uug_task.specs.declared.end_parts.EndParts.{EndParts}
 use Rattle.uug_transfer.specs.BufferedNodes.{node_in, spool_in}
 use Rattle.uug_transfer.specs.declared.buffered_node.BufferedNode.{BufferedNode}
 
--- the one at the caller, and the one at the called end
+-- a value at the caller, and one at the called end
 abbrev pub of_both : {X : Type 0} → (caller called : X) → AtBoth X
 of_both caller called = record { at_caller = caller; at_called = called }
 
--- how two ends that are made of this come to their sessions
+-- the beginnings of the sessions of two ends that are made of these parts
 abbrev pub beginnings_of : {S J N A : Type 0} → (holdings : S → Holdings) (kept : S → List Kept) →
     (caller called : EndParts S J N A) → AtBoth EndBeginning
 beginnings_of holdings kept caller called =
     of_both (beginning_of holdings kept caller) (beginning_of holdings kept called)
 
--- all that the spools of two ends have kept
+-- all files that the spools of two ends have kept
 abbrev pub kept_by : {S A : Type 0} → (kept : S → List Kept) (caller called : BufferedNode S A) → AtBoth (List Kept)
 kept_by kept caller called = of_both (kept (spool_in caller)) (kept (spool_in called))
 
 abbrev pub nodes_of : {S A : Type 0} → (caller called : BufferedNode S A) → AtBoth NodeState
 nodes_of caller called = of_both (node_in caller) (node_in called)
 
--- Events led each of the two to where it is then. In whatever order these happened, on each side the events of that end: where
--- neither was fooled in it, the file of each job that is gone from an end's pending ones, and did not fail, was kept, whole, at
--- the end to which it went.
+-- Events led each of the two nodes to its state. For every order of the events of both in which neither end was fooled:
+-- the file of each job that is gone from an end's pending jobs, and did not fail, was kept, complete, at the end to
+-- which it went.
 pub record GoneJobsWereDone (ends : AtBoth EndBeginning) (kept : AtBoth (List Kept)) (nodes : AtBoth NodeState) : Type 0 where
   pub runs : (side : Side) → HasRun side (at side ends) (at side kept) (at side nodes)
   pub files : (order : List EventAt) → HaveRun ends order kept nodes → NoneIsFooled ends order →

@@ -12,13 +12,14 @@ use Rattle.uug_session.specs.Beginnings.{EndBeginning}
 use Rattle.uug_session.specs.NodeRuns.{HasRun}
 use Rattle.uug_pair.specs.TwoCourses.{EventAt, course_at, events_at}
 
--- Each of the nodes has run to where it is, beside a spool that has then kept this; the order has the events of both.
+-- Each node has run its session up to its present state, with a spool that has kept these files by then. The order has
+-- the events of both.
 pub record HaveRun (ends : AtBoth EndBeginning) (order : List EventAt) (kept : AtBoth (List Kept)) (nodes : AtBoth NodeState) :
     Type 0 where
   pub runs : (side : Side) → HasRun side (at side ends) (at side kept) (at side nodes)
   pub events : (side : Side) → events_at side order ≡ (runs side).led.events
 
--- what the end on the side has come to by its events is the node there, beside its spool
+-- the events of the end on this side have led to the state of the node and the spool there
 abbrev pub Stands : AtBoth EndBeginning → List EventAt → AtBoth (List Kept) → AtBoth NodeState → Side → Type 0
 Stands ends order kept nodes side =
     (course_at ends order side).state ≡ end_of (at side ends).holdings (at side kept) (at side nodes).engine
@@ -26,7 +27,7 @@ Stands ends order kept nodes side =
 abbrev pub lists_of : NodeState → Lists
 lists_of n = n.engine.dialogue.machine.lists
 
--- the jobs that the node on the side has struck in the session, and the files that its spool has kept in it
+-- the jobs that the node on this side has struck in the session, and the files that its spool has kept in it
 abbrev pub struck_at : AtBoth EndBeginning → AtBoth NodeState → Side → List Job
 struck_at ends nodes side = since (at side ends).lists.struck (struck_jobs (at side nodes))
 

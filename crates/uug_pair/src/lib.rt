@@ -1,6 +1,6 @@
-//! Two ends over two folders of the system, and the socket between them. They are run in turn, and a job that is gone
-//! then has its file at the end to which it went. Also the promises between two real ends, each in a process of its own
-//! and at any line.
+//! Two ends over two folders of the system, which take turns at a socket between them. A job that is gone after that
+//! has its file at the end to which it went. Also the promises between two real ends, each in its own process and at
+//! any line.
 #![tactic(auto)]
 
 pub mod laws;

@@ -1,4 +1,4 @@
-//! Two folders, and the socket between their ends.
+//! Two ends over their folders, and the socket between them.
 ghost use Rattle.std.specs.Prelude.{◌≡◌, ◌≤◌, ◌<◌, ◌↔◌, ◌&&◌, false, IfErr, IfOk, IsSome};
 ghost use Rattle.uug_session.specs.Beginnings.{IsSoundBeginning};
 ghost use Rattle.uug_session.specs.NodeRuns.{HasRun};
@@ -42,10 +42,10 @@ type SystemSpool<'a, R, A> = FolderSpool<SystemFolder<'a, R, A>, A>;
 /// An end over a folder of the system.
 type SystemEnd<'a, R, A> = TransferEnd<SystemSpool<'a, R, A>, SystemText<'a, R, A>, NoFile, A>;
 
-/// The parts of such an end.
+/// The parts of an end over a folder of the system.
 type SystemParts<'a, R, A> = EndParts<SystemSpool<'a, R, A>, SystemText<'a, R, A>, NoFile, A>;
 
-/// The parts of both ends. The jobs of each are those of the text that was read of its file.
+/// The parts of both ends. The queue of each has the jobs in the text that was read from its file.
 #[derive(Drop)]
 pub struct PairParts<'a, R: Files, A: Allocator + Copy> {
     /// The parts of the end that calls.
@@ -56,10 +56,10 @@ pub struct PairParts<'a, R: Files, A: Allocator + Copy> {
     pub ghost called_read: { IsQueueOf called.jobs.before.items called.queue },
 }
 
-/// Both ends when their sessions are over, and the result of the program.
+/// Both ends after their run, and the result of the program.
 #[derive(Drop)]
 pub struct FinishedPair<'a, R: Files, A: Allocator + Copy> {
-    /// The end that called, as it is then.
+    /// The end that called.
     pub caller: SystemEnd<'a, R, A>,
     /// The end that was called.
     pub called: SystemEnd<'a, R, A>,
@@ -70,15 +70,15 @@ pub struct FinishedPair<'a, R: Files, A: Allocator + Copy> {
 /// A run of two ends: their socket, their folders, and the faults on the line between them.
 #[derive(Clone, Copy)]
 pub struct PairRun<'a> {
-    /// The path at which the socket is made.
+    /// The path at which the socket is created.
     pub socket: &'a str,
     /// The folder of the end that calls.
     pub dir_a: &'a str,
     /// The folder of the end that is called.
     pub dir_b: &'a str,
-    /// The N of which every Nth packet is lost.
+    /// N, if every Nth packet is lost.
     pub drop_every: Option<u32>,
-    /// The N of which every Nth packet is changed.
+    /// N, if every Nth packet is changed.
     pub flip_every: Option<u32>,
 }
 
@@ -100,8 +100,8 @@ impl<'a> PairRun<'a> {
     }
 }
 
-/// Runs the caller `a` over the folder `dir_a` and the called end `b` over `dir_b`, as `pair_run_with_reason` does, and
-/// does not say which call of the system failed, or which folder another run holds.
+/// Runs two ends as `pair_run_with_reason` does, without an observer. A fault does not say which system call failed, or
+/// which folder another run holds.
 pub fn pair_run<A: Allocator + Copy, R: Files<File = File> + Net + Alloc + Clone + Drop, O: Output>(
     alloc: A,
     rt: &R,
@@ -132,11 +132,12 @@ pub fn pair_run<A: Allocator + Copy, R: Files<File = File> + Net + Alloc + Clone
     }
 }
 
-/// Runs the caller `a` over the folder `dir_a` and the called end `b` over `dir_b`, over a Unix socket that is made at
-/// the path `socket`. Every Nth packet is lost, and every Nth changed, for an N of its own each, if one is given.
-/// `docs/OPERATING.md` describes what is in a folder. Both folders are locked before anything in them is read. Returns
-/// the program's status. A fault says which call of the system failed first, if that is the reason, or which folder
-/// another run holds. The observer sees what the caller writes and reads, and that its session is over.
+/// Runs the caller `a` over the folder `dir_a` and the called end `b` over `dir_b`, with a Unix socket that is created
+/// at the path `socket`. If `drop_every` is N, every Nth packet is lost. If `flip_every` is N, every Nth packet is
+/// changed. Packets are counted over both directions. `docs/OPERATING.md` describes the files of a folder. Both folders
+/// are locked before anything in them is read. Returns the program's status. A fault says which system call failed
+/// first, if one is the reason, or which folder another run holds. The observer sees what the caller writes and reads,
+/// and the end of its session.
 pub fn pair_run_with_reason<
     A: Allocator + Copy,
     R: Files<File = File> + Net + Alloc + Clone + Drop,
@@ -200,9 +201,9 @@ fn run_locked<
     answer
 }
 
-/// Begins the sessions of both ends, and runs them. Returns the ends as they are after that: each has run the session
-/// that began here, up to that point. Each job that has then left an end's pending jobs without failing has its file,
-/// whole, at the end to which it went. This holds unless a packet that was not sent passed its checksum.
+/// Begins the sessions of both ends, and runs them. Returns both ends after that: each has run the session that began
+/// here, up to that point. Each job that has left an end's pending jobs without failing has its file, complete, at the
+/// end to which it went. This holds unless a packet that was not sent passed its checksum.
 pub fn run_both<
     'a,
     A: Allocator + Copy,
@@ -280,7 +281,7 @@ pub fn run_both<
     })
 }
 
-/// Joins both ends by a socket that is observed, and runs them.
+/// Connects both ends by an observed socket, and runs them.
 fn run_ends<
     'a,
     A: Allocator + Copy,
@@ -320,7 +321,8 @@ fn run_ends<
     with_cause(result, first)
 }
 
-/// Returns the answer of a run. `first` is the first failed call of the system: one has failed if a device did.
+/// Returns the answer of a run. `first`, the first failed system call, is the cause of a device fault, which always has
+/// one.
 fn with_cause(answer: Result<u8, ToolFault>, first: Option<SystemFailure>) -> Result<u8, RunFault>
     requires named { answer ≡ Err ToolFault.Device → IsSome first }
     requires no_other { IfErr answer IsEndFault }
@@ -334,7 +336,7 @@ fn with_cause(answer: Result<u8, ToolFault>, first: Option<SystemFailure>) -> Re
     }
 }
 
-/// Returns which call of the system on the folder of an end failed first: in `got`, else on its jobs.
+/// Returns the first failed system call on the folder of an end: in `got`, or else on its jobs.
 fn failure_of<R: Files, A: Allocator + Copy>(end: &SystemEnd<'_, R, A>) -> Option<SystemFailure>
     ensures { 0 < end.now.jobs.file.faults.count → IsSome result }
 {
@@ -342,7 +344,7 @@ fn failure_of<R: Files, A: Allocator + Copy>(end: &SystemEnd<'_, R, A>) -> Optio
     got.failure().or(end.jobs.file.failure())
 }
 
-/// Reads the parts of both ends over their folders, as these are now.
+/// Reads the parts of both ends from their folders.
 fn read_both<'a, A: Allocator + Copy, R: Files + Alloc + Clone + Drop>(
     alloc: A,
     rt: &'a R,

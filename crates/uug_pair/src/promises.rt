@@ -12,9 +12,10 @@ ghost use Rattle.uug_pair.specs.TwoCourses.{EventAt, KeepsPromises, NoneIsFooled
 ghost use Rattle.uug_pair.specs.TwoNodes.{HaveRun, Stands, holdings_at, kept_at, kept_by_both, lists_of, struck_at};
 ghost use Rattle.uug_session.specs.Node.{NodeState};
 
-/// States what two ends promise, each at any line, with any device and spool, whatever happens. If in some order of the
-/// events neither was fooled, then each has taken the first messages that the other has sent, no job was struck before
-/// its file was stored, complete, and no end had more unacknowledged packets than the other announced.
+/// States what two ends promise, each at any line, with any device and spool, whatever happens. Suppose that in some
+/// order of the events neither was fooled. Then each end has taken the first messages that the other has sent, no job
+/// was struck before its file was stored, complete, and no end had more unacknowledged packets than the other
+/// announced.
 pub fn two_ends_keep_their_promises()
     ensures { (ends : AtBoth EndBeginning) (order : List EventAt) → AreSound ends
         → NoneIsFooled ends order → KeepsPromises ends order }
@@ -35,9 +36,9 @@ pub fn two_nodes_keep_their_promises()
         (kept_at ends kept (other giver)) }
 {}
 
-/// States that the file of a job was kept, complete, if the job is gone from an end's pending jobs and did not fail.
-/// The other end's spool has kept it in the session, or for a Request the end's own, under the name where it lands
-/// there. None of the end's jobs may have been struck before, and in some order of what happened at both ends neither
+/// States that the file of a job was kept, complete, if the job is gone from an end's pending jobs and did not fail. It
+/// was kept in the session, under the name where it lands: by the other end's spool, or for a Request by the end's own.
+/// None of the end's jobs may have been struck before the session, and in some order of the events at both ends neither
 /// may have been fooled.
 pub fn the_file_of_a_job_that_is_gone_was_kept()
     ensures { (ends : AtBoth EndBeginning) (order : List EventAt) (kept : AtBoth (List Kept))

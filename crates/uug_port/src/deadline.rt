@@ -3,7 +3,7 @@
 use std::io;
 use std::time::{Clock, Duration, Instant};
 
-/// A span of time from a moment on.
+/// The moment at which a time that began at `since` is over.
 #[derive(Clone, Copy)]
 pub struct Deadline {
     since: Instant,
@@ -19,7 +19,7 @@ impl Deadline {
         })
     }
 
-    /// Returns how much time is left, or `None` if it is over.
+    /// Returns the time that is left, or `None` if the deadline has passed.
     pub fn left<R: Clock>(&self, rt: &R) -> io::Result<Option<Duration>> {
         let left = self.time.saturating_sub(self.since.elapsed(rt)?);
         if left.is_zero() {

@@ -13,22 +13,22 @@ use std::time::Duration;
 use uug_failure::Cause;
 use uug_transfer::ReadOutcome;
 
-/// The byte that wakes an end that says nothing before it hears one. It is no part of a text.
+/// The byte that wakes an end that is silent until it receives one. It is not part of a text.
 const WAKE: &[u8] = b"\r";
 
-/// A port over a terminal device, with the settings that it had before.
+/// A port over a terminal device. It leaves the terminal settings as they are.
 #[derive(Drop)]
 pub struct DevicePort<A: Allocator> {
     file: File,
     waiting: Waiting<A>,
-    /// Set while the other end may still sleep, and is to be woken.
+    /// Set from `wake` until bytes arrive.
     wakes: bool,
 }
 
 impl<A: Allocator + Copy> DevicePort<A> {
-    /// Opens the device at this path for this run alone. If another run holds it, `InUse` is the cause of the failure,
-    /// and `NoTerminal` if it can't be waited for, which the system reports as `PermissionDenied`: a file, or
-    /// `/dev/null`. Its calls wait as long as `time`, in whole seconds.
+    /// Opens the device at this path, and locks it for this run. Its calls wait up to `time`, in whole seconds. Fails
+    /// with `InUse` if another run holds the lock. Fails with `NoTerminal` if the system can't poll the file, which it
+    /// reports as `PermissionDenied`: a regular file, or `/dev/null`.
     pub fn open<R: Files<File = File> + Net>(
         alloc: A,
         rt: &R,
@@ -47,13 +47,12 @@ impl<A: Allocator + Copy> DevicePort<A> {
         }
     }
 
-    /// Wakes the other end: a byte is written before each read, until one has come. Two ends that wait for each other's
-    /// greeting thus begin.
+    /// Makes each read write a byte first, until bytes arrive. Two ends that wait for each other's greeting thus start.
     pub fn wake(&mut self) {
         self.wakes = true;
     }
 
-    /// Waits for the first byte, for at most `time`, and returns whether it, or the line's end, came. Nothing is read.
+    /// Waits up to `time` for the first byte. Returns whether a byte, or the end of the line, arrived. Reads nothing.
     pub fn wait_for_call(&mut self, time: Duration) -> Result<bool, Cause> {
         match self.waiting.wait_for(&self.file, Interest::READABLE, time) {
             Ok(called) => Ok(called),
@@ -82,7 +81,7 @@ impl<A: Allocator + Copy> Port for DevicePort<A> {
 
     fn read(&mut self, buffer: &mut [u8]) -> Result<ReadOutcome, Cause> {
         if self.wakes {
-            // One that is not taken is written again before the next read.
+            // If the device takes nothing, the next read tries again.
             write_in_time(&mut self.file, &mut self.waiting, WAKE)?;
         }
         let outcome = read_in_time(&mut self.file, &mut self.waiting, buffer)?;

@@ -1,4 +1,4 @@
-//! The bytes of an end that may be on the way, and how long they take.
+//! The bytes of an end that may be in flight, and how long its line waits for them.
 ghost use Rattle.std.specs.Prelude.{◌≤◌, IfSome};
 
 use std::time::Duration;
@@ -8,20 +8,20 @@ use uug_transfer::{Pace, packets};
 /// The byte with which each packet begins.
 const START: u8 = 0x10;
 
-/// The bytes of an end in a session that may be on the way, and the time that its line waits for them.
+/// The bytes of an end that may be in flight in a session, and how long its line waits for them.
 #[derive(Clone, Copy)]
 pub(crate) struct Flight {
     pace: Pace,
-    /// The size of the greatest field of the data packets that were written.
+    /// The size of the largest field of the data packets that were written.
     largest: u16,
-    /// Set if what is written next begins with a packet.
+    /// Set if the next write begins with a packet.
     at_packet: bool,
     /// The time that the line waits now.
     time: Duration,
 }
 
 impl Flight {
-    /// Begins with nothing on the way. The line already waits for as long as this pace says then.
+    /// Starts with nothing in flight. The line already waits for the time that `pace` gives for that.
     pub(crate) fn new(pace: Pace) -> Self {
         Flight {
             pace,
@@ -31,20 +31,20 @@ impl Flight {
         }
     }
 
-    /// Notes what is about to be written.
+    /// Notes a piece that is about to be written.
     pub(crate) fn begin(&mut self, piece: &[u8]) {
         if self.at_packet {
             self.largest = self.largest.max(largest_field(piece));
         }
     }
 
-    /// Notes how many bytes of that were taken. The others are seen again, at the same packet.
+    /// Notes how many bytes of that piece were taken. The rest is written again. It may begin inside a packet, so
+    /// `begin` does not look at it a second time.
     pub(crate) fn note(&mut self, count: usize, piece: &[u8]) {
         self.at_packet = count == 0 && self.at_packet || count == piece.len();
     }
 
-    /// Returns the time that the line is to wait from now on, with so many packets not acknowledged, if it is another one
-    /// than before.
+    /// Returns how long the line is to wait with `unacked` packets not acknowledged, or `None` if that has not changed.
     pub(crate) fn new_time(&mut self, unacked: usize) -> Option<Duration> {
         let unacked = u8::try_from(unacked).unwrap_or(u8::MAX);
         let time = self.pace.time(packets(unacked, self.largest));
@@ -56,7 +56,7 @@ impl Flight {
     }
 }
 
-/// Returns the size of the greatest field of the data packets in these bytes, which begin with a packet or a text.
+/// Returns the size of the largest field of the data packets in these bytes, which begin with a packet or a text.
 fn largest_field(bytes: &[u8]) -> u16 {
     let mut largest = 0;
     let mut rest = bytes;
@@ -71,7 +71,8 @@ fn largest_field(bytes: &[u8]) -> u16 {
     u16::try_from(largest).unwrap_or(u16::MAX)
 }
 
-/// Returns the size of the field of the packet that begins with these bytes, if one does. It is 0 for a control packet.
+/// Returns the field size of the packet whose header begins with these two bytes, or `None` if none does. A control
+/// packet has 0.
 fn field_behind(start: u8, code: u8) -> Option<usize>
     ensures { IfSome result (λ field. field ≤ 4096) }
 {

@@ -11,7 +11,8 @@ use std::os::fd::AsRawFd;
 use uug_failure::Cause;
 use uug_transfer::ReadOutcome;
 
-/// Writes some of a piece, once any is taken. Returns 0 if none is taken for as long as the port waits.
+/// Waits until the file is writable, and writes some of `piece`. Returns 0 after a timeout, or if the write would still
+/// block.
 pub(crate) fn write_in_time<T: Write + AsRawFd, A: Allocator + Copy>(
     file: &mut T,
     waiting: &mut Waiting<A>,
@@ -26,8 +27,8 @@ pub(crate) fn write_in_time<T: Write + AsRawFd, A: Allocator + Copy>(
     }
 }
 
-/// Does the same, but fails without writing if nobody reads any more. The system would end the program by a signal
-/// there.
+/// Writes like `write_in_time`, but fails with `BrokenPipe`, without a write, if the reader is gone. The system would
+/// end the program with SIGPIPE.
 pub(crate) fn write_where_read<T: Write + AsRawFd, A: Allocator + Copy>(
     file: &mut T,
     waiting: &mut Waiting<A>,
@@ -43,7 +44,8 @@ pub(crate) fn write_where_read<T: Write + AsRawFd, A: Allocator + Copy>(
     }
 }
 
-/// Reads once, after waiting for bytes. Returns a timeout if none came.
+/// Waits until the file is readable, and reads once. Returns `TimedOut` after a timeout, or if the read would still
+/// block.
 pub(crate) fn read_in_time<T: Read + AsRawFd, A: Allocator + Copy>(
     file: &mut T,
     waiting: &mut Waiting<A>,

@@ -1,5 +1,5 @@
-//! The lines of an end on a system: sockets that call and that listen, devices, and the socket between two ends. Also
-//! the standard streams of a program.
+//! The lines of an end on an operating system: sockets that call or listen, terminal devices, the program's standard
+//! streams, and the socket between two ends.
 #![tactic(auto)]
 
 mod deadline;

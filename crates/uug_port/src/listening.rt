@@ -1,4 +1,4 @@
-//! A socket at which an end is called.
+//! A listening socket, for an end that is called.
 
 use crate::deadline::Deadline;
 use crate::timed_stream::TimedStream;
@@ -14,17 +14,17 @@ use std::rt::Files;
 use std::time::Clock;
 use std::{fs, io};
 
-/// The token of the socket, the only thing that is waited for.
+/// The token of the socket, the only source that is polled.
 const SOCKET: Token = Token(0);
 
 /// The maximum number of waits for a caller.
 const WAITS_MAX: u32 = u32::MAX;
 
-/// A socket that listens, and does not block.
+/// A listening socket that does not block.
 pub trait Listener: AsRawFd {
     type Stream: TimedStream + AsRawFd + Drop;
 
-    /// Returns the next stream that has connected. Its calls block.
+    /// Accepts the next connection. The calls of its stream block.
     fn take(&self) -> io::Result<Self::Stream>;
 }
 
@@ -46,13 +46,13 @@ impl Listener for TcpListener {
     }
 }
 
-/// A socket that listens until a caller has been let in.
+/// A socket that listens until a caller is let in.
 #[derive(Drop)]
 pub struct Listening<'a, 'p, T, R, A: Allocator> {
     rt: &'a R,
-    /// The path of its file, if it has one.
+    /// The path of the socket's file, if it has one.
     path: Option<&'p str>,
-    /// The socket, as long as it listens.
+    /// The socket, or `None` once it is closed.
     listener: Option<T>,
     poll: Poll,
     events: Events<A>,
@@ -64,7 +64,7 @@ where
     R: Files + Net + Clock,
     A: Allocator + Copy,
 {
-    /// Wraps a socket that does not block. `path` is that of its file.
+    /// Wraps a listening socket that does not block. `path` is the path of its file.
     pub fn new(alloc: A, rt: &'a R, path: Option<&'p str>, listener: T) -> io::Result<Self> {
         let poll = Poll::new(rt)?;
         let events = Events::with_capacity(alloc, 1)?;
@@ -80,8 +80,8 @@ where
         })
     }
 
-    /// Returns the next caller, or `None` if the time is over, or the socket listens no more. A signal ends no wait,
-    /// and neither does a caller who is gone again.
+    /// Returns the next caller, or `None` after the deadline, or once the socket is closed. Neither a signal nor a
+    /// caller who has hung up ends the wait.
     pub fn next_caller(&mut self, deadline: &Deadline) -> io::Result<Option<T::Stream>> {
         let Some(listener) = &self.listener else {
             return Ok(None);
@@ -102,8 +102,8 @@ where
 }
 
 impl<T: Listener, R: Net, A: Allocator + Copy> Listening<'_, '_, T, R, A> {
-    /// Returns a look at those who call from now on, or wait already. There is none if the socket listens no more, or
-    /// the system refuses it.
+    /// Returns a watch for callers who wait now or connect later, or `None` if the socket is closed or the watch can't
+    /// be set up.
     pub fn waiters(&self, alloc: A) -> Option<Waiters<A>> {
         let listener = self.listener.as_ref()?;
         Waiters::at(alloc, self.rt, listener).ok()
@@ -111,7 +111,7 @@ impl<T: Listener, R: Net, A: Allocator + Copy> Listening<'_, '_, T, R, A> {
 }
 
 impl<T: Drop, R: Files, A: Allocator> Listening<'_, '_, T, R, A> {
-    /// Stops listening, and removes its file.
+    /// Stops listening, and removes the socket's file.
     pub fn close(&mut self) {
         if let Some(listener) = self.listener.take() {
             drop(listener);
@@ -131,8 +131,8 @@ impl<T: Drop, R: Files, A: Allocator> Listening<'_, '_, T, R, A> {
     }
 }
 
-/// Returns whether an error only says that there is no caller yet: nobody has connected, or the caller is gone, or a
-/// signal came.
+/// Returns whether an error only means that there is no caller yet: nobody has connected, the caller has hung up, or a
+/// signal arrived.
 fn is_none_yet(error: &io::Error) -> bool {
     matches!(
         error.kind(),

@@ -10,26 +10,27 @@ use std::net::Net;
 use std::os::fd::AsRawFd;
 use std::time::Duration;
 
-/// The token of the stream, the only thing that is waited for.
+/// The token of the stream, the only source that is polled.
 const STREAM: Token = Token(0);
 
-/// The milliseconds of the poll for the next bytes, before the read that brings them, or blocks itself.
+/// The longest poll before a read, in milliseconds. After it the read returns bytes, or blocks itself.
 const POLL_MILLIS: u64 = 100;
 
-/// A stream that is polled before it is read, if a blocking read is woken for nothing. For each window of small packets
-/// such wakes cost more than one call. A read has the same result as a read of the stream, at most a tenth of a second
-/// later.
+/// A stream that is polled before a read, if a blocking read would be woken for nothing. For each window of small
+/// packets such wakes cost more than the extra call. A read has the same result as a read of the stream, at most a
+/// tenth of a second later.
 #[derive(Drop)]
 pub struct PolledStream<T, A: Allocator> {
     stream: T,
     poll: Poll,
     events: Events<A>,
-    /// Set if the last read left no bytes. The system reports no byte twice, and what was left is not polled for.
+    /// Set if the last read left no bytes. Bytes that a read leaves are not polled for: the system does not report them
+    /// again.
     is_drained: bool,
 }
 
 impl<T: TimedStream + AsRawFd + Drop, A: Allocator + Copy> PolledStream<T, A> {
-    /// Wraps this stream, of which nothing was read yet.
+    /// Wraps a stream from which nothing was read yet.
     pub fn new<R: Net>(alloc: A, rt: &R, stream: T) -> io::Result<Self> {
         let poll = Poll::new(rt)?;
         let events = Events::with_capacity(alloc, 1)?;
@@ -48,7 +49,7 @@ impl<T: TimedStream + AsRawFd + Drop, A: Allocator + Copy> PolledStream<T, A> {
 impl<T: TimedStream, A: Allocator> Read for PolledStream<T, A> {
     fn read(&mut self, buffer: &mut [u8]) -> io::Result<usize> {
         if self.is_drained && self.stream.is_woken_for_nothing() {
-            // Whatever the result, the read reports it.
+            // The poll's result is ignored: the read reports a failure.
             let time = Duration::from_millis(POLL_MILLIS);
             let _ = self.poll.poll(&mut self.events, Some(time));
         }

@@ -9,9 +9,10 @@ use std::time::{Clock, Instant};
 use uug_failure::{Cause, Resource, SystemFailure};
 use uug_transfer::{EndLine, Pace, ReadOutcome, SessionStatus};
 
-/// The line over a port, which waits, each time anew, for as long as its pace says. It counts the seconds since it was
-/// opened. After a failure of any call it is at its end: bytes that have come by then are still read, and bytes written
-/// then are lost. A session thus ends in the same way whether a read or a write has found that the other end is gone.
+/// The line of an end over a port. Each call waits for as long as the pace gives at that time. It counts the seconds
+/// since it was opened. A failed call is the end of the line. A read that fails returns `Eof`. After a write that
+/// fails, reads return the bytes that have arrived, then `Eof`, and bytes that are written are lost. A session thus
+/// ends in the same way whether a read or a write finds that the other end is gone.
 #[derive(Drop)]
 pub struct PortLine<'a, P, R> {
     port: P,
@@ -19,17 +20,17 @@ pub struct PortLine<'a, P, R> {
     /// The time at which it was opened, if the clock gives one.
     since: Option<Instant>,
     flight: Flight,
-    /// The cause of the first call that failed.
+    /// The cause of the first failure.
     cause: Option<Cause>,
     /// Set once a write has failed.
     is_cut: bool,
-    /// Set while its session is done: what fails then is of no matter.
+    /// Set while the session is done: a failure then does not matter.
     is_done: bool,
 }
 
 impl<'a, P: Port, R: Clock> PortLine<'a, P, R> {
-    /// Makes the line of a session that begins, over a port that was opened just now. It already waits for as long as
-    /// this pace says with nothing on the way.
+    /// Creates the line of a new session, over a port that was just opened. The port already waits for the time that
+    /// `pace` gives with nothing in flight.
     pub fn new(rt: &'a R, port: P, pace: Pace) -> Self {
         PortLine {
             port,
@@ -42,7 +43,7 @@ impl<'a, P: Port, R: Clock> PortLine<'a, P, R> {
         }
     }
 
-    /// Returns why the line has failed, if it has, and its session is not done.
+    /// Returns why the line failed, or `None` if it has not failed or the session is done.
     pub fn failure(&self) -> Option<SystemFailure> {
         match self.cause {
             Some(cause) if !self.is_done => Some(SystemFailure::on(Resource::Line, cause)),
@@ -50,7 +51,7 @@ impl<'a, P: Port, R: Clock> PortLine<'a, P, R> {
         }
     }
 
-    /// Notes why a call failed, if it did.
+    /// Notes the cause of a call that failed, if it is the first.
     fn note_failed<T>(&mut self, called: &Result<T, Cause>) {
         if let Err(cause) = called {
             self.cause = self.cause.or(Some(*cause));
@@ -102,7 +103,7 @@ impl<P: Port, R: Clock> EndLine for PortLine<'_, P, R> {
     }
 }
 
-/// Returns how many bytes of this piece are gone after a write of it: all of them if the write failed.
+/// Returns how many bytes of `piece` a write has consumed. A failed write consumes all: they are lost.
 fn taken_then(written: Result<usize, Cause>, piece: &[u8]) -> usize
     requires { IfOk written (λ n. n ≤ length piece.now) }
     ensures taken { result ≡ taken_then (length piece.now) written }
@@ -114,8 +115,8 @@ fn taken_then(written: Result<usize, Cause>, piece: &[u8]) -> usize
     }
 }
 
-/// Returns the outcome of a read into this buffer. After a failed write nothing is waited for: a timeout is the line's
-/// end.
+/// Returns the line's outcome of a read into this buffer. A failed read is the end of the line. After a failed write
+/// nothing is waited for, so a timeout is the end too.
 fn outcome_then(read: Result<ReadOutcome, Cause>, is_cut: bool, _buffer: &[u8]) -> ReadOutcome
     requires { IfOk read (λ outcome. IsWithin (length _buffer.now) outcome) }
     ensures outcome { result ≡ outcome_then is_cut read }

@@ -5,16 +5,16 @@ use std::io;
 use std::io::Write;
 use std::rt::Files;
 
-/// A file that keeps what it held until something is written to it. A run that prints nothing thus leaves it alone.
+/// A file that keeps its contents until the first write. A run that prints nothing leaves it unchanged.
 #[derive(Drop)]
 pub struct ReportFile {
     file: File,
-    /// Set while it has contents that are to be removed first.
+    /// Set while old contents are still to be removed.
     is_kept: bool,
 }
 
 impl ReportFile {
-    /// Opens the file of this path, and creates it if it is missing. Only a regular file has contents to remove.
+    /// Opens the file at this path, and creates it if it is missing. Only a regular file has contents to remove.
     pub fn open<R: Files<File = File>>(rt: &R, path: &str) -> io::Result<Self> {
         let file = OpenOptions::new().write(true).create(true).open(rt, path)?;
         let is_kept = file.metadata()?.is_file();

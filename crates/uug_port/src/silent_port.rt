@@ -5,7 +5,7 @@ use std::time::Duration;
 use uug_failure::Cause;
 use uug_transfer::ReadOutcome;
 
-/// The port of an end that nobody has called. It takes what is written, and each read times out at once.
+/// The port of an end that nobody has called. It discards all that is written, and each read times out at once.
 #[derive(Clone, Copy)]
 pub struct SilentPort;
 

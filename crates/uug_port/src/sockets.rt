@@ -1,4 +1,4 @@
-//! Sockets at which an end calls or is called.
+//! Sockets of ends that call or are called.
 
 use crate::deadline::Deadline;
 use crate::listening::Listening;
@@ -12,21 +12,21 @@ use std::rt::Files;
 use std::time::{Clock, Duration};
 use std::{fs, io, thread};
 
-/// The milliseconds before an end connects again to a socket at which too many wait to be taken.
+/// The milliseconds before another attempt to connect to a socket whose backlog is full.
 const PAUSE_MILLIS: u64 = 50;
 
 /// The maximum number of attempts to connect.
 const TRIES_MAX: u32 = u32::MAX;
 
-/// Returns the stream over the Unix socket at this path, whose calls wait as long as `time`. Connecting may take as
-/// long too.
+/// Connects to the Unix socket at this path. Connecting waits up to `time`, as does each call of the stream.
 pub fn call_unix<R: Net + Clock>(rt: &R, path: &str, time: Duration) -> io::Result<UnixStream> {
     let stream = connect_unix(rt, path, time)?;
     stream.set_time(time)?;
     Ok(stream)
 }
 
-/// Connects to a Unix socket. The system does not report when it has room for one more, so the call is repeated.
+/// Connects to a Unix socket. If its backlog is full, the call is repeated: the system does not report when there is
+/// room.
 fn connect_unix<R: Net + Clock>(rt: &R, path: &str, time: Duration) -> io::Result<UnixStream> {
     let deadline = Deadline::after(rt, time)?;
     for _ in 0..TRIES_MAX {
@@ -51,8 +51,8 @@ fn waiting(stream: UnixStream) -> io::Result<UnixStream> {
     Ok(stream)
 }
 
-/// Returns the stream over TCP to this port of this host, whose calls wait as long as `time`. Connecting may take as
-/// long too.
+/// Connects to this TCP port of this host. After the name lookup, connecting waits up to `time`, as does each call of
+/// the stream.
 pub fn call_tcp<A, R>(
     alloc: A,
     rt: &R,
@@ -70,7 +70,7 @@ where
     Ok(stream)
 }
 
-/// Connects to the first address of the host that answers. The time is shared among all addresses that it has.
+/// Connects to the first address of the host that answers. Each address gets an equal share of `time`.
 fn connect_tcp<A, R>(
     alloc: A,
     rt: &R,
@@ -94,7 +94,7 @@ where
     Err(last)
 }
 
-/// Returns the share of a time for each of `count`.
+/// Returns an equal share of `time` for each of `count`.
 fn share_of(time: Duration, count: usize) -> Duration {
     match u32::try_from(count) {
         Ok(count) if count > 0 => time / count,
@@ -102,7 +102,7 @@ fn share_of(time: Duration, count: usize) -> Duration {
     }
 }
 
-/// Returns a Unix socket that listens at this path. One that was left there, and at which nobody listens, is replaced.
+/// Listens on a Unix socket at this path. A socket that was left there, on which nobody listens, is replaced.
 pub fn listen_unix<'a, 'p, A: Allocator + Copy, R: Files + Net + Clock>(
     alloc: A,
     rt: &'a R,
@@ -119,7 +119,7 @@ pub fn listen_unix<'a, 'p, A: Allocator + Copy, R: Files + Net + Clock>(
     Listening::new(alloc, rt, Some(path), listener)
 }
 
-/// Returns whether there is a socket at this path at which nobody listens.
+/// Returns whether there is a socket at this path on which nobody listens.
 fn is_left_over<R: Files + Net>(rt: &R, path: &str) -> bool {
     match fs::symlink_metadata(rt, path) {
         Ok(found) if found.file_type().is_socket() => (),
@@ -131,7 +131,7 @@ fn is_left_over<R: Files + Net>(rt: &R, path: &str) -> bool {
     }
 }
 
-/// Returns a socket that listens at this port of this host.
+/// Listens on this TCP port of this host.
 pub fn listen_tcp<'a, 'p, A, R>(
     alloc: A,
     rt: &'a R,

@@ -16,8 +16,8 @@ use std::time::Duration;
 use uug_failure::Cause;
 use uug_transfer::ReadOutcome;
 
-/// The output that is written to. A write to a socket whose other end is gone raises no signal. A write to a pipe whose
-/// reader is gone does, so anything but a socket is checked first.
+/// Standard output. A write to a pipe whose reader is gone raises a signal, so any output but a socket is checked
+/// first. A write to a socket whose other end is gone raises none.
 #[derive(Drop)]
 enum Outgoing {
     Socket(UnixStream),
@@ -45,7 +45,7 @@ pub struct StandardPort<A: Allocator> {
 }
 
 impl<A: Allocator + Copy> StandardPort<A> {
-    /// Creates the port over these streams. Its calls wait as long as `time`, in whole seconds.
+    /// Creates the port over these streams. Its calls wait up to `time`, in whole seconds.
     pub fn new<R: Net>(
         alloc: A,
         rt: &R,
@@ -79,7 +79,8 @@ fn open_port<A: Allocator + Copy, R: Net>(
     })
 }
 
-/// Writes some of a piece, once any is taken. Returns 0 if none is taken for as long as the port waits.
+/// Waits until the output is writable, and writes some of `piece`. Returns 0 after a timeout, or if the write would
+/// still block.
 fn write_out<A: Allocator + Copy>(
     output: &mut Outgoing,
     waiting: &mut Waiting<A>,

@@ -16,25 +16,25 @@ pub struct StandardStreams {
     pub input: Stdin,
     /// The stream that is written.
     pub output: Stdout,
-    /// The stream for reports of what went wrong.
+    /// The stream for error messages.
     pub errors: Stderr,
 }
 
 impl StandardStreams {
-    /// Makes the calls of the first two block again, as other programs expect that share them.
+    /// Makes the calls of `input` and `output` block again. Other programs that share them expect that.
     pub fn release(&self) {
         let _ = set_waiting(&self.input, true);
         let _ = set_waiting(&self.output, true);
     }
 }
 
-/// Opens `/dev/null` under the number of each closed standard stream, and keeps it open. No file of a folder then gets
-/// that number. Reading or writing there fails as at a closed one.
+/// Opens `/dev/null` in place of each closed standard stream. While the returned files are open, no other file gets the
+/// stream's descriptor. Reading or writing them fails as on a closed stream.
 pub fn hold_descriptors<R: Files<File = File>>(rt: &R) -> [Option<File>; 3] {
     [hold_next(rt), hold_next(rt), hold_next(rt)]
 }
 
-/// Does the same for the lowest closed number, if it is that of a standard stream.
+/// Holds the lowest closed descriptor, if it is that of a standard stream.
 fn hold_next<R: Files<File = File>>(rt: &R) -> Option<File> {
     let held = OpenOptions::new().write(true).open(rt, NOTHING).ok()?;
     match held.as_raw_fd() {

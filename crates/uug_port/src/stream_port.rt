@@ -10,7 +10,7 @@ use std::time::Duration;
 use uug_failure::{Cause, read_again, write_again};
 use uug_transfer::ReadOutcome;
 
-/// A port over a stream whose calls wait no longer than its owner has set.
+/// A port over a stream whose calls wait no longer than the timeout that is set.
 #[derive(Drop)]
 pub struct StreamPort<T> {
     stream: T,
@@ -37,8 +37,8 @@ impl<T: TimedStream> Port for StreamPort<T> {
     }
 }
 
-/// Writes once. Returns 0 if the write would block for longer, or a signal ended it. A write that moves no byte without
-/// an error has failed.
+/// Writes once. Returns 0 if the write times out, or signals end it. A write that moves no byte without an error has
+/// failed.
 pub(crate) fn write_some<T: Write>(stream: &mut T, piece: &[u8]) -> Result<usize, Cause>
     ensures within { IfOk result (λ n. n ≤ length piece.now) }
     ensures no_silence { IfErr result (λ cause. IsSilence cause → ⊥) }
@@ -53,7 +53,7 @@ pub(crate) fn write_some<T: Write>(stream: &mut T, piece: &[u8]) -> Result<usize
     }
 }
 
-/// Reads once. A read that would block for longer is a silence.
+/// Reads once. Returns `TimedOut` if the read times out, or signals end it.
 pub(crate) fn read_some<T: Read>(stream: &mut T, buffer: &mut [u8]) -> Result<ReadOutcome, Cause>
     requires room { 0 < length buffer.old }
     ensures within { IfOk result (λ outcome. IsWithin (length buffer.old) outcome) }

@@ -1,7 +1,7 @@
-//! An input over a reader of the system. Clauses see the bytes that its reader shows them. Standard input shows none,
-//! since no proof knows what the system gives; and a body that always fails, and counts its faults, meets the contract
-//! over every reader. The stored run of the program shows that bytes come in, and tests/command_line.sh that a refused
-//! read is a device fault.
+//! An input over a reader of the system. Clauses see the bytes that the reader exposes. Standard input exposes none,
+//! since no proof knows what the system delivers. A body that always fails, and counts its faults, would meet the
+//! contract over every reader. So tests show the rest: the stored run of the program that bytes arrive, and
+//! tests/command_line.sh that a failed read is a device fault.
 ghost use Rattle.std.specs.Prelude.{◌≡◌, ◌<◌, IsSome};
 
 use std::io::Read;
@@ -26,7 +26,7 @@ impl<R: Read> SystemInput<R> {
         }
     }
 
-    /// Returns why a read of it failed first, if one did.
+    /// Returns the first failure of a read, if there was one.
     pub fn failure(&self) -> Option<SystemFailure>
         ensures told { 0 < self.now.faults.count → IsSome result }
     {

@@ -1,7 +1,7 @@
-//! An output over a writer of the system. Clauses see what was written if its writer shows it. Standard output does
-//! not, since no proof knows what the system takes; and a body that always fails, and counts its faults, meets the
-//! contract over every writer. The stored run of the program shows that bytes go out, and tests/command_line.sh that a
-//! refused write is a device fault.
+//! An output over a writer of the system. Clauses see the bytes that were written if the writer exposes them. Standard
+//! output does not, since no proof knows what the system takes. A body that always fails, and counts its faults, would
+//! meet the contract over every writer. So tests show the rest: the stored run of the program that bytes are written,
+//! and tests/command_line.sh that a failed write is a device fault.
 ghost use Rattle.std.specs.Prelude.{◌≡◌, ◌<◌, IsSome};
 
 use std::io::Write;
@@ -26,7 +26,7 @@ impl<W: Write> SystemOutput<W> {
         }
     }
 
-    /// Returns why a write of it failed first, if one did.
+    /// Returns the first failure of a write, if there was one.
     pub fn failure(&self) -> Option<SystemFailure>
         ensures told { 0 < self.now.faults.count → IsSome result }
     {

@@ -6,10 +6,10 @@ use std::time::Duration;
 
 /// A stream with a timeout for its calls.
 pub trait TimedStream: Read + Write {
-    /// Sets how long its reads and its writes wait at most, from now on.
+    /// Sets how long its reads and its writes wait at most.
     fn set_time(&self, time: Duration) -> io::Result<()>;
 
-    /// Returns whether a blocking read is also woken when the other end takes what was written to it.
+    /// Returns whether a blocking read also wakes up when the other end reads what was written to it.
     fn is_woken_for_nothing(&self) -> bool;
 }
 

@@ -1,4 +1,4 @@
-//! Whoever waits at a socket besides the caller who is heard.
+//! Callers who wait at a socket while another is served.
 
 use mio::unix::SourceFd;
 use mio::{Events, Interest, Poll, Token};
@@ -8,10 +8,10 @@ use std::net::Net;
 use std::os::fd::AsRawFd;
 use std::time::Duration;
 
-/// The token of the socket, the only thing that is looked at.
+/// The token of the socket, the only source that is polled.
 const SOCKET: Token = Token(0);
 
-/// Notices that others have called at a socket, and wait there. Once noticed it stays so.
+/// A watch for callers who wait at a socket. Once it has found one, it always reports one.
 #[derive(Drop)]
 pub struct Waiters<A: Allocator> {
     poll: Poll,
@@ -20,7 +20,7 @@ pub struct Waiters<A: Allocator> {
 }
 
 impl<A: Allocator + Copy> Waiters<A> {
-    /// Begins to look at a socket that listens.
+    /// Starts to watch a listening socket.
     pub(crate) fn at<R: Net, T: AsRawFd>(alloc: A, rt: &R, socket: &T) -> io::Result<Self> {
         let poll = Poll::new(rt)?;
         let events = Events::with_capacity(alloc, 1)?;
@@ -36,10 +36,10 @@ impl<A: Allocator + Copy> Waiters<A> {
 }
 
 impl<A: Allocator> Waiters<A> {
-    /// Returns whether somebody has called meanwhile. If the system does not say it, nobody has.
+    /// Returns whether anybody waits, or has waited since the watch began. A poll that fails finds nobody.
     pub fn are_there(&mut self) -> bool {
         if !self.is_any {
-            // The system reports no caller twice.
+            // The system reports a caller only once.
             let _ = self.poll.poll(&mut self.events, Some(Duration::ZERO));
             self.is_any = !self.events.is_empty();
         }

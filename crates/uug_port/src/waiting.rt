@@ -1,4 +1,4 @@
-//! Waits for files that have no timeouts in the system.
+//! Waits for files whose reads and writes have no timeouts in the system.
 
 use mio::unix::SourceFd;
 use mio::{Events, Interest, Poll, Token};
@@ -9,13 +9,13 @@ use std::os::fd::{AsFd, AsRawFd};
 use std::os::unix::net::UnixStream;
 use std::time::Duration;
 
-/// The token of the file, the only thing that is waited for.
+/// The token of the file, the only source that is polled.
 const FILE: Token = Token(0);
 
 /// The milliseconds of one slice of a wait. A signal ends only one slice.
 const SLICE_MILLIS: u64 = 100;
 
-/// The means to wait for an open file: a device, a pipe or a socket.
+/// A poll of an open file: a device, a pipe or a socket.
 #[derive(Drop)]
 pub(crate) struct Waiting<A: Allocator> {
     poll: Poll,
@@ -25,7 +25,7 @@ pub(crate) struct Waiting<A: Allocator> {
 }
 
 impl<A: Allocator + Copy> Waiting<A> {
-    /// Prepares waits for this file, of this length. The file's own calls do not block then.
+    /// Prepares waits of `time`, in whole seconds, for this file. Makes the file's own calls non-blocking.
     pub(crate) fn new<R: Net, F: AsFd + AsRawFd>(
         alloc: A,
         rt: &R,
@@ -61,7 +61,7 @@ impl<A: Allocator + Copy> Waiting<A> {
         Ok(false)
     }
 
-    /// Returns whether the last wait showed that nobody takes anything any more.
+    /// Returns whether the last wait found that the reader is gone.
     pub(crate) fn is_write_closed(&self) -> bool {
         self.events.iter().any(|event| event.is_write_closed())
     }
@@ -86,13 +86,13 @@ impl<A: Allocator + Copy> Waiting<A> {
     }
 }
 
-/// Returns the number of slices of a wait for this long.
+/// Returns the number of slices in the whole seconds of `time`.
 fn slices_of(time: Duration) -> u64 {
     time.as_secs().saturating_mul(10)
 }
 
-/// Sets whether the calls of a file block. That is a state of the open file. This handle shares it with another one,
-/// made for a moment, that has a call to set it.
+/// Sets whether the calls of a file block. The flag belongs to the open file, which a duplicate of the descriptor
+/// shares. Only the duplicate, as a `UnixStream`, has a call that sets it.
 pub(crate) fn set_waiting<F: AsFd>(file: &F, waits: bool) -> io::Result<()> {
     UnixStream::from(file.as_fd().try_clone_to_owned()?).set_nonblocking(!waits)
 }

@@ -20,7 +20,7 @@ pub struct WatchedWire<T, W> {
     observer: W,
 }
 
-/// Returns the line over a socket that is made at this path, as `open_wire` does, with this observer.
+/// Opens a line as `open_wire` does, with this observer.
 pub fn open_watched_wire<R: Files + Net, W: SessionObserver + Drop>(
     rt: &R,
     socket: &str,
@@ -38,7 +38,7 @@ pub fn open_watched_wire<R: Files + Net, W: SessionObserver + Drop>(
 }
 
 impl<T, W> WatchedWire<T, W> {
-    /// Returns why a call of the system on it failed first, if one did.
+    /// Returns the first failure of a system call on the line, if there was one.
     pub fn failure(&self) -> Option<SystemFailure>
         ensures told { 0 < self.now.line.faults.count → IsSome result }
     {

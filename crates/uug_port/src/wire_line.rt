@@ -36,7 +36,7 @@ impl<T: Read + Write> WireLine<T> {
 }
 
 impl<T> WireLine<T> {
-    /// Returns why a call of the system on it failed first, if one did.
+    /// Returns the first failure of a system call on the line, if there was one.
     pub fn failure(&self) -> Option<SystemFailure>
         ensures told { 0 < self.now.faults.count → IsSome result }
     {
@@ -96,7 +96,7 @@ impl<T: Read + Write> Line for WireLine<T> {
     }
 }
 
-/// Writes the first bytes of a piece. A stream that takes none of them has failed.
+/// Writes the first bytes of `piece`. A stream that takes none of them has failed.
 fn write_some<T: Write>(
     stream: &mut T,
     piece: &[u8],
@@ -122,7 +122,7 @@ fn write_some<T: Write>(
     Err(LineFailed)
 }
 
-/// Reads no more than is unread. A stream that gives nothing then has failed.
+/// Reads at most the unread bytes. A stream that gives none of them has failed.
 fn read_some<T: Read>(
     stream: &mut T,
     buffer: &mut [u8],

@@ -11,8 +11,8 @@ use std::{fs, io};
 use uug_failure::{Cause, Resource, RunFault, SystemFailure};
 use uug_transfer::Line;
 
-/// Returns the line over a socket that is made at this path. Once both ends have it the path is not needed any more,
-/// and is removed. It is removed too if they don't get it.
+/// Opens a line over a socket that is created at this path. The path is removed once both ends are connected, or if
+/// connecting them fails.
 pub fn open_wire<R: Files + Net>(rt: &R, socket: &str) -> Result<WireLine<UnixStream>, RunFault>
     ensures room { IfOk result (λ line. HasRoom (⟦<WireLine<UnixStream> as Line>⟧.unread line)) }
     ensures calm { IfOk result (λ line. line.faults.count ≡ 0) }
@@ -27,7 +27,7 @@ pub fn open_wire<R: Files + Net>(rt: &R, socket: &str) -> Result<WireLine<UnixSt
     }
 }
 
-/// Does the same, but returns the system's error.
+/// Opens the line as `open_wire` does, but returns the system's error.
 fn join<R: Files + Net>(rt: &R, socket: &str) -> io::Result<WireLine<UnixStream>>
     ensures room { IfOk result (λ line. HasRoom (⟦<WireLine<UnixStream> as Line>⟧.unread line)) }
     ensures calm { IfOk result (λ line. line.faults.count ≡ 0) }
@@ -38,7 +38,7 @@ fn join<R: Files + Net>(rt: &R, socket: &str) -> io::Result<WireLine<UnixStream>
     line
 }
 
-/// Returns the line over both ends of a socket that listens at this path.
+/// Connects to this listener, and returns the line over both ends of the connection.
 fn meet<R: Net>(rt: &R, listener: &UnixListener, socket: &str) -> io::Result<WireLine<UnixStream>>
     ensures room { IfOk result (λ line. HasRoom (⟦<WireLine<UnixStream> as Line>⟧.unread line)) }
     ensures calm { IfOk result (λ line. line.faults.count ≡ 0) }

@@ -1,4 +1,4 @@
--- What was heard of the other end where a session ended badly, in words (this project's profile).
+-- The words for what was heard from the other end, if a session ended badly (this project's profile).
 use Rattle.std.specs.Fmt.{decimal}
 use Rattle.std.specs.List.{position_or_len, starts_with}
 use Rattle.std.specs.Prelude.{◌==◌, ◌&&◌, ◌||◌, ℕ, Bool, not, List, [], ◌∷◌, ◌++◌, codes, drop, length, nat_eq, if◌then◌else◌}
@@ -12,7 +12,7 @@ use Rattle.uug_reason.specs.JobsWords.{quoted}
 use Rattle.uug_reason.specs.declared.heard.Heard.{Heard}
 use Rattle.uug_reason.specs.declared.heard.Heard.TheVariants as sounds
 
--- what was heard, as data: nothing, so many bytes that begin so and have no text in them, or a last text
+-- what was heard, as data: nothing; a number of bytes without a text, and the first of them; or the last text
 pub data HeardShown : Type 0 where
   nothing : HeardShown
   noise : (count : ℕ) (bytes : List ℕ) → HeardShown
@@ -23,16 +23,16 @@ shown sounds.Nothing = nothing
 shown (sounds.Noise count bytes) = noise count bytes.now
 shown (sounds.Text said) = text said.now
 
--- which end was expected: one of the spool's systems where none is named
+-- which end was expected. If none is named, it is one of the spool's systems
 abbrev pub expected_words : (peer : List ℕ) → List ℕ
 expected_words peer =
     if length peer == 0 then codes ", but the spool has no folder for that system" else codes ", expected " ++ quoted peer
 
--- another end was heard than the one that was expected
+-- a text was heard from another end than the one that was expected
 abbrev pub other_words : (said peer : List ℕ) → List ℕ
 other_words said peer = codes "heard " ++ (quoted said ++ expected_words peer)
 
--- what a refusal means that is known
+-- what a known refusal means
 abbrev pub hint_words : (said : List ℕ) → List ℕ
 hint_words said =
     if bytes_eq said (codes "RLCK") then codes " (it is busy: call later)" else
@@ -43,13 +43,13 @@ hint_words said =
 abbrev pub refusal_words : (said hint : List ℕ) → List ℕ
 refusal_words said hint = codes "the other end refused: " ++ (quoted said ++ hint)
 
--- A caller speaks as an end does that is called: both are, or what this end said has come back.
+-- A caller talks like a called end: both ends are called, or this end's own text has come back.
 abbrev pub answering_hint : (said : List ℕ) → List ℕ
 answering_hint said =
     if starts_with nat_eq said (codes "Shere") || starts_with nat_eq said (codes "R")
     then codes " (one end has to call, and both answer; or a terminal echoes: stty raw -echo)" else []
 
--- the other end has refused the call, or this end did
+-- the other end refused the call, or this end did
 abbrev pub refused_words : Side → (said peer : List ℕ) → List ℕ
 refused_words Caller said peer = refusal_words said (hint_words said)
 refused_words Called said peer = other_words said peer ++ answering_hint said
@@ -57,11 +57,11 @@ refused_words Called said peer = other_words said peer ++ answering_hint said
 abbrev pub is_no_line_end : ℕ → Bool
 is_no_line_end b = not (b == 13 || b == 10)
 
--- how many line ends stand in front
+-- the number of bytes of line ends at the front
 abbrev pub line_ends : List ℕ → ℕ
 line_ends bytes = position_or_len is_no_line_end bytes
 
--- Behind line ends nothing stands, or what a terminal echoes: it shows the byte in front of a text as `^P`.
+-- After the line ends there is nothing, or a terminal's echo, which shows the byte before a text, 0x10, as `^P`.
 abbrev pub behind_hint : (ends : ℕ) → (rest : List ℕ) → List ℕ
 behind_hint ends rest =
     if not (ends == 0) && (length rest == 0)
@@ -79,7 +79,7 @@ abbrev pub nothing_words : Side → List ℕ
 nothing_words Caller = codes "heard nothing (is the other end answering? a terminal has to be raw: stty raw -echo)"
 nothing_words Called = codes "heard nothing (is the other end calling? a terminal has to be raw: stty raw -echo)"
 
--- the other end hung up, and nothing was heard of it
+-- the other end hung up, and nothing was heard from it
 abbrev pub gone_words : Side → List ℕ
 gone_words Caller = codes "the other end hung up, and said nothing (no uucico or uucpair answers there, or it turns this machine away)"
 gone_words Called = codes "the caller hung up, and said nothing (it may expect another name than that of --me)"
@@ -95,7 +95,7 @@ gone_hint Called said = codes ", and then the caller hung up (it may lack protoc
 abbrev pub gone_behind_words : Side → (said : List ℕ) → List ℕ
 gone_behind_words side said = codes "heard " ++ (quoted said ++ gone_hint side said)
 
--- a text was heard, and no answer to what was said then
+-- a text was heard, but no answer to this end's next text
 abbrev pub unanswered_words : (said : List ℕ) → List ℕ
 unanswered_words said = codes "heard " ++ (quoted said ++ codes ", and then no answer (a terminal has to be raw: stty raw -echo, at the other end too)")
 
@@ -103,7 +103,7 @@ unanswered_words said = codes "heard " ++ (quoted said ++ codes ", and then no a
 abbrev pub protocols_words : (said : List ℕ) → List ℕ
 protocols_words said = codes "no protocol g: heard " ++ quoted said
 
--- by how the session ended, where that or what was heard says why
+-- the words for a session that ended in this way, if that or what was heard says why
 abbrev pub end_words : Side → End → (peer : List ℕ) → HeardShown → List ℕ
 end_words side WrongName peer (text said) = other_words said peer
 end_words side Refused peer (text said) = refused_words side said peer
@@ -117,7 +117,7 @@ end_words side GaveUp peer (text said) = unanswered_words said
 end_words side PeerClosed peer heard = codes "the other end ended the session before all was done (it may not have stored a file: see what it says)"
 end_words side end peer heard = []
 
--- as a line, unless nothing is to be said
+-- the words as a line, or nothing if there are none
 abbrev pub line_with : List ℕ → List ℕ
 line_with [] = []
 line_with (c ∷ words) = codes "uucpair: " ++ ended (c ∷ words)

@@ -1,9 +1,9 @@
--- What the system's errors are called (this project's profile).
+-- The names of the system's errors (this project's profile).
 use Rattle.std.specs.Prelude.{ℕ, List, codes, Option, Some, None}
 use Rattle.std.specs.declared.io.ErrorKind.{ErrorKind}
 use Rattle.std.specs.declared.io.ErrorKind.TheVariants as kinds
 
--- the kinds that lines have
+-- the kinds that occur on lines
 abbrev pub line_words : ErrorKind → Option (List ℕ)
 line_words kinds.ConnectionRefused = Some (codes "connection refused")
 line_words kinds.ConnectionReset = Some (codes "connection reset")
@@ -28,7 +28,7 @@ line_words kinds.InvalidData = Some (codes "invalid data")
 line_words kinds.OutOfMemory = Some (codes "out of memory")
 line_words _ = None
 
--- those that only files and folders have
+-- the kinds that occur only on files and folders
 abbrev pub file_words : ErrorKind → Option (List ℕ)
 file_words kinds.NotFound = Some (codes "no such file or directory")
 file_words kinds.PermissionDenied = Some (codes "permission denied")
@@ -55,6 +55,6 @@ abbrev pub either_words : Option (List ℕ) → Option (List ℕ) → Option (Li
 either_words (Some words) others = Some words
 either_words None others = others
 
--- what a kind is called; none is called here of which the system says no more than a number
+-- the name of a kind. A kind has none if the system gives only a number for it
 abbrev pub kind_words : ErrorKind → Option (List ℕ)
 kind_words kind = either_words (line_words kind) (file_words kind)

@@ -1,14 +1,14 @@
--- Spells what is said of a session that gave up past its greeting, by the bytes that came then (this project's profile).
+-- The words about a session that gave up after its greeting, by the bytes that arrived then (this project's profile).
 use Rattle.std.specs.Fmt.{decimal}
 use Rattle.std.specs.Prelude.{◌==◌, ◌&&◌, ℕ, Bool, not, List, [], ◌++◌, codes, nat_le, if◌then◌else◌}
 use Rattle.uug_talk.specs.Lines.{ended}
 use Rattle.uug_reason.specs.declared.passed.Passed.{Passed}
 
--- so many bytes, and this of them, as a line
+-- the line that `count` bytes arrived, with these words about them
 abbrev pub bytes_line : (count : ℕ) → (words : List ℕ) → List ℕ
 bytes_line count words = codes "uucpair: " ++ (decimal count ++ (codes " bytes came after the greeting, " ++ ended words))
 
--- Among so many bytes one is probably XON or XOFF.
+-- Among 1000 bytes one is probably XON or XOFF.
 abbrev pub lacks_flow : Passed → Bool
 lacks_flow passed = not passed.has_flow && nat_le 1000 passed.count
 

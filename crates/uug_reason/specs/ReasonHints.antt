@@ -1,4 +1,4 @@
--- What to do about a call of the system that a known mistake makes fail (this project's profile).
+-- Hints about what to do when a known mistake makes a system call fail (this project's profile).
 use Rattle.std.specs.Prelude.{◌==◌, ◌&&◌, ◌||◌, ℕ, Bool, not, List, [], ◌++◌, codes, drop, eqb, is_some, length, nat_eq, nat_le, Some, None, if◌then◌else◌}
 use Rattle.std.specs.Char.{is_ascii_digit}
 use Rattle.std.specs.List.{ends_with, list_any, starts_with}
@@ -12,24 +12,24 @@ use Rattle.uug_failure.specs.declared.failure.Resource.TheVariants.{Dir, GotFold
 use Rattle.uug_reason.specs.KindWords.{kind_words}
 use Rattle.uug_scan.specs.Detailed.{escaped}
 
--- A word begins as the name of a line does, unless that is the path of a device elsewhere.
+-- A word looks like the name of a line. The path of a device outside `/dev` does not.
 abbrev pub names_line : (word : List ℕ) → Bool
 names_line word = bytes_eq word (codes "-") || (starts_with nat_eq word (codes "tcp:")
     || (starts_with nat_eq word (codes "unix:") || starts_with nat_eq word (codes "/dev/")))
 
--- the folder has the name of a line, and the line does not
+-- the folder looks like the name of a line, and the line does not
 abbrev pub are_exchanged : (line dir : List ℕ) → Bool
 are_exchanged line dir = not (length line == 0) && (not (names_line line) && names_line dir)
 
 abbrev pub exchanged_hint : (line dir : List ℕ) → List ℕ
 exchanged_hint line dir = if are_exchanged line dir then codes " (LINE and DIR look exchanged: give LINE first)" else []
 
--- of the folder for what comes
+-- the hint about the folder `got`, for files that arrive
 abbrev pub got_hint : Cause → List ℕ
 got_hint (Refused kinds.NotFound number) = codes " (make it; only a spool, with --spool, has none)"
 got_hint _ = []
 
--- of the folder for what is sent
+-- the hint about the folder `send`, for files that are sent
 abbrev pub send_hint : Cause → List ℕ
 send_hint (Refused kinds.NotFound number) = codes " (make it: the files of jobs are there)"
 send_hint _ = []
@@ -41,11 +41,11 @@ has_byte word byte = list_any (λ b. eqb b byte) word
 abbrev pub has_digit : (word : List ℕ) → Bool
 has_digit word = list_any is_ascii_digit word
 
--- neither a path with a slash (47) nor begun as the name of a line is
+-- a word that has no slash (47), and does not look like the name of a line
 abbrev pub is_bare : (word : List ℕ) → Bool
 is_bare word = not (names_line word) && not (has_byte word 47)
 
--- a word without the front of a port in capitals
+-- a word without the prefix `TCP:` or `Tcp:`
 abbrev pub address_of : (word : List ℕ) → List ℕ
 address_of word =
     if starts_with nat_eq word (codes "TCP:") then drop 4 word else
@@ -54,51 +54,51 @@ address_of word =
 abbrev pub port_words : (address : List ℕ) → List ℕ
 port_words address = codes ": give tcp:" ++ escaped address
 
--- the port of a host, a number, between which a colon (58) stands
+-- the port of a host, if the word has a colon (58) and a digit
 abbrev pub port_guess : (line : List ℕ) → List ℕ
 port_guess line = if has_byte line 58 && has_digit line then port_words (address_of line) else []
 
 abbrev pub device_words : (name : List ℕ) → List ℕ
 device_words name = codes ": give /dev/" ++ escaped name
 
--- the line that is probably meant by a bare word: a device, or a port of a host
+-- the line that a bare word probably means: a device, or a port of a host
 abbrev pub guess_words : (line : List ℕ) → List ℕ
 guess_words line = if starts_with nat_eq line (codes "tty") then device_words line else port_guess line
 
--- what a line may be, and what is probably meant by a bare word
+-- what a line may be, and the line that a bare word probably means
 abbrev pub forms_words : (forms line : List ℕ) → List ℕ
 forms_words forms line = forms ++ (guess_words line ++ codes ")")
 
--- of a line that is not there
+-- the hint about a line that does not exist
 abbrev pub absent_hint : (line : List ℕ) → List ℕ
 absent_hint line =
     if is_bare line then forms_words (codes " (LINE is a terminal device, tcp:HOST:PORT, unix:PATH or -") line else []
 
--- of a socket whose path is too long
+-- the hint about a socket whose path is too long
 abbrev pub long_hint : (line : List ℕ) → List ℕ
 long_hint line = if nat_le (length line) 107 then [] else codes " (the path of a socket has at most 107 bytes)"
 
--- of a port or a device that this user may not have
+-- the hint about a port or a device that this user is not allowed to use
 abbrev pub right_hint : (line : List ℕ) → List ℕ
 right_hint line =
     if starts_with nat_eq line (codes "tcp:") then codes " (a port below 1024 needs root, or CAP_NET_BIND_SERVICE)" else
     (if starts_with nat_eq line (codes "/dev/") then codes " (its group may use it, mostly dialout: adduser USER dialout)" else [])
 
--- of a port that refuses a call
+-- the hint about a refused connection to port 0
 abbrev pub zero_hint : (line : List ℕ) → List ℕ
 zero_hint line = if ends_with nat_eq line (codes ":0") then codes " (port 0 is none: give 1 to 65535)" else []
 
--- of a host that has no address
+-- the hint about a host without an address
 abbrev pub host_hint : (line : List ℕ) → List ℕ
 host_hint line =
     if starts_with nat_eq line (codes "tcp:[") then codes " (an IPv6 address has no brackets: tcp:::1:540)" else
     (if starts_with nat_eq line (codes "tcp://") then codes " (give tcp:HOST:PORT, without slashes)" else [])
 
--- of a path that can't be opened for an error without a name, as that of a socket
+-- the hint about a path that can't be opened because of an error without a name, such as a socket's
 abbrev pub socket_hint : (line : List ℕ) → ErrorKind → List ℕ
 socket_hint line kind = if names_line line || is_some (kind_words kind) then [] else codes " (for a socket give unix:PATH)"
 
--- of a line that is none
+-- the hint about a failed call on the line
 abbrev pub line_hint : (line : List ℕ) → Cause → List ℕ
 line_hint line (Refused kinds.NotFound number) = absent_hint line
 line_hint line (Refused kinds.IsADirectory number) = codes " (LINE is a terminal device, tcp:HOST:PORT, unix:PATH or -)"

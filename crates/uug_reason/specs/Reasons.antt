@@ -1,4 +1,4 @@
--- Which call of the system failed, in words (this project's profile): on what, and why.
+-- The words for a failed system call: on what, and why (this project's profile).
 use Rattle.std.specs.Fmt.{signed_decimal}
 use Rattle.std.specs.Prelude.{ℕ, ℤ, ◌==◌, List, [], ◌++◌, codes, Option, Some, None, if◌then◌else◌}
 use Rattle.uug_failure.specs.declared.failure.Cause.{Cause}
@@ -15,8 +15,8 @@ use Rattle.uug_talk.specs.Lines.{ended}
 
 -- ---- on what
 
--- What the things are called that a call may be made on: what is read or written, the line or the socket, and the folders of the ends. One
--- end has the same folder twice.
+-- The names of the things on which a call may be made: the input or output, the line or the socket, the folder of end
+-- 0, and the folder of any other end.
 pub record Places : Type 0 where
   pub stream : List ℕ
   pub line : List ℕ
@@ -35,7 +35,7 @@ text_words Failed = codes "failed"
 abbrev pub dir_of : (first second : List ℕ) → (end : ℕ) → List ℕ
 dir_of first second end = if end == 0 then first else second
 
--- what stands behind the path of that folder
+-- the rest of the path, below that folder
 abbrev pub below_words : Resource → List ℕ
 below_words (Text which) = codes "/" ++ text_words which
 below_words Send = codes "/send"
@@ -44,7 +44,7 @@ below_words GotFolder = codes "/got"
 below_words (Got name) = codes "/got/" ++ name
 below_words resource = []
 
--- what a call of this end was made on; what can't be seen of a path is escaped
+-- the resource on which a call of this end was made. Bytes of a path that can't be seen are escaped
 abbrev pub place_words : Places → (end : ℕ) → Resource → List ℕ
 place_words p end Input = escaped p.stream
 place_words p end Output = escaped p.stream
@@ -53,8 +53,8 @@ place_words p end resource = escaped (dir_of p.first p.second end) ++ below_word
 
 -- ---- why
 
--- An error that has no name has a number. One without both is that of a host whose address can't be found out, where a line has
--- it.
+-- An error without a name has a number. One that has neither is, on a line, that of a host whose address can't be
+-- looked up.
 abbrev pub number_words : Resource → Option ℤ → List ℕ
 number_words resource (Some number) = codes "error " ++ signed_decimal number
 number_words Line None = codes "unknown host"
@@ -64,14 +64,15 @@ abbrev pub named_or_numbered : Resource → (name : Option (List ℕ)) → (numb
 named_or_numbered resource (Some name) number = name
 named_or_numbered resource None number = number_words resource number
 
--- of what there is more than the program takes
+-- the words for a limit of the program that was exceeded
 abbrev pub much_words : Resource → List ℕ
 much_words Input = codes "too large"
 much_words (Text which) = codes "over the limit of 16777216 bytes"
 much_words Send = codes "over the limit of 256 files"
 much_words resource = codes "over a limit"
 
--- What there is in place of a regular file: of what is written a named pipe, since a device or a socket is taken there.
+-- The words for something that is not a regular file. At an output it is a named pipe, since devices and sockets are
+-- accepted there.
 abbrev pub no_file_words : Resource → List ℕ
 no_file_words Output = codes "a named pipe may have no reader: name a file, /dev/stdout or /dev/stderr"
 no_file_words resource = codes "not a regular file"
@@ -94,6 +95,6 @@ reason_line p failure = codes "uucpair: "
     ++ (place_words p failure.end failure.resource ++ (codes ": " ++ (cause_words failure.resource failure.cause
     ++ ended (hint_words p.line p.first failure.resource failure.cause))))
 
--- why no lock file can be made in this folder, the second of an end
+-- why no lock file can be made in this folder, which is given as the second one
 abbrev pub locks_line : (locks : List ℕ) → SystemFailure → List ℕ
 locks_line locks failure = reason_line (places [] [] [] (codes "no lock file can be made (--locks): " ++ locks)) failure

@@ -1,4 +1,4 @@
-//! The words for why a call of the system failed.
+//! The words for why a system call failed.
 ghost use Rattle.std.specs.Prelude.{◌≡◌, ◌++◌, OnOk, string_bytes};
 ghost use Rattle.uug_reason.specs.KindWords.{kind_words as words_of_kind};
 ghost use Rattle.uug_reason.specs.Reasons.{cause_words, much_words, named_or_numbered, no_file_words, number_words};
@@ -8,7 +8,7 @@ use std::alloc::{AllocError, Allocator};
 use std::io::ErrorKind;
 use uug_failure::{Cause, Resource};
 
-/// Appends why a call on this failed.
+/// Appends why a call on this resource failed.
 pub(crate) fn add_cause<A: Allocator>(
     text: &mut String<A>,
     resource: Resource,
@@ -33,7 +33,7 @@ pub(crate) fn add_cause<A: Allocator>(
     }
 }
 
-/// Returns the words for more than the program takes.
+/// Returns the words for a limit of the program that was exceeded.
 fn much_words(resource: Resource) -> &'static str
     ensures { result.now ≡ much_words resource }
 {
@@ -45,8 +45,8 @@ fn much_words(resource: Resource) -> &'static str
     }
 }
 
-/// Returns the words for what is there in place of a regular file. At an output this is a named pipe, since a device or
-/// a socket is taken there.
+/// Returns the words for something that is not a regular file. At an output it is a named pipe, since devices and
+/// sockets are accepted there.
 fn no_file_words(resource: Resource) -> &'static str
     ensures { result.now ≡ no_file_words resource }
 {
@@ -74,7 +74,8 @@ fn add_refusal<A: Allocator>(
     }
 }
 
-/// Appends the number of an error that has no name.
+/// Appends the number of an error that has no name. If it has no number either, it is an unknown host on a line, and
+/// elsewhere an unknown error.
 fn add_number<A: Allocator>(
     text: &mut String<A>,
     resource: Resource,

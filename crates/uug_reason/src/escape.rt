@@ -1,4 +1,4 @@
-//! Texts in which some bytes can't be seen.
+//! Escapes for bytes that can't be seen.
 ghost use Rattle.std.specs.Prelude.{◌≡◌, ◌++◌, OnOk, string_bytes};
 ghost use Rattle.uug_scan.specs.Detailed.{escaped, is_plain};
 
@@ -12,7 +12,7 @@ fn is_plain(byte: u8) -> bool
     (byte.is_ascii_graphic() || byte == b' ') && byte != b'\\'
 }
 
-/// Appends a text. Bytes that can't be seen, and backslashes, are written in hex.
+/// Appends bytes as text. Those that can't be seen, and backslashes, are written in hex.
 pub fn add_escaped<A: Allocator>(text: &mut String<A>, bytes: &[u8]) -> Result<(), AllocError>
     ensures { OnOk result (string_bytes text.new ≡ string_bytes text.old ++ escaped bytes.now) }
 {

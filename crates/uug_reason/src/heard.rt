@@ -11,15 +11,15 @@ use uug_session::{End, Side};
 pub enum Heard<'a> {
     /// No byte.
     Nothing,
-    /// The number of bytes, and the first of them; none of them is a text.
+    /// The number of bytes, and the first of them. They contain no text.
     Noise(u64, &'a [u8]),
     /// The last text.
     Text(&'a [u8]),
 }
 
-/// Returns a line for standard error with what was heard, if the session of this end ended in this way. It called the
-/// end `peer`, or waited for its call, or for that of any system of its spool if `peer` is empty. The line is empty if
-/// what was heard says nothing about how the session ended.
+/// Returns a line for standard error with what was heard in a session of this end that ended in this way. This end
+/// called `peer`, or waited for a call from it. If `peer` is empty, it waited for any system of its spool. The line is
+/// empty if what was heard does not explain how the session ended.
 pub fn heard_remark<A: Allocator + Copy>(
     alloc: A,
     side: Side,
@@ -46,7 +46,7 @@ fn line_with<A: Allocator>(alloc: A, words: String<A>) -> Result<String<A>, Allo
     format!(in alloc; "uucpair: {words}\n")
 }
 
-/// Appends what was heard.
+/// Appends what was heard, and what it says about the end of the session.
 fn add_end<A: Allocator>(
     text: &mut String<A>,
     side: Side,
@@ -74,7 +74,7 @@ fn add_end<A: Allocator>(
     }
 }
 
-/// Appends that this was heard of another end than `peer`, or of one that the spool does not know.
+/// Appends this text of an end that is not `peer`, or of a system that the spool does not know.
 fn add_other<A: Allocator>(text: &mut String<A>, said: &[u8], peer: &str) -> Result<(), AllocError>
     ensures { OnOk result
         (string_bytes text.new ≡ string_bytes text.old ++ other_words said.now peer.now) }
@@ -96,7 +96,7 @@ fn add_expected<A: Allocator>(text: &mut String<A>, peer: &str) -> Result<(), Al
     add_quoted(text, peer.as_bytes())
 }
 
-/// Appends how the other end has refused the call, or whom this end has refused.
+/// Appends how the other end refused the call, or whom this end refused.
 fn add_refused<A: Allocator>(
     text: &mut String<A>,
     side: Side,
@@ -115,7 +115,7 @@ fn add_refused<A: Allocator>(
     }
 }
 
-/// Returns what to do about a caller who speaks as an end does that is called.
+/// Returns the hint about a caller that talks like a called end.
 fn answering_hint(said: &[u8]) -> &'static str
     ensures { result.now ≡ answering_hint said.now }
 {
@@ -126,7 +126,7 @@ fn answering_hint(said: &[u8]) -> &'static str
     }
 }
 
-/// Appends how the other end has refused the call, and what that means.
+/// Appends how the other end refused the call, and what that means.
 fn add_refusal<A: Allocator>(
     text: &mut String<A>,
     said: &[u8],
@@ -140,7 +140,7 @@ fn add_refusal<A: Allocator>(
     text.push_str(hint)
 }
 
-/// Appends that these protocols of the other end are none of this one's.
+/// Appends that the other end's protocols do not include g.
 fn add_protocols<A: Allocator>(text: &mut String<A>, said: &[u8]) -> Result<(), AllocError>
     ensures { OnOk result
         (string_bytes text.new ≡ string_bytes text.old ++ protocols_words said.now) }
@@ -149,7 +149,7 @@ fn add_protocols<A: Allocator>(text: &mut String<A>, said: &[u8]) -> Result<(), 
     add_quoted(text, said)
 }
 
-/// Returns that no byte was heard, and what to look at.
+/// Returns the words for a session in which no byte was heard, with what to check.
 fn nothing_words(side: Side) -> &'static str
     ensures { result.now ≡ nothing_words side }
 {
@@ -163,7 +163,7 @@ fn nothing_words(side: Side) -> &'static str
     }
 }
 
-/// Returns that the other end hung up before it said anything, and what that may mean.
+/// Returns the words for an end that hung up before it said anything, with what that may mean.
 fn gone_words(side: Side) -> &'static str
     ensures { result.now ≡ gone_words side }
 {
@@ -177,7 +177,7 @@ fn gone_words(side: Side) -> &'static str
     }
 }
 
-/// Appends that this was heard, and that the other end hung up then.
+/// Appends that this text was heard, and that the other end then hung up.
 fn add_gone<A: Allocator>(text: &mut String<A>, side: Side, said: &[u8]) -> Result<(), AllocError>
     ensures { OnOk result
         (string_bytes text.new ≡ string_bytes text.old ++ gone_behind_words side said.now) }
@@ -187,7 +187,7 @@ fn add_gone<A: Allocator>(text: &mut String<A>, side: Side, said: &[u8]) -> Resu
     text.push_str(gone_hint(side, said))
 }
 
-/// Returns that the other end hung up in the greeting after this text, and what that may mean.
+/// Returns the words for an end that hung up in the greeting after this text, with what that may mean.
 fn gone_hint(side: Side, said: &[u8]) -> &'static str
     ensures { result.now ≡ gone_hint side said.now }
 {
@@ -200,7 +200,7 @@ fn gone_hint(side: Side, said: &[u8]) -> &'static str
     }
 }
 
-/// Appends that this was heard, and no answer to what this end said then.
+/// Appends that this text was heard, but no answer to this end's next text.
 fn add_unanswered<A: Allocator>(text: &mut String<A>, said: &[u8]) -> Result<(), AllocError>
     ensures { OnOk result
         (string_bytes text.new ≡ string_bytes text.old ++ unanswered_words said.now) }
@@ -229,7 +229,7 @@ fn hint_words(said: &[u8]) -> &'static str
     }
 }
 
-/// Appends that bytes were heard which are no text.
+/// Appends that bytes without a text were heard.
 fn add_noise<A: Allocator>(text: &mut String<A>, count: u64, bytes: &[u8]) -> Result<(), AllocError>
     ensures { OnOk result
         (string_bytes text.new ≡ string_bytes text.old ++ noise_words count bytes.now) }
@@ -239,8 +239,8 @@ fn add_noise<A: Allocator>(text: &mut String<A>, count: u64, bytes: &[u8]) -> Re
     text.push_str(noise_hint(bytes))
 }
 
-/// Returns what to do about bytes that are line ends alone, or that a terminal has echoed: it shows the byte in front of
-/// a text as `^P`.
+/// Returns the hint about bytes that are only line ends, or that a terminal has echoed. A terminal echoes the byte
+/// before a text, 0x10, as `^P`.
 fn noise_hint(bytes: &[u8]) -> &'static str
     ensures { result.now ≡ noise_hint bytes.now }
 {
@@ -254,7 +254,7 @@ fn noise_hint(bytes: &[u8]) -> &'static str
     }
 }
 
-/// Returns the number of line ends in front.
+/// Returns the number of bytes of line ends at the front.
 fn line_ends(bytes: &[u8]) -> usize
     ensures value { result ≡ line_ends bytes.now }
     ensures fits { result ≤ length bytes.now }

@@ -1,4 +1,4 @@
-//! Hints about what to do after a call of the system that a known mistake makes fail.
+//! Hints about what to do when a known mistake makes a system call fail.
 ghost use Rattle.std.specs.Prelude.{◌≡◌, ◌++◌, OnOk, string_bytes};
 ghost use Rattle.uug_reason.specs.ReasonHints.{absent_hint, address_of, are_exchanged, device_words, exchanged_hint, forms_words, got_hint, guess_words, has_byte, has_digit, hint_words};
 ghost use Rattle.uug_reason.specs.ReasonHints.{host_hint, is_bare, line_hint, long_hint, names_line, port_guess, port_words, right_hint, send_hint, socket_hint, zero_hint};
@@ -12,7 +12,8 @@ use uug_failure::{Cause, Resource};
 /// The maximum number of bytes in the path of a Unix socket.
 const SOCKET_PATH_MAX: usize = 107;
 
-/// Appends what to do about a call on this that failed, if the mistake is known. The end has this line and this folder.
+/// Appends the hint about a failed call on this resource, if the mistake is known. `line` and `dir` are those of the
+/// end.
 pub(crate) fn add_hint<A: Allocator>(
     text: &mut String<A>,
     line: &str,
@@ -43,14 +44,14 @@ fn exchanged_hint(line: &str, dir: &str) -> &'static str
     }
 }
 
-/// Returns whether the folder has the name of a line, and the line does not.
+/// Returns whether the folder looks like the name of a line, and the line does not.
 fn are_exchanged(line: &str, dir: &str) -> bool
     ensures { result ≡ are_exchanged line.now dir.now }
 {
     !line.is_empty() && !names_line(line.as_bytes()) && names_line(dir.as_bytes())
 }
 
-/// Returns whether a word begins as the name of a line does, unless that is the path of a device elsewhere.
+/// Returns whether a word looks like the name of a line. The path of a device outside `/dev` does not.
 fn names_line(word: &[u8]) -> bool
     ensures { result ≡ names_line word.now }
 {
@@ -108,7 +109,7 @@ fn add_line_hint<A: Allocator>(
     }
 }
 
-/// Appends the hint about a line that is not there: a bare word, which may lack its front.
+/// Appends the hint about a line that does not exist, if it is a bare word, which may lack its prefix.
 fn add_absent_hint<A: Allocator>(text: &mut String<A>, line: &str) -> Result<(), AllocError>
     ensures { OnOk result
         (string_bytes text.new ≡ string_bytes text.old ++ absent_hint line.now) }
@@ -124,7 +125,7 @@ fn add_absent_hint<A: Allocator>(text: &mut String<A>, line: &str) -> Result<(),
     }
 }
 
-/// Appends these words, which say what a line may be, and behind them what is probably meant by a bare word.
+/// Appends `forms`, which says what a line may be, and then the line that a bare word probably means.
 fn add_forms<A: Allocator>(text: &mut String<A>, forms: &str, line: &str) -> Result<(), AllocError>
     ensures { OnOk result
         (string_bytes text.new ≡ string_bytes text.old ++ forms_words forms.now line.now) }
@@ -134,7 +135,7 @@ fn add_forms<A: Allocator>(text: &mut String<A>, forms: &str, line: &str) -> Res
     text.push_str(")")
 }
 
-/// Appends the line that is probably meant by a bare word, if that can be guessed: a device, or a port of a host.
+/// Appends the line that a bare word probably means, if it can be guessed: a device, or a port of a host.
 fn add_guess<A: Allocator>(text: &mut String<A>, line: &str) -> Result<(), AllocError>
     ensures { OnOk result
         (string_bytes text.new ≡ string_bytes text.old ++ guess_words line.now) }
@@ -155,7 +156,7 @@ fn add_device<A: Allocator>(text: &mut String<A>, name: &str) -> Result<(), Allo
     add_escaped(text, name.as_bytes())
 }
 
-/// Appends the port of a host that is probably meant by a bare word, if there are a colon and a digit in it.
+/// Appends the port of a host that a bare word probably means, if the word has a colon and a digit.
 fn add_port_guess<A: Allocator>(text: &mut String<A>, line: &str) -> Result<(), AllocError>
     ensures { OnOk result
         (string_bytes text.new ≡ string_bytes text.old ++ port_guess line.now) }
@@ -175,7 +176,7 @@ fn add_port<A: Allocator>(text: &mut String<A>, address: &[u8]) -> Result<(), Al
     add_escaped(text, address)
 }
 
-/// Returns a word without the front of a port in capitals.
+/// Returns a word without the prefix `TCP:` or `Tcp:`.
 fn address_of(word: &[u8]) -> &[u8]
     ensures { result.now ≡ address_of word.now }
 {
@@ -188,7 +189,7 @@ fn address_of(word: &[u8]) -> &[u8]
     }
 }
 
-/// Returns the hint about a line that the system takes for invalid: a socket whose path is too long.
+/// Returns the hint about a line that the system rejects as invalid, since the path of its socket is too long.
 fn long_hint(line: &str) -> &'static str
     ensures { result.now ≡ long_hint line.now }
 {
@@ -199,7 +200,7 @@ fn long_hint(line: &str) -> &'static str
     }
 }
 
-/// Returns the hint about a port or a device that this user may not have.
+/// Returns the hint about a port or a device that this user is not allowed to use.
 fn right_hint(line: &str) -> &'static str
     ensures { result.now ≡ right_hint line.now }
 {
@@ -212,8 +213,8 @@ fn right_hint(line: &str) -> &'static str
     }
 }
 
-/// Returns the hint about a path that can't be opened for an error without a name: of a socket, which is called
-/// otherwise.
+/// Returns the hint about a path that can't be opened because of an error without a name. A socket gives such an error,
+/// and needs `unix:` before its path.
 fn socket_hint(line: &str, kind: ErrorKind) -> &'static str
     ensures { result.now ≡ socket_hint line.now kind }
 {
@@ -224,7 +225,7 @@ fn socket_hint(line: &str, kind: ErrorKind) -> &'static str
     }
 }
 
-/// Returns the hint about a port that refuses a call: port 0.
+/// Returns the hint about a refused connection to port 0.
 fn zero_hint(line: &str) -> &'static str
     ensures { result.now ≡ zero_hint line.now }
 {
@@ -235,7 +236,7 @@ fn zero_hint(line: &str) -> &'static str
     }
 }
 
-/// Returns the hint about a host that has no address: one that is written as in a web address.
+/// Returns the hint about a host that has no address because it is written as in a URL.
 fn host_hint(line: &str) -> &'static str
     ensures { result.now ≡ host_hint line.now }
 {
@@ -248,7 +249,7 @@ fn host_hint(line: &str) -> &'static str
     }
 }
 
-/// Returns whether a word is neither a path with a slash nor begins as the name of a line does.
+/// Returns whether a word has no slash, and does not look like the name of a line.
 fn is_bare(word: &[u8]) -> bool
     ensures { result ≡ is_bare word.now }
 {

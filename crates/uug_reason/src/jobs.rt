@@ -14,8 +14,8 @@ use uug_talk::{LINE_MAX, Name, split_line, split_word};
 /// The maximum number of bytes of a word that are shown.
 const WORD_MAX: usize = 60;
 
-/// Returns what is wrong with the line of this number in the text of the jobs of a folder, as a line for standard
-/// error. It is empty if another line is the first bad one, or none is.
+/// Returns a line for standard error with what is wrong with line `number` of `text`, the jobs of the folder `dir`. It
+/// is empty unless that is the first bad line.
 pub fn jobs_remark<A: Allocator + Copy>(
     alloc: A,
     dir: &str,
@@ -31,7 +31,7 @@ pub fn jobs_remark<A: Allocator + Copy>(
     }
 }
 
-/// Returns what is wrong with the line of this number in a text of jobs, if it has that many.
+/// Returns the remark about line `number` of a text of jobs, or an empty one if there is no such line.
 fn jobs_line<A: Allocator>(
     alloc: A,
     dir: &str,
@@ -47,7 +47,7 @@ fn jobs_line<A: Allocator>(
     }
 }
 
-/// Returns what is wrong with this line, which has this number in the jobs of a folder.
+/// Returns the remark about this line, which is line `number` of the jobs of a folder.
 fn line_remark<A: Allocator>(
     alloc: A,
     dir: &str,
@@ -144,7 +144,7 @@ fn add_behind<A: Allocator>(text: &mut String<A>, rest: &[u8]) -> Result<(), All
     }
 }
 
-/// Appends which of these is no name.
+/// Appends the first of these that is not a name. If all are names, there are too many jobs.
 fn add_names<A: Allocator>(
     text: &mut String<A>,
     source: &[u8],
@@ -172,7 +172,7 @@ fn is_name(word: &[u8]) -> bool
     Name::new(word).is_ok()
 }
 
-/// Appends that a word is no name.
+/// Appends that a word is not a name.
 fn add_no_name<A: Allocator>(text: &mut String<A>, word: &[u8]) -> Result<(), AllocError>
     ensures { OnOk result (string_bytes text.new ≡ string_bytes text.old ++ no_name word.now) }
 {
@@ -180,7 +180,7 @@ fn add_no_name<A: Allocator>(text: &mut String<A>, word: &[u8]) -> Result<(), Al
     text.push_str(" is no name: 1 to 200 printing characters")
 }
 
-/// Appends a word in quotes, or its first bytes. What can't be seen of it is escaped.
+/// Appends the first `WORD_MAX` bytes of a word, in quotes. Those that can't be seen are escaped.
 pub fn add_quoted<A: Allocator>(text: &mut String<A>, word: &[u8]) -> Result<(), AllocError>
     ensures { OnOk result (string_bytes text.new ≡ string_bytes text.old ++ quoted word.now) }
 {
@@ -189,7 +189,7 @@ pub fn add_quoted<A: Allocator>(text: &mut String<A>, word: &[u8]) -> Result<(),
     text.push_str("\"")
 }
 
-/// Returns a word, or its first bytes.
+/// Returns the first `WORD_MAX` bytes of a word.
 fn front_of(word: &[u8]) -> &[u8]
     ensures { result.now ≡ take 60 word.now }
 {

@@ -15,7 +15,7 @@ pub(crate) fn kind_words(kind: ErrorKind) -> Option<&'static str>
     }
 }
 
-/// Does the same for the kinds that lines have.
+/// Returns the name of an error of a kind that occurs on lines.
 fn line_words(kind: ErrorKind) -> Option<&'static str>
     ensures { option_copied result ≡ line_words kind }
 {
@@ -45,7 +45,7 @@ fn line_words(kind: ErrorKind) -> Option<&'static str>
     }
 }
 
-/// Does the same for the kinds that only files and folders have.
+/// Returns the name of an error of a kind that occurs only on files and folders.
 fn file_words(kind: ErrorKind) -> Option<&'static str>
     ensures { option_copied result ≡ file_words kind }
 {

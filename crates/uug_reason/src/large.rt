@@ -1,4 +1,4 @@
-//! The line about a file of a job that is over the limit of its own end.
+//! The line about a job's file that exceeds the limit of its own end.
 ghost use Rattle.std.specs.Prelude.{◌≡◌, IfOk, string_bytes};
 ghost use Rattle.uug_reason.specs.LargeWords.{large_line};
 ghost use Rattle.uug_scan.specs.Detailed.{escaped};
@@ -6,7 +6,7 @@ ghost use Rattle.uug_scan.specs.Detailed.{escaped};
 use crate::escape::add_escaped;
 use std::alloc::{AllocError, Allocator};
 
-/// Returns a line for standard error: the file at this path has this size, and the limit of its end is less.
+/// Returns a line for standard error about the file at this path, whose size exceeds the limit of its end.
 pub fn large_line<A: Allocator + Copy>(
     alloc: A,
     path: &str,
@@ -20,7 +20,7 @@ pub fn large_line<A: Allocator + Copy>(
     shown_line(alloc, shown.as_str(), size, limit)
 }
 
-/// Returns the line about a file whose path is shown so.
+/// Returns the line about a file whose escaped path is `shown`.
 fn shown_line<A: Allocator>(
     alloc: A,
     shown: &str,

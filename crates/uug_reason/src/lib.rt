@@ -1,5 +1,5 @@
-//! The words for what went wrong: on what a call of the system failed, and why; what is wrong with a line of jobs; and
-//! what was heard.
+//! The words for errors: on what a system call failed, and why; what is wrong with a line of jobs; and what was heard
+//! from the other end.
 #![tactic(auto)]
 
 mod cause;

@@ -1,4 +1,4 @@
-//! The words for the bytes that came after the greeting of a session that ended badly.
+//! The words for the bytes that arrived after the greeting, if a session ended badly.
 ghost use Rattle.std.specs.Prelude.{◌≡◌, IfOk, string_bytes};
 ghost use Rattle.uug_reason.specs.PassedWords.{bits_remark, bytes_line, flow_remark, lacks_flow, passed_remark};
 
@@ -7,19 +7,19 @@ use std::alloc::{AllocError, Allocator};
 /// The number of bytes among which one is probably XON or XOFF.
 const FLOW_MIN: u64 = 1_000;
 
-/// The bytes that came after a greeting.
+/// The bytes that arrived after a greeting.
 #[derive(Clone, Copy, Debug, PartialEq, Eq)]
 pub struct Passed {
     /// Their number.
     pub count: u64,
-    /// Set if one of them has its eighth bit.
+    /// Set if one of them has its eighth bit set.
     pub has_high: bool,
     /// Set if one of them is XON or XOFF.
     pub has_flow: bool,
 }
 
 /// Returns a line for standard error about a session that gave up after its greeting: which bytes its line may not
-/// pass. The line is empty if what came does not tell.
+/// pass. The line is empty if the bytes that arrived don't show it.
 pub fn passed_remark<A: Allocator>(alloc: A, passed: Passed) -> Result<String<A>, AllocError>
     ensures { IfOk result (λ remark. string_bytes remark ≡ passed_remark passed) }
 {
@@ -33,7 +33,7 @@ pub fn passed_remark<A: Allocator>(alloc: A, passed: Passed) -> Result<String<A>
     }
 }
 
-/// Returns that all bytes have seven bits, if they have.
+/// Returns the line that all bytes have seven bits, if they have, or else that of `flow_remark`.
 fn bits_remark<A: Allocator>(alloc: A, passed: Passed) -> Result<String<A>, AllocError>
     ensures { IfOk result (λ remark. string_bytes remark ≡ bits_remark passed) }
 {
@@ -48,7 +48,7 @@ fn bits_remark<A: Allocator>(alloc: A, passed: Passed) -> Result<String<A>, Allo
     }
 }
 
-/// Returns that no byte is XON or XOFF, if none is among so many that one probably is.
+/// Returns the line that no byte is XON or XOFF, if `lacks_flow` holds, or else an empty one.
 fn flow_remark<A: Allocator>(alloc: A, passed: Passed) -> Result<String<A>, AllocError>
     ensures { IfOk result (λ remark. string_bytes remark ≡ flow_remark passed) }
 {
@@ -63,14 +63,14 @@ fn flow_remark<A: Allocator>(alloc: A, passed: Passed) -> Result<String<A>, Allo
     }
 }
 
-/// Returns whether no byte is XON or XOFF, among so many that one probably is.
+/// Returns whether no byte is XON or XOFF, though there are so many bytes that one probably would be.
 fn lacks_flow(passed: Passed) -> bool
     ensures { result ≡ lacks_flow passed }
 {
     !passed.has_flow && FLOW_MIN <= passed.count
 }
 
-/// Returns the line that so many bytes came, and this of them.
+/// Returns the line that `count` bytes arrived, with these words about them.
 fn bytes_line<A: Allocator>(alloc: A, count: u64, words: &str) -> Result<String<A>, AllocError>
     ensures { IfOk result (λ line. string_bytes line ≡ bytes_line count words.now) }
 {

@@ -1,4 +1,4 @@
-//! The line that says on what a call of the system failed, and why.
+//! The line that says on what a system call failed, and why.
 ghost use Rattle.std.specs.Prelude.{◌≡◌, ◌++◌, IfOk, OnOk, string_bytes};
 ghost use Rattle.uug_reason.specs.Reasons.{below_words, dir_of, locks_line, place_words, places, reason_line, text_words};
 ghost use Rattle.uug_scan.specs.Detailed.{escaped};
@@ -9,9 +9,9 @@ use crate::hint::add_hint;
 use std::alloc::{AllocError, Allocator};
 use uug_failure::{EndText, Resource, SystemFailure};
 
-/// Returns the line for standard error that says on what a call of the system failed, why, and what to do if the cause
-/// is a known mistake. `stream` names what is read or written, `line` the line or the socket, and `first` and `second`
-/// the folders of the ends.
+/// Returns the line for standard error that says on what a system call failed, why, and what to do if the cause is a
+/// known mistake. `stream` names the input or output, `line` the line or the socket, and `first` and `second` the
+/// folders of the ends.
 pub fn reason_line<A: Allocator>(
     alloc: A,
     stream: &str,
@@ -40,7 +40,8 @@ pub fn reason_line<A: Allocator>(
     Ok(text)
 }
 
-/// Returns the line that says why no lock file can be made in this folder, the second of an end.
+/// Returns the line that says why no lock file can be made in the folder `locks`. `reason_line` gets it as the second
+/// folder.
 pub fn locks_line<A: Allocator + Copy>(
     alloc: A,
     locks: &str,
@@ -52,7 +53,7 @@ pub fn locks_line<A: Allocator + Copy>(
     reason_line(alloc, "", "", "", folder.as_str(), failure)
 }
 
-/// Returns the name of the file of this text.
+/// Returns the file name of this text.
 fn text_words(which: EndText) -> &'static str
     ensures { result.now ≡ text_words which }
 {
@@ -63,7 +64,7 @@ fn text_words(which: EndText) -> &'static str
     }
 }
 
-/// Appends what a call of this end was made on.
+/// Appends the name of the resource on which a call of this end was made.
 fn add_place<A: Allocator>(
     text: &mut String<A>,
     stream: &str,
@@ -108,7 +109,7 @@ fn add_dir<A: Allocator>(
     }
 }
 
-/// Appends what is below the folder of an end.
+/// Appends the rest of the path, below the folder of an end.
 fn add_below<A: Allocator>(text: &mut String<A>, resource: Resource) -> Result<(), AllocError>
     ensures { OnOk result
         (string_bytes text.new ≡ string_bytes text.old ++ below_words resource) }

@@ -1,4 +1,4 @@
--- How the program ends where its words ask for no task (this project's profile).
+-- How the program ends if its words ask for no task (this project's profile).
 use Rattle.std.specs.Prelude.{◌≡◌, ⊤}
 use Rattle.clap.specs.Words.{kind_of}
 use Rattle.clap.specs.declared.error.Error.{Error}
@@ -18,7 +18,7 @@ IsNoTask (Number bad) = ⊥
 IsNoTask (Limit line) = ⊥
 IsNoTask (Told fault line) = ⊥
 
--- how the program ends where the parser of the words gives this error
+-- how the program ends if the parser of the words gives this error
 pub record IsRefusal (error : Error) (stop : Stop) : Type 0 where
   pub no_task : IsNoTask stop
   pub memory : kind_of error ≡ OutOfMemory → stop ≡ Fault faults.Memory

@@ -44,14 +44,14 @@ pub fn end_of(alloc: Global, task: Task<'_>, outcome: Outcome<u8, Global>) -> Re
     }
 }
 
-/// Returns that a call of the system failed on the standard stream of this name, and why, if there was memory for that.
+/// Returns that a system call failed on the standard stream of this name, and why, if there was memory for that.
 fn says_stream(alloc: Global, name: &str, failure: SystemFailure) -> Stop
     ensures { SaysReason (reason_line (places name.now [] [] []) failure) result }
 {
     says_reason(reason_line(alloc, name, "", "", "", failure))
 }
 
-/// Returns the same end, with the call of the system that failed on standard input or output, if it is known.
+/// Returns the same ending, with the system call that failed on standard input or output, if it is known.
 pub fn with_reason(
     alloc: Global,
     ended: Result<u8, Stop>,
@@ -74,8 +74,8 @@ pub fn with_reason(
     }
 }
 
-/// Prints on standard error why the program ends before its task is done, if that can be printed, and returns the
-/// program's status.
+/// Prints on standard error why the program ends before its task is done, and returns the program's status. Failures of
+/// the printing are ignored.
 pub fn end(rt: &impl Eprint, ended: Result<u8, Stop>) -> u8
     ensures { MatchResult ended
         (λ status. result ≡ status) (λ stop. result ≡ status_of_stop stop) }

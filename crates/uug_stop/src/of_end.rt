@@ -14,16 +14,16 @@ use uug_stream::ToolFault;
 use uug_task::CallTask;
 use uug_words::{PairTask, pair_remark, usage_remark};
 
-/// The number of its report among the outputs of one end.
+/// The number of the report among the outputs of one end.
 pub const REPORT: usize = 0;
 
-/// The number of its log among them.
+/// The number of the log among them.
 pub const LOG: usize = 1;
 
 /// The number of the statistics among them.
 pub const STATS: usize = 2;
 
-/// Returns why two ends gave up. It always says what is wrong with their usage, and the rest with `-v`.
+/// Returns why two ends gave up. Bad usage is always explained, other faults only with `-v`.
 pub(crate) fn stop_of_pair(
     alloc: Global,
     pair: &PairTask<'_>,
@@ -40,7 +40,7 @@ pub(crate) fn stop_of_pair(
     }
 }
 
-/// Returns why two ends gave up whose usage is right: only the fault without `-v`.
+/// Returns why two ends with good usage gave up: only the fault without `-v`.
 fn stop_of_pair_by(alloc: Global, pair: &PairTask<'_>, fault: RunFault, remark: String) -> Stop
     ensures { StopsOnPairBy pair.now.is_loud pair.now fault (string_bytes remark) result }
 {
@@ -51,7 +51,7 @@ fn stop_of_pair_by(alloc: Global, pair: &PairTask<'_>, fault: RunFault, remark: 
     }
 }
 
-/// Returns what is wrong with a line of jobs, or which call of the system failed.
+/// Returns what is wrong with a line of jobs, which system call failed, or only the fault.
 fn stop_of_loud_pair(alloc: Global, pair: &PairTask<'_>, fault: RunFault, remark: String) -> Stop
     ensures { StopsOnLoudPair pair.now fault (string_bytes remark) result }
 {
@@ -83,7 +83,7 @@ pub(crate) fn stop_of_end(
     }
 }
 
-/// Returns why one end gave up after a failed call of the system.
+/// Returns why one end gave up after a failed system call.
 fn stop_of_system(
     alloc: Global,
     call: &CallTask<'_>,
@@ -102,7 +102,7 @@ fn stop_of_system(
     )
 }
 
-/// Returns whether the system of one end refused to make a lock file.
+/// Returns whether the system refused to create a lock file for one end.
 pub fn is_refused_lock(failure: &SystemFailure) -> bool
     ensures { result ≡ is_refused_lock failure.now }
 {
@@ -112,8 +112,8 @@ pub fn is_refused_lock(failure: &SystemFailure) -> bool
     }
 }
 
-/// Returns why one end gave up after a failed call of the system, by its folders and its line. It names what another
-/// run holds, with this remark, and a bad number file.
+/// Returns why one end gave up after a failed system call, on this output, line or folder. Names what another run
+/// holds, with this remark, and a bad number file.
 fn stop_of_cause(
     alloc: Global,
     output: &str,
@@ -154,7 +154,7 @@ fn held_by_another<'a>(
     }
 }
 
-/// Returns the file that is this output of one end: its report, its log, or the statistics.
+/// Returns the path of this output of one end: its report, its log, or the statistics. It is empty if none is named.
 fn output_named<'a>(call: &CallTask<'a>, number: usize) -> &'a str
     ensures { result.now ≡ output_of call.now number }
 {
@@ -166,8 +166,8 @@ fn output_named<'a>(call: &CallTask<'a>, number: usize) -> &'a str
     path.unwrap_or("")
 }
 
-/// Returns why nothing was queued or listed, or no status was shown. It names the file that can't be copied, and says what is wrong with the
-/// order, or with a line of jobs. It says on what a call of the system failed, and why, if that is known.
+/// Returns why nothing was queued or listed, or no status was shown: the file that can't be read or is over a limit,
+/// what is wrong with the order or with a line of jobs, or on what a system call failed, and why, if that is known.
 pub(crate) fn stop_of_queue(
     alloc: Global,
     dir: &str,
@@ -186,8 +186,8 @@ pub(crate) fn stop_of_queue(
     }
 }
 
-/// Returns why no job was cancelled. It says what is wrong with the usage, or with a line of jobs, names the folder if
-/// another run holds it, and says on what another call of the system failed, and why, if that is known.
+/// Returns why no job was cancelled: what is wrong with the usage or with a line of jobs, the folder that another run
+/// holds, or on what another system call failed, and why, if that is known.
 pub(crate) fn stop_of_cancel(alloc: Global, dir: &str, fault: RunFault, remark: String) -> Stop
     ensures { StopsOnCancel dir.now fault (string_bytes remark) result }
 {

@@ -8,7 +8,7 @@ use std::alloc::Global;
 use uug_failure::RunFault;
 use uug_stream::ToolFault;
 
-/// Returns why a task gave up that read the file of this name. The file is named if it is the cause.
+/// Returns why a task that reads the file of this name gave up. Names the file if it is the cause.
 pub(crate) fn stop_of_file(alloc: Global, path: &str, fault: RunFault) -> Stop
     ensures { StopsOnFile path.now fault result }
 {
@@ -18,7 +18,7 @@ pub(crate) fn stop_of_file(alloc: Global, path: &str, fault: RunFault) -> Stop
     }
 }
 
-/// Returns why a script was not played, with the remark if it is bad.
+/// Returns why a script was not played, with the remark if the script is bad.
 pub(crate) fn stop_of_script(fault: RunFault, remark: String) -> Stop
     ensures { StopsOnScript fault (string_bytes remark) result }
 {

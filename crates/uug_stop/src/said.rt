@@ -15,7 +15,7 @@ pub(crate) fn says_fault(alloc: Global, fault: ToolFault) -> Stop
     Stop::Told(fault, String::new(alloc))
 }
 
-/// Returns that a call of the system failed, as this line says, if there was memory for it.
+/// Returns that a system call failed, with this line on it if there was memory for it.
 pub(crate) fn says_reason(reason: Result<String, AllocError>) -> Stop
     ensures { MatchResult reason (λ line. result ≡ Stop.Told ToolFault.Device line)
         (λ _. result ≡ Stop.Fault ToolFault.Device) }
@@ -26,7 +26,7 @@ pub(crate) fn says_reason(reason: Result<String, AllocError>) -> Stop
     }
 }
 
-/// Returns the limit that the file of this name is over, or else that it can't be read, and why.
+/// Returns which limit the file of this name is over, or else that it can't be read, and why.
 pub(crate) fn names_copied(alloc: Global, path: &str, failure: SystemFailure) -> Stop
     ensures { NamesCopied path.now failure result }
 {
@@ -37,7 +37,7 @@ pub(crate) fn names_copied(alloc: Global, path: &str, failure: SystemFailure) ->
     }
 }
 
-/// Returns whether there is more than the program takes.
+/// Returns whether the cause is that there is more than the program takes.
 fn is_much(cause: Cause) -> bool
     ensures { result ≡ is_much cause }
 {
@@ -47,7 +47,7 @@ fn is_much(cause: Cause) -> bool
     }
 }
 
-/// Returns that something is over a limit, as this line says, if there was memory for it.
+/// Returns that something is over a limit, with this line on it, or a memory fault if there was no memory for the line.
 fn says_limit(reason: Result<String, AllocError>) -> Stop
     ensures { MatchResult reason (λ line. result ≡ Stop.Limit line)
         (λ _. result ≡ Stop.Fault ToolFault.Memory) }
@@ -58,7 +58,8 @@ fn says_limit(reason: Result<String, AllocError>) -> Stop
     }
 }
 
-/// Returns that a number file has no number in it, as this line says, if there was memory for it.
+/// Returns that a number file has no number in it, with this line on it, or a memory fault if there was no memory for
+/// the line.
 pub(crate) fn says_number(reason: Result<String, AllocError>) -> Stop
     ensures { MatchResult reason (λ line. result ≡ Stop.Number line)
         (λ _. result ≡ Stop.Fault ToolFault.Memory) }
@@ -69,7 +70,7 @@ pub(crate) fn says_number(reason: Result<String, AllocError>) -> Stop
     }
 }
 
-/// Returns that the file of this name can't be read, and why, if there is memory to say that.
+/// Returns that the file of this name can't be read, and why, or a memory fault.
 pub(crate) fn names_file(alloc: Global, path: &str, failure: SystemFailure) -> Stop
     ensures { NamesFile path.now failure result }
 {
@@ -89,7 +90,7 @@ fn names_file_for(alloc: Global, path: &str, reason: String) -> Stop
     }
 }
 
-/// Returns that another run holds the folder or the line of this name, with this remark, if there is memory to say that.
+/// Returns that another run holds the folder or the line of this name, with this remark, or a memory fault.
 pub(crate) fn names_folder(alloc: Global, dir: &str, remark: String) -> Stop
     ensures { NamesFolder dir.now (string_bytes remark) result }
 {

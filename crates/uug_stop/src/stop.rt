@@ -18,19 +18,19 @@ pub enum Stop {
     /// A fault, and a remark on it.
     #[error("uucpair: {0}\nuucpair: {1}\n")]
     Remarked(ToolFault, String),
-    /// The file of this name can't be opened or read; a line says why, if that is known.
+    /// The name of a file that can't be opened or read, and a line on why, if that is known.
     #[error("uucpair: device fault\nuucpair: can't read {0}\n{1}")]
     File(String, String),
-    /// Another run works in the folder of this name, or holds the line of this name; a remark on that, which may be empty.
+    /// The name of the folder or the line that another run holds, and a remark on that, which may be empty.
     #[error("uucpair: device fault\nuucpair: {0} is in use\n{1}")]
     InUse(String, String),
-    /// A number file without a number in it, which a line names.
+    /// A line that names a number file without a number in it.
     #[error("uucpair: {BadNumber}\n{0}")]
     Number(String),
-    /// Something is over a limit of the program, as a line says.
+    /// A line on what is over a limit of the program.
     #[error("uucpair: over a limit\n{0}")]
     Limit(String),
-    /// A fault, and where and why, if that is known and asked for.
+    /// A fault, and a line on where and why, if that is known and asked for.
     #[error("uucpair: {0}\n{1}")]
     Told(ToolFault, String),
     /// The command line asks for no task. The text is the usage, or the help if that was asked for.

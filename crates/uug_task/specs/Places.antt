@@ -1,4 +1,4 @@
--- Where an end of a pair stands (this project's profile).
+-- The place of an end of a pair (this project's profile).
 use Rattle.std.specs.Prelude.{◌≡◌, ℕ, false, List, codes, None}
 use Rattle.uug_link.specs.Announced.{announced}
 use Rattle.uug_conversation.specs.Turns.{other}
@@ -13,7 +13,7 @@ abbrev pub name_at : Side → List ℕ
 name_at Caller = codes "a"
 name_at Called = codes "b"
 
--- An end of a pair stands here. It keeps no number.
+-- This is the place of an end of a pair. It keeps no number.
 pub record IsPlaceInPair (side : Side) (place : Place) : Type 0 where
   pub me : place.me ≡ name_at side
   pub peer : place.peer ≡ name_at (other side)

@@ -24,17 +24,17 @@ use Rattle.uug_task.specs.declared.end_parts.EndParts.{EndParts}
 use Rattle.uug_transfer.specs.Timers.{IsSpeed, packets_of}
 use Rattle.uug_task.specs.declared.task.TheConstants.{KEEP_MAX, MOST_MIN, SECONDS_MAX, SESSIONS_MAX, WAIT_MAX}
 
--- Whether an end may have so many sessions: more than one only where it is called at a socket.
+-- whether an end may have this many sessions: more than one only if it is called at a socket
 abbrev pub may_have : (sessions : ℕ) → Side → LineShown → Bool
 may_have sessions sides.Called (unix path) = true
 may_have sessions sides.Called (tcp host port) = true
 may_have sessions side line = sessions == 1
 
--- whether the other end may have this name: in a spool it is that of a folder, and leads nowhere else
+-- whether the other end may have this name: in a spool it is the name of a folder, with no slash and no dot in front
 abbrev pub has_place : (is_spool : Bool) → (peer : List ℕ) → Bool
 has_place is_spool peer = not is_spool || is_system_name peer
 
--- a task that may be run: its numbers are in their ranges, its line is one, and its names are names
+-- a task that may be run: its numbers are in their ranges, and its line and its names are valid
 pub record IsTask (task : CallTask) : Type 0 where
   pub seconds : (0 < task.seconds) × (task.seconds ≤ SECONDS_MAX)
   pub speed : IfSome task.speed IsSpeed
@@ -51,15 +51,16 @@ pub record IsTask (task : CallTask) : Type 0 where
   pub peer : IsName task.peer.now
   pub place : IsTrue (has_place task.is_spool task.peer.now)
 
--- An end announces this window and packets of so many bytes, and is quiet on repeats or not, with short commands or not.
+-- An end announces this window and this packet size in bytes, whether it is quiet on repeats, and whether its commands
+-- are short.
 pub record Announces (window size : ℕ) (quiet short : Bool) (a : Announced) : Type 0 where
   pub of_window : a.window ≡ window
   pub of_size : size_of_code a.size_code ≡ size
   pub is_quiet : a.quiet ≡ quiet
   pub is_short : a.short ≡ short
 
--- The line, the names and what is announced are as the task says, and so is how long is waited. The other end may have on the
--- way what this one lets it. No number is read yet.
+-- The line, the names, the announcement and the waiting times are those of the task. The other end may have as much on
+-- the way as this one allows it. No number is read yet.
 pub record IsSaidBy (task : CallTask) (terms : Terms) : Type 0 where
   pub line : line_of task.line.now ≡ Some (shown terms.line)
   pub me : terms.station.place.me ≡ task.me.now
@@ -78,8 +79,8 @@ abbrev pub thinning_with : (every_ack : Bool) → Thinning
 thinning_with true = Repeats
 thinning_with false = RepeatsAndAcks
 
--- For so many seconds an end on this side says nothing at a device, and counts no silence, before the first byte has come: an
--- end that is called, where that is told.
+-- the seconds for which an end on this side waits at a device for the first byte, in silence and without counting
+-- timeouts: only a called end waits, if the seconds are given
 abbrev pub wait_at_device : Side → (wait : Option ℕ) → Option ℕ
 wait_at_device sides.Called wait = wait
 wait_at_device sides.Caller wait = None
@@ -88,8 +89,8 @@ wait_at_device sides.Caller wait = None
 abbrev pub identity_at : Side → Place → Identity
 identity_at side place = record { side = side; me = place.me; peer = place.peer }
 
--- how an end comes to its session: at this place, with these jobs, all of which are to be offered, and with a spool that gives
--- and accepts this, and has kept that
+-- an end at the beginning of its session: its place, its jobs, all of which are still to be offered, what its spool
+-- gives and accepts, and what that has kept
 abbrev pub beginning_at : Place → Lists → Holdings → List Kept → EndBeginning
 beginning_at place jobs holdings kept = record {
   me = place.me;
@@ -101,12 +102,12 @@ beginning_at place jobs holdings kept = record {
   number = place.number;
 }
 
--- the same of an end that is made of this
+-- the same for an end that is made of these parts
 abbrev pub beginning_of : {S J N A : Type 0} → (holdings : S → Holdings) (kept : S → List Kept) → EndParts S J N A → EndBeginning
 beginning_of holdings kept parts = beginning_at parts.place parts.queue (holdings parts.spool) (kept parts.spool)
 
--- An end of this side has begun its session, at this place and with these jobs: what it says first is to be written, and
--- nothing else has become of it.
+-- An end on this side has begun its session, at this place and with these jobs. Its first bytes are still to be
+-- written, and nothing else has happened.
 pub record HasBegunAt (side : Side) (place : Place) (jobs : Lists) (now : NodeState) : Type 0 where
   pub first : NodeState
   pub begins : BeginsSession (identity_at side place) (announced place.announce) place.number (all_ahead jobs) [] first.engine

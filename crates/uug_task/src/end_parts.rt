@@ -43,14 +43,14 @@ pub struct EndParts<S: Spool, J, N, A: Allocator> {
 /// An end whose session is over, and the result of the program.
 #[derive(Drop)]
 pub struct FinishedEnd<S: Spool, J, N, A: Allocator> {
-    /// The end as it is then.
+    /// The end after its session.
     pub end: TransferEnd<S, J, N, A>,
     /// The program's status, or the first fault.
     pub answer: Result<u8, ToolFault>,
 }
 
 impl<S: Spool + Drop, J: Drop, N: Drop, A: Allocator + Copy> EndParts<S, J, N, A> {
-    /// Creates the end on this side, whose session begins. Its first words are to be written.
+    /// Creates the end on this side, and begins its session. Its first bytes still have to be written.
     pub fn begin(
         self,
         alloc: A,
@@ -91,8 +91,8 @@ impl<S: Spool + Drop, J: JobTexts + Drop, N: TextFile + Drop, A: Allocator + Cop
     N,
     A,
 > {
-    /// Runs the session of the end on this side over its line. Returns the end as it is after that: it has run the
-    /// session that began here, up to that point.
+    /// Runs the session of the end on this side over its line, and returns the end. It has run the session that began
+    /// here, up to that point.
     pub fn run<L: EndLine, O: Output>(
         self,
         alloc: A,
@@ -128,7 +128,7 @@ impl<S: Spool + Drop, J: JobTexts + Drop, N: TextFile + Drop, A: Allocator + Cop
     }
 }
 
-/// Begins the session of an end with these jobs and files. What it says first is to be written.
+/// Begins the session of an end with these jobs and files. Its first bytes still have to be written.
 pub fn begin_end<S: Spool + Drop, A: Allocator + Copy>(
     alloc: A,
     side: Side,
@@ -153,7 +153,7 @@ pub fn begin_end<S: Spool + Drop, A: Allocator + Copy>(
     Ok(buffered)
 }
 
-/// Brings in what the types say of an end's place, and of its jobs.
+/// Brings in the invariants of the types of an end's place and jobs.
 fn note_types<A: Allocator>(place: &Place, queue: &Queue<A>)
     ensures window { IsWindow (announced place.now.announce).window }
     ensures names { All HasNames (pending queue.now) }

@@ -1,11 +1,11 @@
 //! The folders of a spool that are open to the other end.
 
-/// The folders of a spool that are open to the other end. Each is a list of words: `~` is the public folder, `~/NAME` a
-/// folder there, and `!` in front bars one.
+/// The folders of a spool that are open to the other end. Each list consists of words: `~` is the public folder,
+/// `~/NAME` is a folder in it, and a leading `!` bars a folder.
 #[derive(Clone, Copy, Debug, PartialEq, Eq)]
 pub struct FolderRules<'a> {
-    /// Those of which files are given on request.
+    /// The folders from which files are given on request.
     pub gives: &'a str,
-    /// Those into which files are taken that were not asked for.
+    /// The folders that take files that were not asked for.
     pub takes: &'a str,
 }

@@ -3,9 +3,9 @@ ghost use Rattle.std.specs.Prelude.{◌≡◌};
 ghost use Rattle.uug_task.specs.declared.places.TheConstants.{SIZE, WINDOW};
 ghost use Rattle.uug_task.specs.declared.task.TheConstants.{KEEP_MAX, MOST_MIN, SECONDS_MAX, SESSIONS_MAX, WAIT_MAX};
 
-/// States the value of each limit: the seconds that a line waits, and that an end waits to be called; its sessions; the
-/// minimum for the bytes of files that may be offered in a session; the days for which a file that was cut off is held;
-/// and the window and the packet size that both ends of a pair announce.
+/// States the value of each limit: the timeout of a line in seconds; the least limit on the total size of the files
+/// offered in a session; the days for which a partial file is kept; the seconds that an end waits to be called; its
+/// sessions; and the window and the packet size that both ends of a pair announce.
 pub fn limits()
     ensures seconds { SECONDS_MAX ≡ 600 }
     ensures most { MOST_MIN ≡ 1048576 }

@@ -13,10 +13,10 @@ const WINDOW: u8 = 7;
 /// The packet size that both ends of a pair announce.
 const SIZE: usize = 64;
 
-/// The name of the end that calls.
+/// The name of the caller.
 const CALLER: &[u8] = b"a";
 
-/// The name of the end that is called.
+/// The name of the called end.
 const CALLED: &[u8] = b"b";
 
 /// Returns the place of the end of a pair on this side. It keeps no number of its conversations.
@@ -39,7 +39,7 @@ pub fn place_in_pair(side: Side) -> Place
     }
 }
 
-/// Returns the name of these bytes, which are one.
+/// Returns the name with these bytes.
 fn name(bytes: &[u8]) -> Name
     requires { IsName bytes.now }
     ensures { result ≡ bytes.now }

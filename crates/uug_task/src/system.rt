@@ -5,7 +5,8 @@ use std::net::{Net, TcpListener, TcpStream};
 use std::rt::{Env, Files};
 use std::time::Clock;
 
-/// All of the system that an end needs: files, the network, the clock, the environment, standard error and memory.
+/// The parts of the system that an end needs: files, the network, the clock, the environment, standard error and
+/// memory.
 pub trait System: Files<File = File>
     + Net<Stream = TcpStream, Listener = TcpListener>
     + Clock

@@ -1,4 +1,4 @@
-//! The task of one end, and the terms in its words.
+//! The task of one end, and the terms read from it.
 ghost use Rattle.std.specs.Prelude.{◌≡◌, ◌≢◌, ◌≤◌, ◌↔◌, IfSome, IsTrue, MatchOption, Some};
 ghost use Rattle.uug_task.specs.Tasks.{IsSaidBy, IsTask, has_place, may_have, thinning_with, wait_at_device};
 ghost use Rattle.uug_transfer.specs.LineNames.{line_of, shown, standard};
@@ -18,22 +18,22 @@ use uug_transfer::{
 /// The word in place of a system's name that lets any system of a spool call.
 pub const ANY: &str = "*";
 
-/// The maximum seconds that a line waits.
+/// The maximum timeout of a line, in seconds.
 pub const SECONDS_MAX: u32 = 600;
 
-/// The minimum for the bytes of files that an end offers in a session, if it has as many.
+/// The minimum of the limit on the total size of the files that an end offers in a session, in bytes.
 pub const MOST_MIN: u32 = 1_048_576;
 
-/// The maximum seconds that an end waits to be called.
+/// The maximum time for which an end waits to be called, in seconds.
 pub const WAIT_MAX: u32 = 1_000_000_000;
 
 /// The maximum number of sessions of an end that is called at a socket.
 pub const SESSIONS_MAX: u32 = 1_000_000;
 
-/// The maximum days for which an end holds a file that was cut off and does not grow.
+/// The maximum number of days for which an end keeps a partial file that does not grow.
 pub const KEEP_MAX: u32 = 3_650;
 
-/// The seconds that an end waits to be called at a socket by default: a day.
+/// The default time for which an end waits to be called at a socket, in seconds: a day.
 const WAIT: u32 = 86_400;
 
 /// The task of one end.
@@ -117,8 +117,8 @@ pub enum ReportPlace<'a> {
 }
 
 impl<'a> CallTask<'a> {
-    /// Returns the destination of its end's report: the file that is named, else standard output. A standard output
-    /// that is its line gets no report; standard error does.
+    /// Returns the destination of its end's report: the file that is named, else standard output, or standard error if
+    /// standard output is its line.
     pub fn report_place(&self) -> ReportPlace<'a>
         ensures file { IfSome self.now.report (λ path. result ≡ ReportPlace.File path) }
         ensures apart { line_of self.now.line.now ≡ Some standard → result ≢ ReportPlace.Output }
@@ -177,7 +177,7 @@ impl<'a> CallTask<'a> {
     }
 }
 
-/// The terms in the words of a task.
+/// The terms of a task, read from its words.
 #[derive(Clone, Copy)]
 pub struct Terms<'a> {
     pub line: LineName<'a>,
@@ -196,18 +196,18 @@ pub struct Station {
 }
 
 impl Station {
-    /// Returns how long the line waits while nothing of this end is on the way.
+    /// Returns the timeout of the line while nothing of this end is on the way.
     pub fn time(&self) -> Duration {
         self.pace.time(0)
     }
 
-    /// Returns how long bytes may come at the line without progress.
+    /// Returns how long bytes may arrive at the line without progress.
     pub fn limits(&self) -> PatienceLimits {
         PatienceLimits::of_timer(self.pace.longest())
     }
 
-    /// Returns how long an end on this side says nothing at a device, and counts no silence, before the first byte has
-    /// come.
+    /// Returns the seconds for which an end on this side waits at a device for the first byte, in silence and without
+    /// counting timeouts.
     pub fn wait_at_device(&self, side: Side) -> Option<u32>
         ensures { result ≡ wait_at_device side self.now.wait }
     {
@@ -279,7 +279,8 @@ pub fn may_have(sessions: u32, side: Side, line: LineName<'_>) -> bool
     }
 }
 
-/// Returns whether the other end may have this name: in a spool it is that of a folder, and leads nowhere else.
+/// Returns whether the other end may have this name. In a spool it is the name of a folder, so it has no slash and no
+/// dot in front.
 pub fn has_place(is_spool: bool, peer: &Name) -> bool
     ensures { result ≡ has_place is_spool peer.now }
 {

@@ -19,7 +19,7 @@ use Rattle.uug_words.specs.declared.command_line.PairTask.{PairTask}
 use Rattle.uug_words.specs.declared.command_line.Task.{Task}
 use Rattle.uug_words.specs.declared.command_line.Task.TheVariants.{Version, Scan, ScanVerbose, Play, PlayVerbose, PlaySettled, PlayDrawn, Pair, Call, Queue, Cancel, Status}
 
--- ---- what stands behind the name of a tool: an entry for each argument that has a value
+-- ---- the words after the name of a tool: an entry for each argument that has a value
 
 abbrev pub Entries : Type 0
 Entries = List Row
@@ -27,15 +27,15 @@ Entries = List Row
 abbrev pub entries_of : ArgMatches → Entries
 entries_of matches = rows_of (found_of matches)
 
--- the text of an argument, which is empty where it has none
+-- the value of an argument, or an empty text if it has none
 abbrev pub text_in : Entries → (name : Text) → Text
 text_in entries name = unwrap_or (first_of name entries) []
 
--- whether an option is given that has no value
+-- whether an option without a value is given
 abbrev pub is_given : Entries → (name : Text) → Bool
 is_given entries name = option_map_or (λ text. bytes_eq text (codes "true")) (one_of name entries) false
 
--- the number that a text writes in decimal digits, where it fits 32 bits
+-- whether these are decimal digits, at least one, of a number that fits 32 bits
 abbrev pub is_number : (digits : Text) → Bool
 is_number digits = nat_lt 0 (length digits) && (list_all (λ d. nat_lt (digit_value d) 10) digits
     && nat_lt (digits_value 10 digits) (2 ^ 32))
@@ -44,27 +44,27 @@ abbrev pub number_of : Text → Option ℕ
 number_of text = let digits = without_leading_plus text in
     if is_number digits then Some (digits_value 10 digits) else None
 
--- the number of an option, where it has one
+-- the number of an option, if it has one
 abbrev pub number_in : Entries → (name : Text) → Option ℕ
 number_in entries name = option_and_then number_of (one_of name entries)
 
--- the same, and 0 where it has none: an option with a default always has one
+-- the same, or 0 if it has none: an option with a default always has one
 abbrev pub number_or_zero : Entries → (name : Text) → ℕ
 number_or_zero entries name = unwrap_or (number_in entries name) 0
 
--- The same, and 1 where it has none.
+-- the same, or 1 if it has none
 abbrev pub number_or_one : Entries → (name : Text) → ℕ
 number_or_one entries name = unwrap_or (number_in entries name) 1
 
 -- ---- what the tools are asked for
 
--- The packet size of an end that is told none, by the bits a second of its line, where these are told: of a line that is slower
--- than 1,200 the shorter one.
+-- The packet size of an end that is given none, by the speed of its line in bits a second, if that is given: the
+-- smaller one below 1,200.
 abbrev pub usual_size : (speed : Option ℕ) → ℕ
 usual_size None = 1024
 usual_size (Some speed) = if nat_lt speed 1200 then 256 else 1024
 
--- the packet size that an end announces: the one that is given, else that
+-- the packet size that an end announces: the given one, else the usual one
 abbrev pub size_in : Entries → ℕ
 size_in entries = unwrap_or (number_in entries (codes "size")) (usual_size (number_in entries (codes "speed")))
 
@@ -75,7 +75,7 @@ pub data Manner : Type 0 where
   settled : Manner
   drawn : Manner
 
--- by which of the options are given, of which the first counts
+-- the manner by the options: the first that is given counts
 abbrev pub manner_by : (verbose settle ladder : Bool) → Manner
 manner_by true settle ladder = verbosely
 manner_by false true ladder = settled
@@ -86,11 +86,12 @@ abbrev pub manner_in : Entries → Manner
 manner_in entries = manner_by (is_given entries (codes "verbose")) (is_given entries (codes "settle"))
     (is_given entries (codes "ladder"))
 
--- the tool that lists packets; `help` is no tool, and its answer is a text, but no clause of the parser says that
+-- The tool that lists packets. `help` is not a tool: the parser answers it with a text, but none of its clauses says
+-- that.
 abbrev pub NamesScan : (tool : Text) → Type 0
 NamesScan tool = (tool ≡ codes "scan") ⊎ (tool ≡ codes "help")
 
--- a word is the value of an argument, where it has one
+-- a word is the value of an argument, if it has one
 abbrev pub IsWordIn : Entries → (name : Text) → Option (Bor Text) → Type 0
 IsWordIn entries name word = option_map (λ text. text.now) word ≡ first_of name entries
 
@@ -107,7 +108,7 @@ pub record AsksToPlay (tool : Text) (entries : Entries) (manner : Manner) (file 
   pub options : manner_in entries ≡ manner
   pub path : IsFileIn entries file
 
--- what two ends are run over
+-- the task of two ends has the values of these entries
 pub record IsPairIn (entries : Entries) (task : PairTask) : Type 0 where
   pub socket : task.socket.now ≡ text_in entries (codes "SOCKET")
   pub dir_a : task.dir_a.now ≡ text_in entries (codes "DIR_A")
@@ -120,12 +121,12 @@ abbrev pub tool_at : Side → Text
 tool_at Caller = codes "call"
 tool_at Called = codes "answer"
 
--- what stands in a system's place where any may call that the spool knows
+-- the name in place of a system's where any system that the spool knows may call
 abbrev pub any_name : Text
 any_name = codes "*"
 
--- The name of the other end, by the one that is given: where an end that is called over a spool is given none, any may call that
--- the spool knows.
+-- The name of the other end, by the one that is given. If a called end over a spool is given none, any system that the
+-- spool knows may call.
 abbrev pub peer_by : Side → (is_spool : Bool) → (given : Option Text) → Text
 peer_by side is_spool (Some name) = name
 peer_by Called true None = any_name
@@ -178,7 +179,7 @@ pub record AsksForEnd (tool : Text) (entries : Entries) (task : CallTask) : Type
   pub calls : tool ≡ tool_at task.side
   pub says : IsEndIn entries task
 
--- what is queued
+-- the task of queueing has the values of these entries
 pub record IsQueueIn (entries : Entries) (task : QueueTask) : Type 0 where
   pub dir : task.dir.now ≡ text_in entries (codes "DIR")
   pub order : IsWordIn entries (codes "ORDER") task.order
@@ -198,7 +199,7 @@ pub record AsksToCancel (tool : Text) (entries : Entries) (task : CancelTask) : 
   pub job : first_of (codes "cancel") entries ≡ Some task.job.now
   pub order : IsWordIn entries (codes "ORDER") task.order
 
--- whose status is shown, and how
+-- the task of showing a status has the values of these entries
 pub record IsStatusIn (entries : Entries) (task : StatusTask) : Type 0 where
   pub dir : task.dir.now ≡ text_in entries (codes "DIR")
   pub log : IsWordIn entries (codes "log") task.log
@@ -232,15 +233,15 @@ AsksIn tool entries (Queue queue) = AsksToQueue tool entries queue
 AsksIn tool entries (Cancel cancel) = AsksToCancel tool entries cancel
 AsksIn tool entries (Status status) = AsksForStatus tool entries status
 
--- the words, of which the first is the program's name, name this tool, and have these entries behind its name
+-- The words, the program's name first, name this tool, with these entries after its name.
 pub record AsksByTool (words : List Text) (task : Task) : Type 0 where
   pub tool : Text
   pub entries : Entries
   pub read : subcommand_of uucpair words ≡ Some (tool, entries)
   pub asks : AsksIn tool entries task
 
--- The words of a command line, the name of the program first, ask for the task. Of `--version` no more is said than that the
--- words are none that a tool takes.
+-- The words of a command line, the program's name first, ask for the task. For `--version` this says only that no tool
+-- takes the words.
 abbrev pub Asks : (words : List Text) → Task → Type 0
 Asks words Version = takes uucpair words ≡ false
 Asks words task = AsksByTool words task

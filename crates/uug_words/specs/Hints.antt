@@ -3,7 +3,7 @@ use Rattle.std.specs.Prelude.{ℕ, ◌&&◌, Bool, List, [], codes, nat_eq, if�
 use Rattle.std.specs.List.{starts_with}
 use Rattle.std.specs.Str.{bytes_eq}
 
--- of an option that only the other end has
+-- the hint about an option that only the other end has
 abbrev pub option_hint : (tool word : List ℕ) → List ℕ
 option_hint tool word =
     if bytes_eq tool (codes "call") && starts_with nat_eq word (codes "--wait") then codes "--wait is for answer: a call waits as long as --timeout says" else

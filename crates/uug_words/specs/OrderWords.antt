@@ -6,11 +6,11 @@ use Rattle.uug_reason.specs.JobsWords.{is_order, quoted}
 use Rattle.uug_scan.specs.Detailed.{escaped}
 use Rattle.uug_talk.specs.Lines.{ended}
 
--- an order without a file
+-- for an order without a file
 abbrev pub lack_words : (order : List ℕ) → List ℕ
 lack_words order = codes "FILE is missing: uucpair queue DIR " ++ (order ++ codes " FILE")
 
--- What is no order: an order may stand in the place of the folder.
+-- for a word that is not an order; if the word before it is one, the folder is missing there
 abbrev pub no_order_words : (dir order : List ℕ) → List ℕ
 no_order_words dir order =
     if is_order dir then codes "DIR goes first: uucpair queue DIR " ++ (dir ++ codes " FILE")
@@ -24,10 +24,10 @@ abbrev pub words_by : (dir : List ℕ) → (order : Option (Bor (List ℕ))) →
 words_by dir None has_file = []
 words_by dir (Some order) has_file = order_words dir order.now has_file
 
--- nothing is wrong where nothing is ordered
+-- nothing is wrong if nothing is ordered
 abbrev pub order_remark : QueueTask → List ℕ
 order_remark task = words_by task.dir.now task.order (is_some task.file)
 
--- a folder to whose jobs none can be added
+-- the line about a folder whose queue is full
 abbrev pub full_remark : (dir : List ℕ) → List ℕ
 full_remark dir = codes "uucpair: " ++ (escaped dir ++ ended (codes "/jobs: 1024 jobs wait, the most that may: call, or cancel one"))

@@ -11,7 +11,7 @@ use Rattle.uug_transfer.specs.LineNames.{line_of}
 use Rattle.uug_words.specs.declared.part.Part.{Part}
 use Rattle.uug_words.specs.declared.part.Part.TheVariants.{Seconds, Speed, Wait, Sessions, Window, Size, Most, FileLimit, KeepDays, Line, Me, Peer, Place, Turns}
 
--- this part is as a task has to have it that may be run
+-- this part is as in a task that may be run
 abbrev pub IsRight : CallTask → Part → Type 0
 IsRight task Seconds = (0 < task.seconds) × (task.seconds ≤ SECONDS_MAX)
 IsRight task Speed = IfSome task.speed IsSpeed
@@ -34,7 +34,7 @@ RightTimes task = IsRight task Seconds × IsRight task Speed × IsRight task Wai
 abbrev pub RightNumbers : CallTask → Type 0
 RightNumbers task = RightTimes task × IsRight task Window × IsRight task Size × IsRight task Most × IsRight task FileLimit × IsRight task KeepDays
 
--- all parts in front of it are right
+-- all parts before it are right
 abbrev pub RightBefore : CallTask → Part → Type 0
 RightBefore task Seconds = ⊤
 RightBefore task Speed = IsRight task Seconds
@@ -51,7 +51,7 @@ RightBefore task Peer = RightNumbers task × IsRight task Line × IsRight task M
 RightBefore task Place = RightNumbers task × IsRight task Line × IsRight task Me × IsRight task Peer
 RightBefore task Turns = RightNumbers task × IsRight task Line × IsRight task Me × IsRight task Peer × IsRight task Place
 
--- of the parts that are wrong it is the first
+-- it is the first part that is wrong
 pub record IsFirstWrong (task : CallTask) (part : Part) : Type 0 where
   pub wrong : IsRight task part → ⊥
   pub before : RightBefore task part

@@ -1,9 +1,9 @@
--- Defines which options of one end only a spool has (this project's profile).
+-- Defines the options of one end that need a spool (this project's profile).
 use Rattle.std.specs.Prelude.{◌==◌, ◌&&◌, ℕ, Bool, not, List, [], codes, is_some, length, if◌then◌else◌}
 use Rattle.std.specs.Str.{bytes_eq}
 use Rattle.uug_task.specs.declared.task.CallTask.{CallTask}
 
--- the first of those for the folders that are open whose list is not the default one
+-- the first of `--give` and `--take` whose list of open folders is not the default
 abbrev pub folder_option : (gives takes : List ℕ) → List ℕ
 folder_option gives takes =
     if not (bytes_eq gives (codes "~")) then codes "--give" else
@@ -17,6 +17,6 @@ spool_option task =
     (if is_some task.grade then codes "--grade" else
     (if is_some task.port then codes "--port-name" else folder_option task.rules.gives.now task.rules.takes.now)))
 
--- an end that is over no spool is given one
+-- an end without a spool is given such an option
 abbrev pub lacks_spool : CallTask → Bool
 lacks_spool task = not task.is_spool && not (length (spool_option task) == 0)

@@ -1,4 +1,4 @@
--- Spells what is said of the target of a job that is queued (this project's profile).
+-- Spells the remark on the target of a queued job (this project's profile).
 use Rattle.std.specs.Prelude.{◌||◌, ℕ, Bool, List, [], ◌++◌, codes, nat_eq, Option, Some, None, if◌then◌else◌}
 use Rattle.std.specs.Borrow.{Bor}
 use Rattle.std.specs.List.{starts_with}
@@ -6,12 +6,12 @@ use Rattle.std.specs.Str.{bytes_eq}
 use Rattle.uug_disk.specs.declared.queue.QueueTask.{QueueTask}
 use Rattle.uug_talk.specs.Lines.{ended}
 
--- the name of a target in the folder of an end has a dot in front
+-- a target, `NAME`, `~/NAME` or `/NAME`, has a name that begins with a dot
 abbrev pub has_dot : (target : List ℕ) → Bool
 has_dot target = starts_with nat_eq target (codes ".")
     || (starts_with nat_eq target (codes "~/.") || starts_with nat_eq target (codes "/."))
 
--- who won't take it
+-- the end that refuses it
 abbrev pub taker_words : (order : List ℕ) → List ℕ
 taker_words order =
     if bytes_eq order (codes "send") then codes "uucpair at the other end refuses such a target, Taylor UUCP takes it"
@@ -26,6 +26,6 @@ remark_by (Some order) (Some target) = dotted_remark order.now target.now
 remark_by (Some order) None = []
 remark_by None target = []
 
--- nothing is said where no target is given
+-- no remark without a target
 abbrev pub target_remark : QueueTask → List ℕ
 target_remark task = remark_by task.order task.target

@@ -1,4 +1,4 @@
--- The tools of the program, and what stands behind the name of each, as a parse of the words reads it (this project's profile).
+-- The tools of the program, and the arguments that the parser takes after the name of each (this project's profile).
 use Rattle.std.specs.Prelude.{◌≡◌, ◌++◌, true, false, List, [], ◌∷◌, Some, codes, pos}
 use Rattle.clap.specs.Words.{App, Rule, Shape, Text, new_rule, rule_of, shape_of}
 use Rattle.clap.specs.declared.builder.arg.Arg.{Arg}
@@ -10,7 +10,7 @@ use Rattle.clap.specs.declared.builder.value_parser.ValueParser.TheVariants.{Sig
 
 -- ---- what a builder makes
 
--- an argument with this rule, which holds for its own command alone
+-- an argument with this rule, for its own command only
 pub record IsArg (rule : Rule) (made : Arg) : Type 0 where
   pub rule_is : rule_of made ≡ rule
   pub local : made.global ≡ false
@@ -26,15 +26,15 @@ pub record IsTool (tool : Shape) (made : Command) : Type 0 where
 abbrev pub optional_rule : Text → Rule
 optional_rule name = record (new_rule name) { action = Some Set }
 
--- the file that is read, where there is one
+-- the file to read, if one is given
 abbrev pub file_rule : Rule
 file_rule = optional_rule (codes "FILE")
 
--- an argument that has to be there
+-- a required argument
 abbrev pub path_rule : Text → Rule
 path_rule name = record (new_rule name) { required = true; action = Some Set }
 
--- an option that is there or not
+-- an option without a value
 abbrev pub flag_rule : Text → Rule
 flag_rule name = record (new_rule name) { long = Some name; action = Some SetTrue }
 
@@ -46,23 +46,23 @@ verbose_rule = record (flag_rule (codes "verbose")) { short = Some 118 }
 abbrev pub excluding : Rule → Rule
 excluding option = record option { is_free = false }
 
--- an option with a word
+-- an option that takes a word
 abbrev pub word_rule : Text → Rule
 word_rule name = record (new_rule name) { long = Some name; value_names = 1; action = Some Set }
 
--- the same, with the word that it has where it is not given
+-- the same, with a default
 abbrev pub folder_rule : (name default : Text) → Rule
 folder_rule name default = record (word_rule name) { defaults = default ∷ [] }
 
--- an option with a word, which has to be there
+-- a required option that takes a word
 abbrev pub name_rule : Text → Rule
 name_rule name = record (word_rule name) { required = true }
 
--- an option with a number that fits 32 bits
+-- an option that takes a number of 32 bits
 abbrev pub every_rule : Text → Rule
 every_rule name = record (word_rule name) { parser = Some (Signed (pos 0) (pos 4294967295)) }
 
--- the same, with the number that it has where it is not given
+-- the same, with a default
 abbrev pub number_rule : (name default : Text) → Rule
 number_rule name default = record (every_rule name) { defaults = default ∷ [] }
 
@@ -85,15 +85,15 @@ pair_tool = tool (codes "pair")
     (path_rule (codes "SOCKET") ∷ path_rule (codes "DIR_A") ∷ path_rule (codes "DIR_B")
     ∷ every_rule (codes "drop-every") ∷ every_rule (codes "flip-every") ∷ verbose_rule ∷ [])
 
--- a tool with these arguments behind its own
+-- a tool with these arguments after its own
 abbrev pub with_arguments : Shape → List Rule → Shape
 with_arguments before arguments = record before { rules = before.rules ++ arguments }
 
--- where an end at a line is, and what it is called
+-- the arguments of an end at a line: its line, its folder and its name
 abbrev pub end_rules : List Rule
 end_rules = path_rule (codes "LINE") ∷ path_rule (codes "DIR") ∷ name_rule (codes "me") ∷ []
 
--- how it talks
+-- the options for how it talks
 abbrev pub talk_rules : List Rule
 talk_rules =
     number_rule (codes "window") (codes "7")
@@ -104,7 +104,7 @@ talk_rules =
     ∷ flag_rule (codes "strict") ∷ flag_rule (codes "no-digest") ∷ flag_rule (codes "no-resume")
     ∷ flag_rule (codes "every-ack") ∷ []
 
--- what it keeps, and where
+-- the options for its files, its reports and its spool
 abbrev pub file_rules : List Rule
 file_rules =
     flag_rule (codes "number")
@@ -118,15 +118,16 @@ file_rules =
     ∷ folder_rule (codes "give") (codes "~") ∷ folder_rule (codes "take") (codes "~")
     ∷ verbose_rule ∷ []
 
--- one end at a line: where it is, what it and the other one are called, and the options
+-- one end at a line: its line, its folder, the names of both ends, and the options
 abbrev pub end_tool : (name : Text) → (peer : Rule) → Shape
 end_tool name peer = with_arguments (with_arguments (tool name (end_rules ++ peer ∷ [])) talk_rules) file_rules
 
--- An end that calls may be told to count a job that was given up.
+-- A calling end also takes `--fail-status`.
 abbrev pub call_tool : Shape
 call_tool = with_arguments (end_tool (codes "call") (name_rule (codes "peer"))) (flag_rule (codes "fail-status") ∷ [])
 
--- An end that is called may be told no name of the other one. It may be told how long it waits to be called, and how often.
+-- A called end may be given no name of the other end. It also takes how long it waits to be called, and how many
+-- sessions it has.
 abbrev pub answer_tool : Shape
 answer_tool = with_arguments (end_tool (codes "answer") (word_rule (codes "peer")))
     (every_rule (codes "wait") ∷ number_rule (codes "sessions") (codes "1") ∷ [])

@@ -17,7 +17,7 @@ use Rattle.uug_task.specs.declared.task.CallTask.{CallTask}
 use Rattle.uug_transfer.specs.FaultInjection.{is_in_range}
 use Rattle.uug_transfer.specs.LineNames.{colon, port_of}
 
--- the number of this option is not in its range
+-- the number of this option is out of range
 abbrev pub range_words : (option : List ℕ) → (number : Option ℕ) → (range : List ℕ) → List ℕ
 range_words option (Some number) range = option ++ (codes " " ++ (decimal number ++ (codes " is not " ++ range)))
 range_words option None range = []
@@ -25,15 +25,15 @@ range_words option None range = []
 abbrev pub name_words : List ℕ → List ℕ
 name_words name = codes "\"" ++ (escaped name ++ codes "\" is no name of a system: 1 to 200 printing characters without a space")
 
--- of the other end's name, which an end may be told none of
+-- for the name of the other end, which may be missing
 abbrev pub peer_words : List ℕ → List ℕ
 peer_words name = if length name == 0 then codes "the name of the other end is missing: --peer" else name_words name
 
--- of a name that is no folder's of a spool
+-- for a name that a system in a spool can't have
 abbrev pub place_words : List ℕ → List ℕ
 place_words name = codes "\"" ++ (escaped name ++ codes "\" is no name of a system in a spool: it has no slash, and no dot in front")
 
--- of the name of a system in a spool, as it is read
+-- for the name of a system in a spool, by the result of reading it
 abbrev pub system_words_by : Result (List ℕ) BadText → (name : List ℕ) → List ℕ
 system_words_by (Ok system) name = if has_place true system then [] else place_words name
 system_words_by (Err fault) name = peer_words name
@@ -41,14 +41,14 @@ system_words_by (Err fault) name = peer_words name
 abbrev pub system_words : List ℕ → List ℕ
 system_words name = system_words_by (name_read name) name
 
--- of a status, where a spool goes with a system in it
+-- for a status: a spool and the name of a system in it need each other
 abbrev pub status_words : (is_spool : Bool) → (peer : Option (Bor (List ℕ))) → List ℕ
 status_words false None = []
 status_words false (Some peer) = codes "--peer names a system of a spool: add --spool"
 status_words true None = peer_words []
 status_words true (Some peer) = system_words peer.now
 
--- what stands behind the last colon is a port
+-- the text after the last colon is a port
 abbrev pub is_port_behind : Option (List ℕ × List ℕ) → Bool
 is_port_behind (Some parts) = is_some (port_of parts.1)
 is_port_behind None = false
@@ -56,7 +56,7 @@ is_port_behind None = false
 abbrev pub is_port : List ℕ → Bool
 is_port line = is_port_behind (rsplit_once colon line)
 
--- what a line lacks that is no device
+-- what is missing in a line that is not a device
 abbrev pub lack_words : List ℕ → List ℕ
 lack_words line =
     if starts_with nat_eq line (codes "unix:") then codes " has no path" else
@@ -65,7 +65,7 @@ lack_words line =
 abbrev pub line_words : List ℕ → List ℕ
 line_words line = if length line == 0 then codes "the line has no name" else (escaped line ++ lack_words line)
 
--- this part is wrong
+-- the words for each wrong part
 abbrev pub part_words : CallTask → Part → List ℕ
 part_words task Seconds = range_words (codes "timeout") (Some task.seconds) (codes "1 to 600")
 part_words task Speed = range_words (codes "speed") task.speed (codes "300 to 10000000")
@@ -82,19 +82,20 @@ part_words task Peer = peer_words task.peer.now
 part_words task Place = place_words task.peer.now
 part_words task Turns = range_words (codes "sessions") (Some task.sessions) (codes "1: only at a socket there may be more")
 
--- the option that lacks a spool, where one does
+-- the option that is given without the spool that it needs, if one is
 abbrev pub spool_words : CallTask → List ℕ
 spool_words task =
     if lacks_spool task then spool_option task ++ codes " is for a spool: give --spool too, or leave it out" else []
 
--- Of a task that may be run no more is said than that an option lacks a spool, and of another what is wrong first.
+-- The remark on a task. If the task may be run, it says at most that an option lacks a spool. Else it names the first
+-- wrong part.
 pub record IsUsageOf (task : CallTask) (remark : List ℕ) : Type 0 where
   pub wrong : Option Part
   pub found : MatchOption wrong (IsTask task) (IsFirstWrong task)
   pub words : MatchOption wrong (remark ≡ spool_words task) (λ part. remark ≡ part_words task part)
 
--- Of the N of every Nth packet that is lost, and of that which is changed, the first that is not in its range. Where both are, the
--- folders are one.
+-- The first N out of range: that of the packets to lose, or of those to change. If neither is, both folders are the
+-- same.
 abbrev pub pair_words : (drop_every flip_every : Option ℕ) → List ℕ
 pair_words drop_every flip_every =
     if is_in_range drop_every

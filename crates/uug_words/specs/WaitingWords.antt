@@ -6,13 +6,13 @@ use Rattle.std.specs.Str.{bytes_eq}
 use Rattle.uug_scan.specs.Detailed.{escaped}
 use Rattle.uug_transfer.specs.LineNames.{LineShown, behind, line_of, standard, unix, tcp, device}
 
--- who can call a port of this host, where only this machine can
+-- who can call a port of this host: only this machine at 127.0.0.1, else nothing is said
 abbrev pub host_words : (host : List ℕ) → (port : ℕ) → List ℕ
 host_words host port =
     if bytes_eq host (codes "127.0.0.1")
     then codes " (this machine only; tcp:0.0.0.0:" ++ (decimal port ++ codes " for all)") else []
 
--- for port 0 the system picks one
+-- the same, and for port 0 that no caller knows it: the system picks a port
 abbrev pub reach_words : (host : List ℕ) → (port : ℕ) → List ℕ
 reach_words host port =
     if port == 0 then codes " (any free port, which no caller knows: give 1 to 65535)" else host_words host port
@@ -28,7 +28,7 @@ has_no_port line = is_port_zero (line_of line)
 abbrev pub tcp_words : (host : List ℕ) → (port : ℕ) → List ℕ
 tcp_words host port = escaped host ++ (codes ":" ++ (decimal port ++ reach_words host port))
 
--- a colon stands between the host and the port of an address
+-- an address has a colon, which separates its host from its port
 abbrev pub has_colon : (address : List ℕ) → Bool
 has_colon address = list_any (λ b. eqb b 58) address
 

@@ -1,4 +1,4 @@
-//! The task in the words of a command line.
+//! The task that a command line asks for.
 ghost use Rattle.std.specs.Prelude.{◌≡◌, IfErr, IfOk, codes, map, true};
 ghost use Rattle.clap.specs.Words.{Text, kind_of, takes};
 ghost use Rattle.clap.specs.declared.error.kind.ErrorKind.TheVariants.{OutOfMemory};
@@ -15,10 +15,10 @@ use uug_disk::QueueTask;
 use uug_pending::{CancelTask, StatusTask};
 use uug_task::{ANY, CallTask, FolderRules};
 
-/// The default packet size of an end. A smaller one lets more of what a line changes pass the checksum.
+/// The default packet size of an end, in bytes. With smaller packets more corrupted bytes pass the checksum.
 const SIZE: u32 = 1_024;
 
-/// The default over a line that is slower than `SLOW` bits a second, where a packet that is sent again takes long.
+/// The default packet size on a line slower than `SLOW` bits a second, where a retransmission takes long.
 const SIZE_SLOW: u32 = 256;
 
 const SLOW: u32 = 1_200;
@@ -34,19 +34,19 @@ pub enum Task<'a> {
     ScanVerbose(Option<&'a str>),
     /// The report of the script in a file, or on standard input, to standard output.
     Play(Option<&'a str>),
-    /// The report of the same script, and why jobs are not done, or why no report was written.
+    /// The report of the script, and why jobs are not done or no report was written.
     PlayVerbose(Option<&'a str>),
-    /// The report of the script, and what the run settles to or why it doesn't.
+    /// The report of the script, and a second one after the run has settled, or why it can't settle.
     PlaySettled(Option<&'a str>),
     /// The report of the script, and a ladder of its sessions after it.
     PlayDrawn(Option<&'a str>),
     /// Two ends over two folders, and a socket between them.
     Pair(PairTask<'a>),
-    /// One end over a folder, and the line to the other one.
+    /// One end, its folder, and its line to the other end.
     Call(CallTask<'a>),
-    /// A job to queue, or the list of those that wait.
+    /// A job to queue, or the list of jobs that wait.
     Queue(QueueTask<'a>),
-    /// A job that is cancelled.
+    /// A job to cancel.
     Cancel(CancelTask<'a>),
     /// The status of a folder, or of a system's part of a spool.
     Status(StatusTask<'a>),
@@ -65,25 +65,25 @@ pub struct PairTask<'a> {
     pub drop_every: Option<u32>,
     /// N, if every Nth packet is changed.
     pub flip_every: Option<u32>,
-    /// Set if they are to report why they gave up.
+    /// Set if the ends report why they gave up.
     pub is_loud: bool,
 }
 
-/// Returns the text of an argument, which is empty if it has none.
+/// Returns the value of an argument, or an empty text if it has none.
 fn text<'a>(matches: &ArgMatches<'a>, name: &str) -> &'a str
     ensures { result.now ≡ text_in (entries_of matches.now) name.now }
 {
     matches.get_str(name).unwrap_or("")
 }
 
-/// Returns the file that is read, if one is named.
+/// Returns the value of `FILE`, if it is given.
 fn file<'a>(matches: &ArgMatches<'a>) -> Option<&'a str>
     ensures { IsFileIn (entries_of matches.now) result }
 {
     word(matches, "FILE")
 }
 
-/// Returns the word of an argument, if it has one.
+/// Returns the value of an argument, if it has one.
 fn word<'a>(matches: &ArgMatches<'a>, name: &str) -> Option<&'a str>
     ensures { IsWordIn (entries_of matches.now) name.now result }
 {
@@ -104,7 +104,7 @@ fn number(matches: &ArgMatches<'_>, name: &str) -> Option<u32>
     matches.get_one::<u32>(name)
 }
 
-/// Returns the default packet size of an end, by the speed of its line in bits a second, if that is given.
+/// Returns the default packet size for a line of this speed in bits a second, if that is given.
 fn usual_size(speed: Option<u32>) -> u32
     ensures { result ≡ usual_size speed }
 {
@@ -124,8 +124,8 @@ fn size(matches: &ArgMatches<'_>) -> u32
     }
 }
 
-/// Returns the name of the other end. An end that is called over a spool may be given none, and lets in any that the
-/// spool knows.
+/// Returns the name of the other end, or an empty text if none is given. A called end over a spool needs none: it then
+/// lets in any system that the spool knows.
 fn peer<'a>(side: Side, matches: &ArgMatches<'a>) -> &'a str
     ensures { result.now ≡ peer_in side (entries_of matches.now) }
 {
@@ -181,7 +181,7 @@ fn end_task<'a>(side: Side, matches: &ArgMatches<'a>) -> CallTask<'a>
     }
 }
 
-/// Returns the task of two ends, from the words after `pair`. The three paths are required, and none is missing.
+/// Returns the task of two ends, from the words after `pair`. The parser requires all three paths.
 fn pair_task<'a>(matches: &ArgMatches<'a>) -> PairTask<'a>
     ensures { IsPairIn (entries_of matches.now) result }
 {
@@ -249,7 +249,7 @@ fn scan_task<'a>(matches: &ArgMatches<'a>) -> Task<'a>
     }
 }
 
-/// Returns the task of `play`. At most one of the options that say how is given.
+/// Returns the task of `play`. The parser takes at most one of the three options.
 fn play_task<'a>(matches: &ArgMatches<'a>) -> Task<'a>
     ensures { AsksIn (codes "play") (entries_of matches.now) result }
 {
@@ -280,8 +280,8 @@ fn task_of_tool<'a>(tool: &str, matches: &ArgMatches<'a>) -> Task<'a>
     }
 }
 
-/// Returns the task that the words of a command line ask for, the name of the program first. The error's text is the
-/// usage, or the help if that was asked for.
+/// Parses a command line, the program's name first, into the task that it asks for. The text of an error is the usage,
+/// or the help if that was asked for.
 pub fn task_of<'a, S: AsStr>(alloc: Global, words: &'a [S]) -> Result<Task<'a>, Error>
     ensures asks { IfOk result (Asks (map S.text words.entry.now)) }
     ensures refuses { IfErr result (λ error.

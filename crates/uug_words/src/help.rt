@@ -1,4 +1,4 @@
-//! The help of each tool: the text below its usage, and those of its options with a value.
+//! The help of each tool: the text after its usage, and the texts of options.
 
 pub const SCAN: &str = "A line for each packet, and a last one:
   INITA N, INITC N  the greatest window that the other end is to use

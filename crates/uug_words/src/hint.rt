@@ -2,8 +2,8 @@
 ghost use Rattle.std.specs.Prelude.{◌≡◌};
 ghost use Rattle.uug_words.specs.Hints.{hint_words, option_hint};
 
-/// Returns what to do about this word, if it is often mistaken for one of the program's, else an empty text.
-/// `is_first` says whether it is the first word behind the program's name, which is `tool`.
+/// Returns what to do about a word that is often mistaken for one of the program's, else an empty text. `tool` is the
+/// first word after the program's name, and `is_first` is set if `word` is that one.
 pub fn hint_words(tool: &[u8], is_first: bool, word: &[u8]) -> &'static str
     ensures { result.now ≡ hint_words tool.now is_first word.now }
 {
@@ -20,7 +20,7 @@ pub fn hint_words(tool: &[u8], is_first: bool, word: &[u8]) -> &'static str
     }
 }
 
-/// Returns what to do about an option that only the other end has.
+/// Returns what to do about an option that only the other end has, else an empty text.
 fn option_hint(tool: &[u8], word: &[u8]) -> &'static str
     ensures { result.now ≡ option_hint tool.now word.now }
 {

@@ -1,4 +1,4 @@
-//! The words of a command line of `uucpair`, the task that they ask for, and the faults of one that may not be run.
+//! Parses a command line of `uucpair` into a task, and words the remarks on a task that may not be run.
 #![tactic(auto)]
 
 mod command_line;

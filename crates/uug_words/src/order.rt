@@ -1,4 +1,4 @@
-//! The words for what is wrong with the order of a job to queue.
+//! The remarks on a bad order to queue a job.
 ghost use Rattle.std.specs.Prelude.{◌≡◌, ◌++◌, IfOk, OnOk, string_bytes};
 ghost use Rattle.uug_reason.specs.JobsWords.{is_order};
 ghost use Rattle.uug_words.specs.OrderWords.{full_remark, lack_words, no_order_words, order_remark, order_words};
@@ -7,8 +7,8 @@ use std::alloc::{AllocError, Allocator};
 use uug_disk::QueueTask;
 use uug_reason::{add_escaped, add_quoted};
 
-/// Returns what is wrong with the words of a job to queue: which is missing, or takes the place of another. The text is
-/// empty if nothing is, or nothing is ordered.
+/// Returns what is wrong with the words that queue a job: one is missing, or in the place of another. The text is empty
+/// if nothing is wrong, or nothing is ordered.
 pub fn order_remark<A: Allocator>(alloc: A, task: &QueueTask<'_>) -> Result<String<A>, AllocError>
     ensures { IfOk result (λ remark. string_bytes remark ≡ order_remark task.now) }
 {
@@ -46,7 +46,7 @@ fn add_lack<A: Allocator>(text: &mut String<A>, order: &str) -> Result<(), Alloc
     write!(text, "FILE is missing: uucpair queue DIR {order} FILE")
 }
 
-/// Appends that this is no order.
+/// Appends that this word is not an order, or that the folder has to precede it.
 fn add_no_order<A: Allocator>(
     text: &mut String<A>,
     dir: &str,
@@ -64,7 +64,7 @@ fn add_no_order<A: Allocator>(
     )
 }
 
-/// Returns that the jobs of this folder are as many as may wait, as a line for standard error.
+/// Returns a line for standard error: the queue of this folder is full.
 pub fn full_remark<A: Allocator>(alloc: A, dir: &str) -> Result<String<A>, AllocError>
     ensures { IfOk result (λ remark. string_bytes remark ≡ full_remark dir.now) }
 {

@@ -1,4 +1,4 @@
-//! The first wrong part of a task, for which it may not be run.
+//! Finds the first wrong part of a task that may not be run.
 ghost use Rattle.std.specs.Prelude.{◌≡◌, ◌≤◌, ◌↔◌, IfSome, IsTrue, MatchOption, true};
 ghost use Rattle.uug_link.specs.Terms.{IsSize};
 ghost use Rattle.uug_task.specs.Tasks.{IsTask};
@@ -14,7 +14,7 @@ use uug_transfer::{SPEED_MAX, SPEED_MIN, read_line_name};
 /// A part of the task of one end.
 #[derive(Clone, Copy, Debug, PartialEq, Eq)]
 pub enum Part {
-    /// The seconds that the line waits.
+    /// The timeout of the line, in seconds.
     Seconds,
     /// The speed of its line, in bits a second.
     Speed,
@@ -26,11 +26,11 @@ pub enum Part {
     Window,
     /// The packet size.
     Size,
-    /// The bytes of the files that it offers.
+    /// The maximum total size of the files that it offers, in bytes.
     Most,
-    /// The bytes of the greatest file that it gives or takes.
+    /// The maximum size of a file that it gives or takes, in bytes.
     FileLimit,
-    /// The days for which it holds a file that was cut off.
+    /// The days for which it keeps a partial file.
     KeepDays,
     /// The name of its line.
     Line,
@@ -38,7 +38,7 @@ pub enum Part {
     Me,
     /// The other end's name.
     Peer,
-    /// The other end's name, as that of its folder in a spool.
+    /// The other end's name, as the name of its folder in a spool.
     Place,
     /// The number of its sessions, which is more than one only at a socket.
     Turns,
@@ -125,7 +125,8 @@ fn is_within(number: Option<u32>, least: u32, most: u32) -> bool
     }
 }
 
-/// Returns whether the other end may have its name, or that is none.
+/// Returns whether the name of the other end has a place in the spool. An invalid name passes: `Part::Peer` is wrong
+/// then.
 fn is_place(task: &CallTask<'_>) -> bool
     ensures { IsTrue result ↔ IsRight task.now Part.Place }
 {
@@ -135,7 +136,7 @@ fn is_place(task: &CallTask<'_>) -> bool
     }
 }
 
-/// Returns whether an end may have this many sessions at its line, or that is none.
+/// Returns whether an end may have this many sessions at its line. An invalid line passes: `Part::Line` is wrong then.
 fn has_turns(task: &CallTask<'_>) -> bool
     ensures { IsTrue result ↔ IsRight task.now Part.Turns }
 {

@@ -1,10 +1,10 @@
-//! The options of one end that only a spool has.
+//! The options of one end that need a spool.
 ghost use Rattle.std.specs.Prelude.{◌≡◌};
 ghost use Rattle.uug_words.specs.SpoolOptions.{folder_option, lacks_spool, spool_option};
 
 use uug_task::CallTask;
 
-/// Returns whether an end that is over no spool is given an option that only a spool has.
+/// Returns whether an option that needs a spool is given to an end without one.
 pub fn lacks_spool(task: &CallTask<'_>) -> bool
     ensures { result ≡ lacks_spool task.now }
 {
@@ -28,7 +28,7 @@ pub(crate) fn spool_option(task: &CallTask<'_>) -> &'static str
     }
 }
 
-/// Returns the first of the options for the folders that are open whose list is not the default one.
+/// Returns the first of `--give` and `--take` whose list of open folders is not the default, or an empty text.
 fn folder_option(gives: &str, takes: &str) -> &'static str
     ensures { result.now ≡ folder_option gives.now takes.now }
 {

@@ -1,12 +1,12 @@
-//! The words for the target of a job that is queued, if an end won't take it.
+//! The remark on a queued job whose target an end refuses.
 ghost use Rattle.std.specs.Prelude.{◌≡◌, IfOk, string_bytes};
 ghost use Rattle.uug_words.specs.TargetWords.{dotted_remark, has_dot, target_remark, taker_words};
 
 use std::alloc::{AllocError, Allocator};
 use uug_disk::QueueTask;
 
-/// Returns that the target of a job has a dot in front, and who won't take it, as a line for standard error. It is empty
-/// if the target has none, or is not given.
+/// Returns a line for standard error: the name of the target begins with a dot, and which end refuses it. The line is
+/// empty if the name doesn't begin with a dot, or no target is given.
 pub fn target_remark<A: Allocator>(alloc: A, task: &QueueTask<'_>) -> Result<String<A>, AllocError>
     ensures { IfOk result (λ remark. string_bytes remark ≡ target_remark task.now) }
 {
@@ -16,7 +16,7 @@ pub fn target_remark<A: Allocator>(alloc: A, task: &QueueTask<'_>) -> Result<Str
     }
 }
 
-/// Returns the line for the target of this order, if it has a dot in front.
+/// Returns the line on this target of this order. It is empty if the target's name doesn't begin with a dot.
 fn dotted_remark<A: Allocator>(alloc: A, order: &str, target: &str) -> Result<String<A>, AllocError>
     ensures { IfOk result (λ remark.
         string_bytes remark ≡ dotted_remark order.now target.now) }
@@ -29,14 +29,14 @@ fn dotted_remark<A: Allocator>(alloc: A, order: &str, target: &str) -> Result<St
     }
 }
 
-/// Returns whether the name of a target in the folder of an end has a dot in front.
+/// Returns whether a target, `NAME`, `~/NAME` or `/NAME`, has a name that begins with a dot.
 fn has_dot(target: &[u8]) -> bool
     ensures { result ≡ has_dot target.now }
 {
     target.starts_with(b".") || target.starts_with(b"~/.") || target.starts_with(b"/.")
 }
 
-/// Returns who won't take such a target: the other end, if it is sent there, else this one.
+/// Returns which end refuses such a target: the other end if the file is sent there, else this one.
 fn taker_words(order: &str) -> &'static str
     ensures { result.now ≡ taker_words order.now }
 {

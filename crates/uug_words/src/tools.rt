@@ -1,4 +1,4 @@
-//! The tools of the program and their arguments, as the parser of the words takes them.
+//! The program's tools and their arguments, declared for the parser of the command line.
 ghost use Rattle.std.specs.Prelude.{◌≡◌, [], IfOk, codes};
 ghost use Rattle.clap.specs.Words.{Shape, app_of};
 ghost use Rattle.uug_words.specs.Tools.{IsArg, IsTool, alone, answer_tool, call_tool, end_rules, every_rule, excluding, file_rule, file_rules, flag_rule, folder_rule, name_rule, number_rule, optional_rule, pair_tool, path_rule, play_tool, program, queue_tool, scan_tool, status_tool, talk_rules, tool, uucpair, verbose_rule, with_arguments, word_rule};
@@ -10,18 +10,18 @@ use std::alloc::{AllocError, Global};
 /// The version of the program, which `--version` prints.
 pub const VERSION: &str = "0.1.0";
 
-/// The default window of an end, and the default seconds.
+/// The default window of an end, in packets, and its default timeout, in seconds.
 const WINDOW: &str = "7";
 
 const SECONDS: &str = "10";
 
-/// The default maximum for the bytes of files that an end offers in a session.
+/// The default maximum total size of the files that an end offers in a session, in bytes.
 const MOST: &str = "67108864";
 
-/// The default for the bytes of the greatest file that an end gives or takes.
+/// The default maximum size of a file that an end gives or takes, in bytes.
 const FILE_LIMIT: &str = "67108864";
 
-/// The default days for which an end holds a file that was cut off.
+/// The default number of days for which an end keeps a partial file.
 const KEEP_DAYS: &str = "30";
 
 /// The default number of sessions of a called end.
@@ -30,7 +30,7 @@ const SESSIONS: &str = "1";
 /// The default folder of the lock files of devices: that of Debian's programs.
 const LOCKS: &str = "/var/lock";
 
-/// The default of the folders that are open: the public folder of a spool.
+/// The default list of open folders: the public folder of a spool.
 const HOME: &str = "~";
 
 /// Returns the program with its tools and their arguments.
@@ -121,7 +121,7 @@ fn ladder<'a>(alloc: Global) -> Result<Arg<'a>, AllocError>
         .conflicts_with("settle")
 }
 
-/// Returns the tool that moves files.
+/// Returns the tool that moves files between two folders.
 fn pair_command<'a>(alloc: Global) -> Result<Command<'a>, AllocError>
     ensures { IfOk result (IsTool pair_tool) }
 {
@@ -143,7 +143,7 @@ fn pair_command<'a>(alloc: Global) -> Result<Command<'a>, AllocError>
     .arg(verbose(alloc, help::WHY))
 }
 
-/// Returns the tool that is a calling end at a line.
+/// Returns the tool that runs a calling end at a line.
 fn call_command<'a>(alloc: Global) -> Result<Command<'a>, AllocError>
     ensures { IfOk result (IsTool call_tool) }
 {
@@ -160,7 +160,7 @@ fn call_command<'a>(alloc: Global) -> Result<Command<'a>, AllocError>
     ))
 }
 
-/// Returns the tool that is a called end at a line.
+/// Returns the tool that runs a called end at a line.
 fn answer_command<'a>(alloc: Global) -> Result<Command<'a>, AllocError>
     ensures { IfOk result (IsTool answer_tool) }
 {
@@ -175,7 +175,7 @@ fn answer_command<'a>(alloc: Global) -> Result<Command<'a>, AllocError>
         .arg(number(alloc, "sessions", "N", help::SESSIONS, SESSIONS))
 }
 
-/// Returns the tool that is one end at a line, with its place and its name.
+/// Returns the tool that runs one end at a line, with the arguments for its line, its folder and its name.
 fn end_command<'a>(alloc: Global, name: &'a str, about: &'a str) -> Result<Command<'a>, AllocError>
     ensures { IfOk result (IsTool (tool name.entry.now end_rules)) }
 {
@@ -227,7 +227,7 @@ fn with_talk<'a>(alloc: Global, command: Command<'a>) -> Result<Command<'a>, All
         ))
 }
 
-/// Returns this tool with the options for what an end keeps, and where.
+/// Returns this tool with the options for the files of an end, its reports and its spool.
 fn with_files<'a>(alloc: Global, command: Command<'a>) -> Result<Command<'a>, AllocError>
     ensures { (before : Shape) → IsTool before command.entry
         → IfOk result (IsTool (with_arguments before file_rules)) }
@@ -311,7 +311,7 @@ fn status_command<'a>(alloc: Global) -> Result<Command<'a>, AllocError>
     .arg(folder(alloc, "locks", help::LOCKS_OF, LOCKS))
 }
 
-/// Returns the argument for the file that is read, if there is one.
+/// Returns the optional argument `FILE`.
 fn file<'a>(alloc: Global, help: &'a str) -> Arg<'a>
     ensures { IsArg file_rule result }
 {
@@ -352,21 +352,21 @@ fn verbose<'a>(alloc: Global, help: &'a str) -> Arg<'a>
     flag(alloc, "verbose", help).short('v')
 }
 
-/// Returns an option with an N.
+/// Returns an option that takes a number N, without a default.
 fn every<'a>(alloc: Global, name: &'a str, help: &'a str) -> Arg<'a>
     ensures { IsArg (every_rule name.entry.now) result }
 {
     whole(alloc, name, "N", help)
 }
 
-/// Returns an option with a number and this name for its value, which may be left out.
+/// Returns an option that takes a number, without a default. The help shows the number as `value`.
 fn whole<'a>(alloc: Global, name: &'a str, value: &'a str, help: &'a str) -> Arg<'a>
     ensures { IsArg (every_rule name.entry.now) result }
 {
     named(alloc, name, value, help).value_parser(value_parser!(u32))
 }
 
-/// Returns an option with a word.
+/// Returns an option that takes a word. The help shows the word as `value`.
 fn named<'a>(alloc: Global, name: &'a str, value: &'a str, help: &'a str) -> Arg<'a>
     ensures { IsArg (word_rule name.entry.now) result }
 {
@@ -377,21 +377,21 @@ fn named<'a>(alloc: Global, name: &'a str, value: &'a str, help: &'a str) -> Arg
         .help(help)
 }
 
-/// Returns an option with a folder, and this default.
+/// Returns an option that takes a folder, with this default.
 fn folder<'a>(alloc: Global, name: &'a str, help: &'a str, default: &'a str) -> Arg<'a>
     ensures { IsArg (folder_rule name.entry.now default.entry.now) result }
 {
     named(alloc, name, "FOLDER", help).default_value(default)
 }
 
-/// Returns an option with a name, which is required.
+/// Returns a required option that takes a name.
 fn end_name<'a>(alloc: Global, id: &'a str, help: &'a str) -> Arg<'a>
     ensures { IsArg (name_rule id.entry.now) result }
 {
     named(alloc, id, "NAME", help).required(true)
 }
 
-/// Returns an option with a number, and this default.
+/// Returns an option that takes a number, with this default.
 fn number<'a>(
     alloc: Global,
     name: &'a str,

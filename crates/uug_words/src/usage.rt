@@ -1,4 +1,4 @@
-//! The words for what is wrong with the usage.
+//! The remarks on bad usage.
 ghost use Rattle.std.specs.Prelude.{◌≡◌, ◌++◌, IfOk, OnOk, is_some, string_bytes};
 ghost use Rattle.uug_words.specs.UsageWords.{IsUsageOf, is_port, lack_words, line_words, name_words, pair_words, part_words, peer_words, place_words, range_words, spool_words, status_words, system_words};
 ghost use Rattle.uug_transfer.specs.FaultInjection.{is_in_range};
@@ -13,8 +13,8 @@ use uug_talk::Name;
 use uug_task::{CallTask, has_place};
 use uug_transfer::{EVERY_MAX, EVERY_MIN};
 
-/// Returns what is wrong with the task of one end that may not be run. Of one that may be run it says which option lacks
-/// a spool, if one does.
+/// Returns the first thing that is wrong with the task of one end. If nothing is, returns which option is given without
+/// the spool that it needs, if one is.
 pub fn usage_remark<A: Allocator>(alloc: A, task: &CallTask<'_>) -> Result<String<A>, AllocError>
     ensures { IfOk result (λ remark. IsUsageOf task.now (string_bytes remark)) }
 {
@@ -32,7 +32,7 @@ pub fn usage_remark<A: Allocator>(alloc: A, task: &CallTask<'_>) -> Result<Strin
     }
 }
 
-/// Appends which option of a task lacks a spool, if one does.
+/// Appends which option of a task is given without the spool that it needs, if one is.
 fn add_spool_lack<A: Allocator>(text: &mut String<A>, task: &CallTask<'_>) -> Result<(), AllocError>
     ensures { OnOk result
         (string_bytes text.new ≡ string_bytes text.old ++ spool_words task.now) }
@@ -48,8 +48,8 @@ fn add_spool_lack<A: Allocator>(text: &mut String<A>, task: &CallTask<'_>) -> Re
     }
 }
 
-/// Returns what is wrong with the N of every Nth packet that is lost, or is changed. If neither is wrong, the folders are
-/// one.
+/// Returns which N is out of range: that of the packets to lose, or of those to change. If neither is, returns that
+/// both folders are the same.
 pub fn pair_remark<A: Allocator>(
     alloc: A,
     drop_every: Option<u32>,
@@ -62,8 +62,8 @@ pub fn pair_remark<A: Allocator>(
     Ok(remark)
 }
 
-/// Returns what is wrong with the words of a person who asks for a status: a spool goes with a system in it. The text is
-/// empty if nothing is.
+/// Returns what is wrong with the words that ask for a status: a spool and the name of a system in it need each other.
+/// The text is empty if nothing is wrong.
 pub fn status_remark<A: Allocator>(alloc: A, task: &StatusTask<'_>) -> Result<String<A>, AllocError>
     ensures { IfOk result (λ remark. string_bytes remark
         ≡ status_words task.now.is_spool task.now.peer) }
@@ -86,7 +86,7 @@ fn add_status<A: Allocator>(text: &mut String<A>, task: &StatusTask<'_>) -> Resu
     }
 }
 
-/// Appends what is wrong with this as the name of a system in a spool.
+/// Appends what is wrong with the name of a system in a spool, if anything is.
 fn add_system<A: Allocator>(text: &mut String<A>, name: &str) -> Result<(), AllocError>
     ensures { OnOk result
         (string_bytes text.new ≡ string_bytes text.old ++ system_words name.now) }
@@ -98,7 +98,7 @@ fn add_system<A: Allocator>(text: &mut String<A>, name: &str) -> Result<(), Allo
     }
 }
 
-/// Appends what is wrong with the first of the two, or with the folders.
+/// Appends which N is out of range, or else that both folders are the same.
 fn add_every<A: Allocator>(
     text: &mut String<A>,
     drop_every: Option<u32>,
@@ -163,7 +163,7 @@ fn add_part<A: Allocator>(
     }
 }
 
-/// Appends that the number of this option is not in its range.
+/// Appends that the number of this option is out of range.
 fn add_range<A: Allocator>(
     text: &mut String<A>,
     option: &str,
@@ -179,7 +179,7 @@ fn add_range<A: Allocator>(
     }
 }
 
-/// Appends that this is no name of a system.
+/// Appends that this is not a valid name of a system.
 fn add_name<A: Allocator>(text: &mut String<A>, name: &str) -> Result<(), AllocError>
     ensures { OnOk result
         (string_bytes text.new ≡ string_bytes text.old ++ name_words name.now) }
@@ -189,7 +189,7 @@ fn add_name<A: Allocator>(text: &mut String<A>, name: &str) -> Result<(), AllocE
     text.push_str("\" is no name of a system: 1 to 200 printing characters without a space")
 }
 
-/// Appends that this is no name of the other end.
+/// Appends that the name of the other end is missing or invalid.
 fn add_peer<A: Allocator>(text: &mut String<A>, name: &str) -> Result<(), AllocError>
     ensures { OnOk result
         (string_bytes text.new ≡ string_bytes text.old ++ peer_words name.now) }
@@ -201,7 +201,7 @@ fn add_peer<A: Allocator>(text: &mut String<A>, name: &str) -> Result<(), AllocE
     }
 }
 
-/// Appends that this is no name of a system in a spool.
+/// Appends that a system in a spool can't have this name.
 fn add_place<A: Allocator>(text: &mut String<A>, name: &str) -> Result<(), AllocError>
     ensures { OnOk result
         (string_bytes text.new ≡ string_bytes text.old ++ place_words name.now) }
@@ -211,7 +211,7 @@ fn add_place<A: Allocator>(text: &mut String<A>, name: &str) -> Result<(), Alloc
     text.push_str("\" is no name of a system in a spool: it has no slash, and no dot in front")
 }
 
-/// Appends what is missing for this to be a line.
+/// Appends what is missing in the name of a line.
 fn add_line<A: Allocator>(text: &mut String<A>, line: &str) -> Result<(), AllocError>
     ensures { OnOk result
         (string_bytes text.new ≡ string_bytes text.old ++ line_words line.now) }
@@ -223,7 +223,7 @@ fn add_line<A: Allocator>(text: &mut String<A>, line: &str) -> Result<(), AllocE
     text.push_str(lack_words(line))
 }
 
-/// Returns what is missing in a line that is no device.
+/// Returns what is missing in a line that is not a device.
 fn lack_words(line: &str) -> &'static str
     ensures { result.now ≡ lack_words line.now }
 {

@@ -9,8 +9,8 @@ use std::alloc::{AllocError, Allocator};
 use uug_reason::add_escaped;
 use uug_transfer::{LineName, read_line_name};
 
-/// Returns where an end waits to be called at the line of this name. At a port it says so if only this machine can call
-/// there.
+/// Returns the place where an end waits to be called, at the line of this name. For a TCP port it adds that only this
+/// machine can call 127.0.0.1, or that no caller knows port 0.
 pub fn waiting_words<A: Allocator + Copy>(alloc: A, line: &str) -> Result<String<A>, AllocError>
     ensures { IfOk result (λ words. string_bytes words ≡ waiting_words line.now) }
 {
@@ -20,7 +20,7 @@ pub fn waiting_words<A: Allocator + Copy>(alloc: A, line: &str) -> Result<String
     }
 }
 
-/// Returns where an end waits at this line, which has this name.
+/// Returns the place where an end waits, at the line of this name.
 fn name_words<A: Allocator + Copy>(
     alloc: A,
     name: LineName<'_>,
@@ -37,7 +37,7 @@ fn name_words<A: Allocator + Copy>(
     }
 }
 
-/// Returns whether a line is a port without a host, which is on this machine.
+/// Returns whether a line is a TCP port without a host, which is on this machine.
 pub fn has_no_host(line: &str) -> bool
     ensures { result ≡ has_no_host line.now }
 {
@@ -47,7 +47,7 @@ pub fn has_no_host(line: &str) -> bool
     }
 }
 
-/// Returns whether a line is port 0 of a host, for which the system picks one that no caller knows.
+/// Returns whether a line is port 0 of a host. The system then picks a port that no caller knows.
 pub fn has_no_port(line: &str) -> bool
     ensures { result ≡ has_no_port line.now }
 {
@@ -57,21 +57,21 @@ pub fn has_no_port(line: &str) -> bool
     }
 }
 
-/// Returns the address of a line that is a port.
+/// Returns the address after `tcp:`, if the line is a TCP port.
 fn address_of(line: &str) -> Option<&str>
     ensures { option_copied result ≡ behind (codes "tcp:") line.now }
 {
     line.strip_prefix("tcp:")
 }
 
-/// Returns whether an address has a colon, which stands between its host and its port.
+/// Returns whether an address has a colon, which separates its host from its port.
 fn has_colon(address: &[u8]) -> bool
     ensures { result ≡ has_colon address.now }
 {
     address.contains(&b':')
 }
 
-/// Returns where an end waits at this port of this host.
+/// Returns the host and port where an end waits, and who can call there.
 fn tcp_words<A: Allocator + Copy>(alloc: A, host: &str, port: u16) -> Result<String<A>, AllocError>
     ensures { IfOk result (λ words. string_bytes words ≡ tcp_words host.now port) }
 {
@@ -82,7 +82,7 @@ fn tcp_words<A: Allocator + Copy>(alloc: A, host: &str, port: u16) -> Result<Str
     format!(in alloc; "{shown}:{port}{reach}")
 }
 
-/// Returns who can call this port, if only this machine can, or nobody knows it.
+/// Returns who can call this port: only this machine at 127.0.0.1, and nobody at port 0. Else the text is empty.
 fn reach_words<A: Allocator>(alloc: A, host: &str, port: u16) -> Result<String<A>, AllocError>
     ensures { IfOk result (λ words. string_bytes words ≡ reach_words host.now port) }
 {
@@ -98,7 +98,7 @@ fn reach_words<A: Allocator>(alloc: A, host: &str, port: u16) -> Result<String<A
     }
 }
 
-/// Returns a text in which all can be seen.
+/// Returns a text with its unprintable bytes escaped.
 fn escaped<A: Allocator>(alloc: A, text: &str) -> Result<String<A>, AllocError>
     ensures { IfOk result (λ shown. string_bytes shown ≡ escaped text.now) }
 {
