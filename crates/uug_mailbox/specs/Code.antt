@@ -1,3 +1,3 @@
--- How the code of this crate keeps what the other definitions say: no public contract names any of it.
+-- How the code of this crate meets the other definitions. No public contract names any of it.
 pub mod MailModes
 pub mod Parting

@@ -1,5 +1,5 @@
--- The commands that lines of C. files have run, and whom it is told that one was given up (that option R makes NOTIFY the one who
--- asks for it is Taylor UUCP's; the rest is this project's profile).
+-- The commands that lines of C. files run, and who is notified when one is given up (with option R the user in NOTIFY
+-- asks for the command, as in Taylor UUCP; the rest is this project's profile).
 use Rattle.std.specs.Prelude.{◌&&◌, not, ℕ, Bool, List, [], ◌∷◌, codes, Option, Some, None, Result, Ok, Err, if◌then◌else◌}
 use Rattle.std.specs.List.{list_any}
 use Rattle.std.specs.Option.{unwrap_or}
@@ -15,9 +15,10 @@ use Rattle.uug_mailbox.specs.declared.execution.Execution.{Execution}
 use Rattle.uug_mailbox.specs.declared.offer.NotOffered.{NotOffered}
 use Rattle.uug_mailbox.specs.declared.offer.Offer.{Offer}
 
--- ---- those of a line
+-- ---- the command of a line
 
--- who asks for a command: with option R, the name in NOTIFY; one that begins with a dash would be an option to the mailer
+-- who asks for a command: with option R, the name in NOTIFY; the mailer would read one that begins with a dash as an
+-- option
 abbrev pub requestor_of : (options notify : List ℕ) → Option (List ℕ)
 requestor_of options notify =
     if has_option 82 options && not (begins_with (codes "-") notify) then name_of notify else None
@@ -37,7 +38,7 @@ execution_by (Err why) requestor = None
 abbrev pub execution_of : (line : List ℕ) → Option Execution
 execution_of line = execution_by (offer_of line) (requestor_in (command_of line))
 
--- ---- where one of their jobs was given up
+-- ---- when one of their jobs was given up
 
 abbrev pub user_of : Job → List ℕ
 user_of (Send source target user temp) = user
@@ -48,10 +49,10 @@ abbrev pub requestor_at : List Execution → Job → Option (List ℕ)
 requestor_at [] job = None
 requestor_at (e ∷ more) job = if is_among job (e.input ∷ e.text ∷ []) then e.requestor else requestor_at more job
 
--- whom it is told: who asks for the command, else the user of the job
+-- who is notified: who asks for the command, or else the user of the job
 abbrev pub addressee : List Execution → Job → List ℕ
 addressee executions job = unwrap_or (requestor_at executions job) (user_of job)
 
--- the execution file of a command whose data was given up too: that is told already
+-- the job sends the execution file of a command whose data was given up too: the notice about the data is enough
 abbrev pub is_told_with_data : List Execution → (failed : List Job) → Job → Bool
 is_told_with_data executions failed job = list_any (λ e. is_among job (e.text ∷ []) && is_among e.input failed) executions

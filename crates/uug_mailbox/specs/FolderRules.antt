@@ -1,6 +1,6 @@
--- Says which files below the public folder a list of folders allows (that the last folder which holds a file decides, and that
--- an exclamation mark bars one, is Taylor UUCP's; that only the public folder and what is below it counts is this project's
--- profile).
+-- Says which files below the public folder a list of folders allows (that the last folder that holds a file decides,
+-- and that an exclamation mark bars a folder, is Taylor UUCP's; that only the public folder and folders below it count
+-- is this project's profile).
 use Rattle.std.specs.List.{ends_with}
 use Rattle.std.specs.Prelude.{◌==◌, ◌-◌, ◌&&◌, ◌||◌, not, ℕ, Bool, false, List, [], ◌∷◌, length, take, drop, codes, nat_eq, if◌then◌else◌}
 use Rattle.std.specs.Str.{bytes_eq}
@@ -11,13 +11,13 @@ use Rattle.uug_talk.specs.Words.{words}
 abbrev pub without_slash : List ℕ → List ℕ
 without_slash name = if ends_with nat_eq name (codes "/") then take (length name - 1) name else name
 
--- a path is that of a folder, or a slash comes behind that
+-- a path is the folder itself, or continues with a slash after it
 abbrev pub is_in : (folder path : List ℕ) → Bool
 is_in folder path =
     let rest = drop (length folder) path in
     begins_with folder path && (length rest == 0 || begins_with (codes "/") rest)
 
--- ~ and ~/ are the public folder, and ~/PATH is what is below it
+-- ~ and ~/ are the public folder, and ~/PATH is a folder below it
 abbrev pub holds : (folder path : List ℕ) → Bool
 holds folder path =
     if begins_with (codes "~/") folder then (length folder == 2 || is_in (without_slash (drop 2 folder)) path)

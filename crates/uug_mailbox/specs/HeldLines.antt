@@ -7,7 +7,7 @@ abbrev pub is_held : (unread : List (List ℕ)) → (copy : Option (List ℕ)) �
 is_held unread None = false
 is_held unread (Some copy) = has_name unread copy
 
--- such a line stays, and so do its copy and its C. file; no session offers it
+-- a held line stays, and so do its copy and its C. file; no session offers it
 abbrev pub held_line : (unread : List (List ℕ)) → OpenLine → OpenLine
 held_line unread line =
     record { file = line.file; number = line.number; copy = line.copy; job = if is_held unread line.copy then None else line.job }

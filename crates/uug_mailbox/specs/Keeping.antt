@@ -1,4 +1,4 @@
--- What is done on the disk when a file that comes is kept (this project's profile).
+-- The disk operations that keep a received file (this project's profile).
 use Rattle.std.specs.Prelude.{ℕ, List, [], Option, Some, None}
 use Rattle.uug_spool.specs.Operations.{Op}
 use Rattle.uug_spool.specs.declared.spool_names.Spot.{Spot}
@@ -8,7 +8,7 @@ use Rattle.uug_mailbox.specs.declared.mail_spool.MailSpool.{MailSpool}
 use Rattle.uug_mailbox.specs.declared.marks.Marks.{Marks}
 use Rattle.uug_mailbox.specs.declared.spool_folder.SpoolFolder.{SpoolFolder}
 
--- a name without a place has nothing done for it
+-- nothing is done for a name without a place
 abbrev pub ops_at : {D A : Type 0} → SpoolFolder D A → (place : Option Spot) → (bytes : List ℕ) → List Op
 ops_at folder None bytes = []
 ops_at folder (Some place) bytes = place_ops (marks_of folder) (came_of folder) place bytes
@@ -20,10 +20,10 @@ marks_at folder (Some place) bytes = marks_after (marks_of folder) (came_of fold
 abbrev pub place_for : {D N A : Type 0} → MailSpool D N A → (name : List ℕ) → Option Spot
 place_for spool name = place_in (shown_public spool.public) name
 
--- a file of this name and these bytes comes into its place
+-- the operations that store a file of this name and these bytes
 abbrev pub keep_ops : {D N A : Type 0} → MailSpool D N A → (name bytes : List ℕ) → List Op
 keep_ops spool name bytes = ops_at spool.folder (place_for spool name) bytes
 
--- the markers that stand then
+-- the markers after these operations
 abbrev pub keep_marks : {D N A : Type 0} → MailSpool D N A → (name bytes : List ℕ) → Marks
 keep_marks spool name bytes = marks_at spool.folder (place_for spool name) bytes

@@ -13,8 +13,8 @@ month_word month =
 
 -- ---- days of the week
 
--- so many days of the week is the first of a month behind that of its year, which begins in March: January and February are the
--- last months of the year before
+-- the offset of a month in the formula for the day of the week, in which years begin in March: January and February are
+-- the last months of the year before
 abbrev pub month_shift : ℕ → ℕ
 month_shift month =
     if month == 1 then 0 else (if month == 2 then 3 else (if month == 3 then 2 else
@@ -25,7 +25,8 @@ month_shift month =
 abbrev pub march_year : (year month : ℕ) → ℕ
 march_year year month = if nat_lt month 3 then year - 1 else year
 
--- from Sunday on: a year is a day of the week more, one in four another one, but three in four hundred none
+-- the day of the week, 0 for Sunday: each year shifts it by a day, and each leap year by one more (every fourth year,
+-- but for three in four hundred)
 abbrev pub weekday_in : (year month day : ℕ) → ℕ
 weekday_in year month day = (year + year / 4 + 6 * (year / 100) + year / 400 + month_shift month + day) % 7
 

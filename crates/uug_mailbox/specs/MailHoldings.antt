@@ -13,7 +13,7 @@ abbrev pub file_at : List Kept → Option (List ℕ) → Option File
 file_at files None = None
 file_at files (Some name) = first_named files name
 
--- the file under just this name, which is that of a copy or a path; else that of this name in the public folder
+-- the file of exactly this name, which is that of a copy or a path, or else the file of this name in the public folder
 abbrev pub given_by : List Kept → (name : List ℕ) → Option File → Option File
 given_by files name None = file_at files (local_source name)
 given_by files name (Some file) = Some file
@@ -21,13 +21,13 @@ given_by files name (Some file) = Some file
 abbrev pub given : List Kept → (name : List ℕ) → Option File
 given files name = given_by files name (first_named files name)
 
--- whether the file that is asked for by this name, which has this path in the public folder, may be given later
+-- whether the file requested by this name, at this path in the public folder, may be given later
 abbrev pub delayed_in : Public → (name : List ℕ) → (path : Option (List ℕ)) → Bool
 delayed_in public name None = false
 delayed_in public name (Some path) =
     if public.is_unknown then is_public_path path else (has_name public.delayed path || has_name public.delayed name)
 
--- a file can be put where it has a place
+-- a name without a place is refused
 abbrev pub is_refused : Public → (name : List ℕ) → Bool
 is_refused public name = is_none (place_in public name)
 

@@ -1,5 +1,5 @@
--- What a session offers of a line of a C. file (this project's profile; that a command which is run is sent as its data and an
--- execution file is what Taylor UUCP 1.07 does for an end that knows no E command).
+-- What a session offers for a line of a C. file (this project's profile; that a command is sent as its data and an
+-- execution file is what Taylor UUCP 1.07 does for an end without the E command).
 use Rattle.std.specs.Prelude.{ℕ, List, codes, Option, Some, None, Result, Ok, Err, if◌then◌else◌}
 use Rattle.uug_conversation.specs.declared.job.Job.TheVariants as job
 use Rattle.uug_talk.specs.Name.{name_of}
@@ -35,14 +35,14 @@ abbrev pub copy_named : Result (List ℕ) NotOffered → Result (Option (List �
 copy_named (Ok name) = Ok (Some name)
 copy_named (Err why) = Err why
 
--- Option C says that the data is a copy of this name. Else it is the file at the source's path: where there is none, a name may
--- stand in its place that many lines have.
+-- With option C the data is a copy of this name. Otherwise the data is the file at the source's path, and many lines
+-- may have the same name in the place of a copy's.
 abbrev pub copied : (options source temp : List ℕ) → Result (Option (List ℕ)) NotOffered
 copied options source temp =
     if has_option 67 options then copy_named (named temp) else
     (if begins_with (codes "/") source then Ok None else Err why.Relative)
 
--- it goes under the name of its copy, or of its source where there is none
+-- the file is fetched by the name of its copy, or of its source if it has none
 abbrev pub sending : JobNames → (copy : Option (List ℕ)) → Offer
 sending n copy = record { copy = copy; first = job.Send n.source n.target n.user copy; second = None }
 
@@ -53,11 +53,12 @@ abbrev pub requested : FieldWords → Result Offer NotOffered
 requested f = words_of f >>= (λ n.
     Ok (record { copy = None; first = job.Request n.source n.target n.user; second = None }))
 
--- the name that an execution file has here: as that of its copy, or where there is none as that of the data at the other system
+-- the local name of an execution file: made from the name of the data's copy, or without a copy from the data's name at
+-- the other system
 abbrev pub text_name : (options target temp : List ℕ) → Option (List ℕ)
 text_name options target temp = if has_option 67 options then execution_temp temp else execution_temp target
 
--- the data as it stands there, and the execution file, which is made in memory, under the names that it has at each try
+-- the data as it is on the disk, and the execution file, which is made in memory and has the same names at each try
 abbrev pub executed : FieldWords → FileWords → Result Offer NotOffered
 executed f w = sent f w >>= (λ offer. named f.user >>= (λ user.
     named_by (execution_target f.target) >>= (λ target. named_by (text_name f.options f.target w.temp) >>= (λ temp.

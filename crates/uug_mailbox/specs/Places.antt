@@ -1,5 +1,6 @@
--- Where a file goes that another system sends, by what stands in the public folder when the session begins (that a folder takes a
--- file under its source's last name is what Taylor UUCP 1.07 does; which places are barred is this project's profile).
+-- Where a file that another system sends is stored, given the contents of the public folder when the session begins
+-- (that a folder takes a file under the last part of its source's name is what Taylor UUCP 1.07 does; which places are
+-- barred is this project's profile).
 use Rattle.std.specs.Option.{option_map, unwrap_or}
 use Rattle.std.specs.Path.{rsplit_once, slash}
 use Rattle.std.specs.Prelude.{◌==◌, ◌&&◌, ◌||◌, not, ℕ, Bool, true, false, List, [], ◌++◌, length, codes, is_none, string_bytes, Option, Some, None, Result, Ok, Err, if◌then◌else◌}
@@ -17,11 +18,11 @@ use Rattle.uug_mailbox.specs.declared.places.PublicFolder.{PublicFolder}
 pub record Public : Type 0 where
   -- the folders in it
   pub folders : List (List ℕ)
-  -- the names under which nothing can be put there
+  -- the names under which no file can be stored there
   pub barred : List (List ℕ)
-  -- nothing can be put there at all
+  -- no file can be stored there at all
   pub is_closed : Bool
-  -- the names of the files that can't be given now, but later
+  -- the names of the files that can't be given now, but may be later
   pub delayed : List (List ℕ)
   -- its files could not be listed: each may be given later
   pub is_unknown : Bool
@@ -33,7 +34,7 @@ shown_public p = record { folders = p.folders.items; barred = p.barred.items; is
 
 -- ---- names
 
--- what stands behind the last slash of a path
+-- the part of a path after its last slash, or all of it
 abbrev pub last_part : List ℕ → List ℕ
 last_part path = unwrap_or (option_map (λ parts. parts.1) (rsplit_once slash path)) path
 
@@ -45,17 +46,17 @@ abbrev pub goes_public : Result Spot Barred → Bool
 goes_public (Ok target) = is_public target.room
 goes_public (Err why) = false
 
--- a name that is in the public folder by itself, and no path
+-- a name that a file directly in the public folder can have
 abbrev pub is_public_name : List ℕ → Bool
 is_public_name name = goes_public (spot_of name) && is_none (rsplit_once slash name)
 
 -- ---- the place
 
--- a folder's place is not that of a file
+-- no file of this name can be stored directly in the public folder
 abbrev pub is_taken : Public → (name : List ℕ) → Bool
 is_taken public name = public.is_closed || (has_name public.folders name || has_name public.barred name)
 
--- right in the public folder
+-- directly in the public folder
 abbrev pub top_place : Public → (name : List ℕ) → Option Spot
 top_place public name =
     if is_public_name name && not (is_taken public name) then Some (spot rooms.Public name) else None
@@ -68,11 +69,12 @@ abbrev pub is_path_by : (path : List ℕ) → Option (List ℕ × List ℕ) → 
 is_path_by path None = is_public_name path
 is_path_by path (Some parts) = is_public_last (name_of parts.0) && is_public_last (name_of parts.1)
 
--- a path below the public folder under which a file may be given: a name there, or that of a folder there, a slash and such a name
+-- a file may be given under this path below the public folder: it is a file's name, or a folder's name, a slash and a
+-- file's name
 abbrev pub is_public_path : (path : List ℕ) → Bool
 is_public_path path = is_path_by path (rsplit_once slash path)
 
--- in a folder there
+-- in a folder of the public folder
 abbrev pub deep_by : Public → (name : List ℕ) → Option (List ℕ × List ℕ) → Option Spot
 deep_by public name None = None
 deep_by public name (Some parts) =
@@ -87,7 +89,7 @@ abbrev pub placed : Public → (name : List ℕ) → Result Spot Barred → Opti
 placed public name (Ok target) = if is_public target.room then top_place public target.name else Some target
 placed public name (Err why) = deep_place public (name_of (local_name name))
 
--- the place of a file that comes under this name, if it has one
+-- the place of a file that arrives under this name, if it has one
 abbrev pub place_in : Public → (name : List ℕ) → Option Spot
 place_in public name = placed public name (spot_of name)
 
@@ -95,12 +97,12 @@ abbrev pub takes_at : Public → (place : Option Spot) → Bool
 takes_at public None = false
 takes_at public (Some target) = if is_public target.room then is_allowed public.taken target.name else true
 
--- whether a file is taken that the other system sends under this name: one that has a place, and in the public folder one that the
--- list of folders allows
+-- whether the other system may send a file under this name: it must have a place, and in the public folder the list of
+-- folders must allow it
 abbrev pub takes : Public → (name : List ℕ) → Bool
 takes public name = takes_at public (place_in public name)
 
--- the name that a file of this place has while it comes
+-- the name that a file of this place has while it is received
 abbrev pub temp_name : Spot → List ℕ
 temp_name target = unwrap_or (name_of (last_part target.name)) target.name
 
@@ -110,7 +112,7 @@ abbrev pub is_spooled : Result Spot Barred → Bool
 is_spooled (Ok target) = not (is_public target.room)
 is_spooled (Err why) = false
 
--- what stands in front of the names in this folder: nothing in the public folder itself
+-- the prefix of the names in this folder, which is empty for the public folder itself
 abbrev pub front_of : (folder : List ℕ) → List ℕ
 front_of folder = if length folder == 0 then [] else folder ++ codes "/"
 
@@ -122,8 +124,8 @@ abbrev pub landing_by : (source target : List ℕ) → (front : Option (List ℕ
 landing_by source target None = target
 landing_by source target (Some front) = unwrap_or (name_of (codes "~/" ++ front ++ last_part source)) target
 
--- A file that is sent to the public folder, or to a folder in it, goes there under the last part of its own name. Each other name
--- stays, and so does one that would get too long.
+-- A file sent to the public folder, or to a folder in it, is stored there under the last part of its source's name. Any
+-- other target stays as it is, and so does one whose path would be too long.
 abbrev pub landing : Public → (source target : List ℕ) → List ℕ
 landing public source target =
     if is_spooled (spot_of target) then target

@@ -1,4 +1,4 @@
--- How the files of another system come into their places (this project's profile).
+-- How files from another system are stored in their places (this project's profile).
 use Rattle.std.specs.Prelude.{◌&&◌, ◌||◌, ℕ, List, [], ◌∷◌, ◌++◌, Bool, true, false, not, Option, Some, None, codes, if◌then◌else◌}
 use Rattle.std.specs.List.{list_any}
 use Rattle.std.specs.Str.{bytes_eq}
@@ -23,9 +23,9 @@ came_of folder = folder.came.items
 abbrev pub marks_of : {D A : Type 0} → SpoolFolder D A → Marks
 marks_of folder = folder.marks
 
--- ---- files that had come
+-- ---- files that were received before
 
--- a line of an execution file that names a file which has to be there
+-- a line of an execution file that names a file that must exist
 abbrev pub names_file : List ℕ → Bool
 names_file line = begins_with (codes "F ") line
 
@@ -38,8 +38,8 @@ has_marker came name text = list_any (λ other. bytes_eq other.name name && byte
 abbrev pub has_same_text : {A : Type 0} → List (Came A) → (text : List ℕ) → Bool
 has_same_text came text = list_any (λ other. bytes_eq other.text.items text) came
 
--- A marker tells which file has come: by the text of an execution file, by the place of one in the public folder, and else by the
--- digest of its bytes.
+-- The text of a marker identifies the received file: it is an execution file's own text, the name of a file in the
+-- public folder, or else the digest of the bytes.
 abbrev pub marker_by : Room → (place bytes : List ℕ) → List ℕ
 marker_by rooms.Execution place bytes = bytes
 marker_by rooms.Public place bytes = place
@@ -48,9 +48,9 @@ marker_by _ place bytes = hash_text bytes
 abbrev pub marker_text : Spot → (bytes : List ℕ) → List ℕ
 marker_text target bytes = marker_by target.room target.name bytes
 
--- a file whose marker stood when the session began: its name alone does not tell, since names begin anew with a spool that is
--- made anew; an execution file that names its data may have another name, and is new where its data is; a name in the public
--- folder may come with another file
+-- whether the marker of a file existed when the session began: its name alone does not show that, as a sender with a
+-- new spool uses the same names again; an execution file that names its data may have another name, and is new if its
+-- data is; another file may be sent under a name in the public folder
 abbrev pub is_again : {A : Type 0} → Room → (is_new : Bool) → (came : List (Came A)) → (name bytes : List ℕ) → Bool
 is_again rooms.Public is_new came name bytes = false
 is_again rooms.Execution is_new came name bytes =
@@ -62,7 +62,7 @@ is_again room is_new came name bytes = has_marker came name (hash_text bytes)
 abbrev pub no_marks : Marks
 no_marks = record { before = None; last = None; is_new = false }
 
--- that of data stays when its execution file comes: both come again where the sender does not know of both
+-- the marker of data stays when its execution file arrives: both are sent again unless the sender knows of both
 abbrev pub keeps : Room → (last : Option (List ℕ)) → Bool
 keeps rooms.Execution (Some last) = begins_with (codes "D.") last
 keeps _ _ = false
@@ -84,24 +84,25 @@ abbrev pub is_mark : (mark : Option (List ℕ)) → (name : List ℕ) → Bool
 is_mark None name = false
 is_mark (Some mark) name = bytes_eq mark name
 
--- ---- what is done
+-- ---- the operations
 
 abbrev pub mark_ops : (mark : Option (List ℕ)) → List Op
 mark_ops None = []
 mark_ops (Some mark) = unlinked (spot rooms.Marked mark) ∷ []
 
--- the markers that stand go
+-- the markers that exist are removed
 abbrev pub end_ops : Marks → List Op
 end_ops marks = mark_ops marks.before ++ mark_ops marks.last
 
--- for good where the next file has the name of one of them: else the power could bring it back beside a file that is not whole
+-- the folder is synced if the next file has the name of a removed marker: a power cut could bring it back beside an
+-- incomplete file
 abbrev pub seen_ops : Marks → (name : List ℕ) → List Op
 seen_ops marks name = if is_mark marks.before name || is_mark marks.last name then folder_synced rooms.Marked ∷ [] else []
 
 abbrev pub unmark_ops : Marks → Room → (name : List ℕ) → List Op
 unmark_ops marks room name = if keeps room marks.last then [] else end_ops marks ++ seen_ops marks name
 
--- a file that had come already is dropped
+-- a file that was received before is dropped
 abbrev pub again_ops : (again : Bool) → (bytes : List ℕ) → Spot → List Op
 again_ops again bytes target =
     if again then [] else stored_ops (temp_name target) target (marker_text target bytes) bytes
@@ -113,7 +114,7 @@ abbrev pub place_ops : {A : Type 0} → Marks → (came : List (Came A)) → Spo
 place_ops marks came target bytes =
     unmark_ops marks target.room (temp_name target) ++ again_ops (came_again marks came target bytes) bytes target
 
--- the markers that stand when this file has come
+-- the markers once this file is received
 abbrev pub marks_after : {A : Type 0} → Marks → (came : List (Came A)) → Spot → (bytes : List ℕ) → Marks
 marks_after marks came target bytes =
     next_marks marks target.room (came_again marks came target bytes) (temp_name target)

@@ -1,5 +1,5 @@
--- What is written of a C. file of which some lines are over, and others are not (that it is written is this project's profile: Taylor
--- UUCP 1.07 does all lines again that have no copy).
+-- How a C. file is rewritten when some of its lines are over, and others are not (that it is rewritten is this
+-- project's profile: Taylor UUCP 1.07 does all lines without a copy again).
 use Rattle.std.specs.Prelude.{◌==◌, ◌&&◌, ℕ, suc, List, [], ◌∷◌, ◌++◌, Bool, true, false, not, is_none, map, if◌then◌else◌}
 use Rattle.std.specs.List.{list_any}
 use Rattle.std.specs.Str.{bytes_eq}
@@ -23,17 +23,17 @@ shown_text file = record { name = file.name; text = file.text.items }
 
 -- ---- which lines are over
 
--- one of these lines stands there, behind so many
+-- one of these lines is line `number` of the file, counted from 0
 abbrev pub has_number : (file : List ℕ) (number : ℕ) → List OpenLine → Bool
 has_number file number lines = list_any (λ line. line.number == number && bytes_eq line.file file) lines
 
--- the line there has gone, with all its jobs
+-- this line of the file is over, with all its jobs
 abbrev pub is_over_in : (file : List ℕ) (number : ℕ) (gone left : List OpenLine) → Bool
 is_over_in file number gone left = has_number file number gone && not (has_number file number left)
 
--- ---- which files are written anew
+-- ---- which files are rewritten
 
--- a line without a copy has gone: that of one with a copy tells that it is over
+-- the file has lost a line without a copy; a line with a copy is over as soon as the copy is gone
 abbrev pub has_lost : (file : List ℕ) (gone left : List OpenLine) → Bool
 has_lost file gone left =
     list_any (λ line. is_none line.copy && (bytes_eq line.file file && not (has_number file line.number left))) gone
@@ -43,7 +43,7 @@ is_rewritten file gone left = has_lost file gone left && has_line file left
 
 -- ---- their texts
 
--- an empty line stands for one that is over
+-- a line that is over becomes empty
 abbrev pub left_line : (is_over : Bool) (line : List ℕ) → List ℕ
 left_line true line = []
 left_line false line = line
@@ -59,7 +59,7 @@ text_after gone left f = record {
   text = if is_rewritten f.name gone left then left_lines f.name gone left 0 (lines f.text) else f.text;
 }
 
--- the lines with a word
+-- the lines that are not blank
 abbrev pub packed_line : (line : List ℕ) → List ℕ
 packed_line line = if is_blank line then [] else ended line
 
@@ -69,7 +69,7 @@ packed (line ∷ more) = packed_line line ++ packed more
 
 -- ---- what is written
 
--- those of these files that are written anew, by their texts
+-- the files that are rewritten, each with its new text
 abbrev pub rewritten : (gone left : List OpenLine) → List FileText → List FileText
 rewritten gone left [] = []
 rewritten gone left (f ∷ more) =
@@ -80,17 +80,17 @@ abbrev pub replacing : List FileText → List Op
 replacing [] = []
 replacing (f ∷ more) = replaced_ops (spot rooms.Commands f.name) f.text ++ replacing more
 
--- where these lines have gone and those stay: the lines that stay, of each file that has lost one
+-- each file that has lost a line without a copy, and has others, is rewritten with the lines that stay
 abbrev pub rewrite_ops : (gone left : List OpenLine) → List FileText → List Op
 rewrite_ops gone left files = replacing (rewritten gone left (map (text_after gone left) files))
 
--- ---- where jobs are over
+-- ---- when jobs are over
 
 abbrev pub texts_settled : (struck failed : List Job) → List OpenLine → List FileText → List FileText
 texts_settled struck failed lines files =
     map (text_after (gone_lines struck failed lines) (lines_after struck failed lines)) files
 
--- first the lines go whose copies or files tell it
+-- first copies and C. files are removed, and then C. files are rewritten
 abbrev pub settling_ops : (struck failed : List Job) → List OpenLine → List FileText → List Op
 settling_ops struck failed lines files =
     store_ops struck failed lines

@@ -8,10 +8,10 @@ use Rattle.uug_mailbox.specs.declared.work_store.WorkStore.{WorkStore}
 abbrev pub lines_of : {D A : Type 0} → WorkStore D A → List OpenLine
 lines_of store = store.lines.items
 
--- the C. files in which they stand, as they are on the disk but for the lines that are over
+-- the C. files of these lines, as they are on the disk but for the lines that are over
 abbrev pub files_of : {D A : Type 0} → WorkStore D A → List FileText
 files_of store = map shown_text store.files.items
 
--- nothing was done on the disk, or all of this is told
+-- nothing was done on the disk, or the whole notice was appended
 abbrev pub IsToldFirst : (notice : List ℕ) (told told_after : Option (List ℕ)) (done done_after : Option (List Op)) → Type 0
 IsToldFirst notice told told_after done done_after = (done_after ≡ done) ⊎ (told_after ≡ also_told notice told)

@@ -14,7 +14,7 @@ use uug_folder::first_jobs;
 use uug_session::{JOBS_MAX, Job, Queue};
 use uug_talk::{Name, split_line, split_word};
 
-/// Returns whether a line with this copy is over. `there` has the names of the data that is there.
+/// Returns whether a line with this copy is over: the copy is gone. `there` has the names of the data that exists.
 fn is_over(there: &[Name], copy: &Option<Name>) -> bool
     ensures { result ≡ is_over there.now copy.now }
 {
@@ -31,7 +31,7 @@ pub(crate) fn is_blank(line: &[u8]) -> bool
     split_word(line).is_none()
 }
 
-/// Appends the jobs of a line. `number` counts the lines before it in its file.
+/// Appends an open line for each job of a line. `number` is the number of lines before it in its file.
 fn add_jobs<A: Allocator>(
     lines: &mut Vec<OpenLine, A>,
     file: &Name,
@@ -57,7 +57,7 @@ fn add_jobs<A: Allocator>(
     Ok(())
 }
 
-/// Appends a line with a word, unless it is over.
+/// Appends the open lines of a line that is not blank. It has none if it is over.
 fn add_open<A: Allocator>(
     lines: &mut Vec<OpenLine, A>,
     file: &Name,
@@ -87,7 +87,7 @@ fn add_open<A: Allocator>(
     }
 }
 
-/// Appends a line of a C. file, unless it is over.
+/// Appends the open lines of a line of a C. file. It has none if it is blank or over.
 fn add_line<A: Allocator>(
     lines: &mut Vec<OpenLine, A>,
     file: &Name,
@@ -104,9 +104,9 @@ fn add_line<A: Allocator>(
     add_open(lines, file, number, line, there)
 }
 
-/// Appends the lines of a C. file of this name and text that are not over. `there` has the names of the data that is
-/// there. A line with a copy is over when the copy is gone, and so is one without a word. A line that has a command run
-/// is two open lines, and one that no session offers has no job.
+/// Appends the open lines of the C. file of this name and text. `there` has the names of the data that exists. A line
+/// is over if it is blank, or if it has a copy that is gone. A line that runs a command is two open lines. A line that
+/// no session can offer is an open line without a job.
 pub fn add_file<A: Allocator>(
     lines: &mut Vec<OpenLine, A>,
     file: &Name,
@@ -126,8 +126,8 @@ pub fn add_file<A: Allocator>(
     Ok(())
 }
 
-/// Returns the first jobs of these lines as a queue: at most `most`, and no more than may be pending. All of them are
-/// to be offered.
+/// Returns the first jobs of these lines as a queue: at most `most`, and at most `JOBS_MAX`. All are still to be
+/// offered.
 #[tactic(auto, using(crate::proofs::OpenLinesLemmas::whole_front, crate::proofs::OpenLinesLemmas::front_is_short))]
 pub fn queue_of<A: Allocator + Copy>(
     alloc: A,

@@ -11,7 +11,7 @@ use std::alloc::{AllocError, Allocator};
 use uug_spool::{Disk, DiskFailed, Room, Spot, replace};
 use uug_talk::{Name, split_line};
 
-/// A C. file as it was read.
+/// The name and the text of a C. file.
 #[derive(Drop)]
 pub struct CommandText<A: Allocator> {
     /// Its name.
@@ -20,21 +20,22 @@ pub struct CommandText<A: Allocator> {
     pub text: Vec<u8, A>,
 }
 
-/// Returns whether one of these lines is in the file of this name, after `number` others.
+/// Returns whether one of these lines is line `number` of this file, counted from 0.
 fn has_number(lines: &[OpenLine], file: &Name, number: usize) -> bool
     ensures { result ≡ has_number file.now number lines.now }
 {
     lines.iter().any(|line| line.number == number && line.file.as_bytes() == file.as_bytes())
 }
 
-/// Returns whether the line there is over, when these lines have gone and those stay.
+/// Returns whether line `number` of this file is over: it is among `gone`, and no job of it is among `left`.
 fn is_over_in(gone: &[OpenLine], left: &[OpenLine], file: &Name, number: usize) -> bool
     ensures { result ≡ is_over_in file.now number gone.now left.now }
 {
     has_number(gone, file, number) && !has_number(left, file, number)
 }
 
-/// Returns whether a line of this file has gone that had no copy to show that it is over.
+/// Returns whether this file has lost a line without a copy. Only the file can show that this line is over. A line with
+/// a copy is over as soon as the copy is gone.
 fn has_lost(gone: &[OpenLine], left: &[OpenLine], file: &Name) -> bool
     ensures { result ≡ has_lost file.now gone.now left.now }
 {
@@ -45,14 +46,14 @@ fn has_lost(gone: &[OpenLine], left: &[OpenLine], file: &Name) -> bool
     })
 }
 
-/// Returns whether the file of this name is to be written anew.
+/// Returns whether this file must be rewritten: it has lost a line without a copy, and has lines left.
 fn is_rewritten(gone: &[OpenLine], left: &[OpenLine], file: &Name) -> bool
     ensures { result ≡ is_rewritten file.now gone.now left.now }
 {
     has_lost(gone, left, file) && has_line(left, file)
 }
 
-/// Appends a line of a text, or an empty one in its place.
+/// Appends this line, or an empty one if it is over.
 fn add_left<A: Allocator>(
     text: &mut Vec<u8, A>,
     is_over: bool,
@@ -67,7 +68,7 @@ fn add_left<A: Allocator>(
     Ok(())
 }
 
-/// Returns the text of a file, when these lines have gone and those stay. A line that is over becomes an empty one: the
+/// Returns the text of a file once `gone` are over and `left` stay. A line that is over becomes empty, so that the
 /// others keep their numbers.
 fn left_text<A: Allocator>(
     alloc: A,
@@ -90,7 +91,7 @@ fn left_text<A: Allocator>(
     Ok(after)
 }
 
-/// Appends a line with a word.
+/// Appends a line, unless it is blank.
 fn add_packed<A: Allocator>(text: &mut Vec<u8, A>, line: &[u8]) -> Result<(), AllocError>
     ensures { OnOk result (text.new.items ≡ text.old.items ++ packed_line line.now) }
 {
@@ -102,7 +103,7 @@ fn add_packed<A: Allocator>(text: &mut Vec<u8, A>, line: &[u8]) -> Result<(), Al
     Ok(())
 }
 
-/// Returns the lines of a text that have a word.
+/// Returns the lines of a text that are not blank.
 fn packed<A: Allocator>(alloc: A, text: &[u8]) -> Result<Vec<u8, A>, AllocError>
     ensures { IfOk result (λ lines. lines.items ≡ packed (lines_of_text text.now)) }
 {
@@ -115,7 +116,7 @@ fn packed<A: Allocator>(alloc: A, text: &[u8]) -> Result<Vec<u8, A>, AllocError>
     Ok(lines)
 }
 
-/// Returns the text of a file, when these lines have gone and those stay.
+/// Returns this file once `gone` are over and `left` stay. Its text changes only if it must be rewritten.
 fn text_after<A: Allocator + Copy, B: Allocator>(
     alloc: A,
     file: &CommandText<B>,
@@ -135,7 +136,7 @@ fn text_after<A: Allocator + Copy, B: Allocator>(
     })
 }
 
-/// Returns the texts of these files, when these lines have gone and those stay.
+/// Returns these files once `gone` are over and `left` stay.
 pub(crate) fn texts_after<A: Allocator + Copy, B: Allocator>(
     alloc: A,
     files: &[CommandText<B>],
@@ -152,7 +153,8 @@ pub(crate) fn texts_after<A: Allocator + Copy, B: Allocator>(
     Ok(after)
 }
 
-/// Returns those of these files that are written anew, each with its new text.
+/// Returns the files that must be rewritten, each with its lines that are not blank. `files` are as `texts_after`
+/// returns them: a line that is over is empty.
 pub(crate) fn rewritten<A: Allocator + Copy, B: Allocator>(
     alloc: A,
     files: &[CommandText<B>],
@@ -174,7 +176,7 @@ pub(crate) fn rewritten<A: Allocator + Copy, B: Allocator>(
     Ok(texts)
 }
 
-/// Writes these C. files anew, one after the other.
+/// Rewrites these C. files, one after the other.
 #[tactic(auto, using(crate::proofs::RewritingLemmas::one_is_replaced_in_part))]
 pub(crate) fn replace_all<D: Disk, A: Allocator>(
     disk: &mut D,

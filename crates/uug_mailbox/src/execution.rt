@@ -1,4 +1,4 @@
-//! The commands that lines of C. files have run, and the addressee of the notice that one was given up.
+//! The commands that lines of C. files run, and who is notified when one is given up.
 ghost use Rattle.std.specs.Prelude.{◌≡◌};
 ghost use Rattle.uug_spool.specs.CommandLines.{command_of};
 ghost use Rattle.uug_mailbox.specs.Executions.{addressee, execution_of, execution_with, is_told_with_data, requestor_at, requestor_in, requestor_of, user_of};
@@ -9,7 +9,7 @@ use uug_session::Job;
 use uug_spool::{Command, has_option, read_command};
 use uug_talk::Name;
 
-/// The two jobs of a line that has a command run, and who asks for the command, if the line names one.
+/// The two jobs of a line that runs a command, and the user who asks for it, if the line names one.
 #[derive(Clone, Copy, Debug, PartialEq, Eq)]
 pub struct Execution {
     /// The job that sends the data.
@@ -20,7 +20,8 @@ pub struct Execution {
     pub requestor: Option<Name>,
 }
 
-/// Reads the command that a line of a C. file has run, without its line feed, if a session offers that.
+/// Reads the command of a line of a C. file, without its line feed. Returns `None` if the line runs no command, or no
+/// session can offer it.
 pub fn read_execution(line: &[u8]) -> Option<Execution>
     ensures exact { result ≡ execution_of line.now }
 {
@@ -52,8 +53,8 @@ fn requestor_in(line: &[u8]) -> Option<Name>
     }
 }
 
-/// Returns who asks for a command with these options and this field of NOTIFY. A field that begins with a dash names
-/// nobody: it would be an option to the mailer.
+/// Returns the user who asks for a command: with option `R`, the one in NOTIFY. A field that begins with a dash names
+/// nobody: the mailer would read it as an option.
 fn requestor_of(options: &[u8], notify: &[u8]) -> Option<Name>
     ensures { result ≡ requestor_of options.now notify.now }
 {
@@ -86,8 +87,8 @@ fn requestor_at(executions: &[Execution], job: &Job) -> Option<Name>
     None
 }
 
-/// Returns whom to notify that this job was given up: who asks for its command, if the line names one, and otherwise
-/// its user.
+/// Returns whom to notify that this job was given up: the user who asks for its command, if the line names one, or else
+/// the user of the job.
 pub fn addressee(executions: &[Execution], job: &Job) -> Name
     ensures { result ≡ addressee executions.now job.now }
 {
@@ -97,8 +98,8 @@ pub fn addressee(executions: &[Execution], job: &Job) -> Name
     }
 }
 
-/// Returns whether this job sends the execution file of a command whose data was given up too: that has a notice
-/// already.
+/// Returns whether this job sends the execution file of a command whose data was given up too. The notice about the
+/// data is enough.
 pub fn is_told_with_data(executions: &[Execution], failed: &[Job], job: &Job) -> bool
     ensures { result ≡ is_told_with_data executions.now failed.now job.now }
 {

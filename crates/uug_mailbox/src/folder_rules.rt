@@ -1,12 +1,13 @@
-//! A list of folders: the public folder, and folders in it, of which files are given or taken, or barred.
+//! A list of folders from which files may be given, or into which they may be sent: the public folder and folders in
+//! it, each allowed or barred.
 ghost use Rattle.std.specs.Prelude.{◌≡◌};
 ghost use Rattle.uug_mailbox.specs.FolderRules.{after_rule, holds, is_allowed, is_in};
 
 use crate::places::without_slash;
 use uug_talk::split_word;
 
-/// Returns whether a list of folders allows the file of this path below the public folder: the last folder that holds
-/// it decides. Taylor UUCP's lists `remote-send` and `remote-receive` mean the same.
+/// Returns whether a list of folders allows the file at this path below the public folder. The last folder of the list
+/// that holds the path decides. Taylor UUCP's lists `remote-send` and `remote-receive` mean the same.
 pub fn is_allowed(folders: &str, path: &[u8]) -> bool
     ensures { result ≡ is_allowed folders.now path.now }
 {
@@ -19,7 +20,7 @@ pub fn is_allowed(folders: &str, path: &[u8]) -> bool
     is_allowed
 }
 
-/// Returns whether a path is allowed after this folder of a list, which was allowed before it or not.
+/// Returns whether a path is allowed after this folder of a list. `before` is whether it was allowed before it.
 fn after_rule(before: bool, rule: &[u8], path: &[u8]) -> bool
     ensures { result ≡ after_rule before rule.now path.now }
 {
@@ -30,7 +31,8 @@ fn after_rule(before: bool, rule: &[u8], path: &[u8]) -> bool
     }
 }
 
-/// Returns whether a folder of a list holds a path below the public folder, which is `~`. It may have a slash at its end.
+/// Returns whether a folder of a list holds a path below the public folder. The public folder is `~`. A folder may have
+/// a slash at its end.
 fn holds(folder: &[u8], path: &[u8]) -> bool
     ensures { result ≡ holds folder.now path.now }
 {
@@ -40,7 +42,7 @@ fn holds(folder: &[u8], path: &[u8]) -> bool
     folder.len() == 2 || is_in(without_slash(&folder[2..]), path)
 }
 
-/// Returns whether a path is that of a folder, or of something in it.
+/// Returns whether a path is this folder, or is in it.
 fn is_in(folder: &[u8], path: &[u8]) -> bool
     ensures { result ≡ is_in folder.now path.now }
 {

@@ -7,7 +7,7 @@ use std::alloc::{AllocError, Allocator};
 use uug_conversation::has_name;
 use uug_talk::Name;
 
-/// Returns whether a line with this copy has data that can't be read. `unread` has the names of that data.
+/// Returns whether a line with this copy is held. `unread` has the names of the data that can't be read.
 fn is_held(unread: &[Name], copy: &Option<Name>) -> bool
     ensures { result ≡ is_held unread.now copy.now }
 {
@@ -32,8 +32,8 @@ fn held_line(unread: &[Name], line: &OpenLine) -> OpenLine
     }
 }
 
-/// Returns the lines, when the data of these names can't be read. A line with one of these copies stays as it is, and
-/// has no job.
+/// Returns these lines, without the job of each whose copy is in `unread`, the names of the data that can't be read.
+/// Nothing else changes.
 pub fn held_lines<A: Allocator>(
     alloc: A,
     lines: &[OpenLine],

@@ -16,20 +16,21 @@ ghost use Rattle.uug_mailbox.specs.declared.open_line.OpenLine.{OpenLine};
 ghost use Rattle.uug_mailbox.specs.declared.open_line.Outcome.{Outcome};
 ghost use Rattle.uug_mailbox.specs.declared.open_line.Outcome.TheVariants.{Done};
 
-/// States that when jobs of lines are over, the jobs of the lines that stay are the others, each as often.
+/// States that removing the lines of jobs that are over removes these jobs, each once, and no others.
 pub fn each_line_goes_with_its_job()
     ensures { (struck failed : List Job) (lines : List OpenLine)
         → jobs_of (lines_after struck failed lines) ≡ jobs_left (struck ++ failed) (jobs_of lines) }
 {}
 
-/// States that the first jobs of lines, which a session offers, are in the store of these lines.
+/// States that the store of these lines holds the jobs that a session offers: the first jobs of the lines.
 pub fn what_is_offered_stands_there()
     ensures { (lines : List OpenLine) (count : ℕ)
         → HoldsAtLeast (Some (jobs_of lines)) (take count (jobs_of lines)) }
 {}
 
-/// States that open lines stay, wherever a power cut stops the removal of others. While lines whose jobs are done are
-/// removed from the disk, the copy of each line that stays is as it was. So is its C. file, also if jobs have failed.
+/// States that open lines survive a power cut at any point of the removal of others. While lines whose jobs are done
+/// are removed, the copy of each line that stays is as it was. Its C. file is as it was too, also while lines whose
+/// jobs have failed are removed.
 pub fn what_is_open_stays()
     ensures copies { (over others : List OpenLine) (copy : List ℕ) (s : Standing) → has_copy copy others ≡ true
         → AfterEach (IsAsBefore s (data_spot copy)) (over_ops Done over others) s }
@@ -38,9 +39,9 @@ pub fn what_is_open_stays()
         → AfterEach (IsAsBefore s (spot rooms.Commands file)) (over_ops outcome over others) s }
 {}
 
-/// States that a received file is never there in part, wherever a power cut stops it. While a file of another system is
-/// put into its place and the markers of those before are removed, or while it is dropped because it had arrived
-/// before, its place has what it had before or the whole file.
+/// States that a received file never appears in part, wherever a power cut stops its storing. While the markers of
+/// earlier files are removed and the file is stored, its place holds what it held before, or the complete file. The
+/// same holds if the file is dropped because it was received before the session.
 pub fn what_comes_is_whole()
     ensures { (marks : Marks) (again : Bool) (name bytes : List ℕ) (place : Spot) (s : Standing)
         → is_place place.room ≡ true
@@ -48,7 +49,7 @@ pub fn what_comes_is_whole()
         (unmark_ops marks place.room name ++ again_ops again bytes place) s }
 {}
 
-/// States that a C. file is written anew as a whole. Wherever a power cut stops it, the file is as it was or the new
+/// States that a C. file is rewritten as a whole. Wherever a power cut stops this, the file is as it was, or the new
 /// one, complete.
 pub fn what_is_written_anew_is_whole()
     ensures { (file text : List ℕ) (s : Standing)

@@ -1,7 +1,6 @@
-//! The mail of one system in a spool of Taylor UUCP, as the jobs and files of an end: the lines of its C. files, the
-//! jobs that a session offers for them, the files that are removed when a job is over, and the places of the files that
-//! the other system sends.
-//! Nothing here calls the system.
+//! The mail of one system in a Taylor UUCP spool, as the jobs and files of an end: the lines of its C. files, the jobs
+//! that a session offers for them, the removal of jobs that are over, and the places of received files.
+//! Nothing here makes a system call.
 #![tactic(auto)]
 
 mod command_file;

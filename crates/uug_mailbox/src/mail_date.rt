@@ -24,7 +24,7 @@ pub fn month_word(month: u8) -> &'static str
     }
 }
 
-/// Returns the number of days of the week by which the months before this one shift it.
+/// Returns the offset of a month in the formula for the day of the week, in which years begin in March.
 fn month_shift(month: u8) -> u32
     ensures exact { result ≡ month_shift month }
     ensures small { result ≤ 6 }
@@ -56,7 +56,7 @@ fn march_year(year: u16, month: u8) -> u16
     }
 }
 
-/// Returns the day of the week, from Sunday on.
+/// Returns the day of the week, from 0 for Sunday to 6 for Saturday.
 fn weekday_of(moment: &Moment) -> u32
     ensures { result ≡ weekday_of moment.now }
 {

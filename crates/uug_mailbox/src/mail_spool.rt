@@ -26,25 +26,26 @@ use uug_talk::{FileDigest, MODE_MAX, Name};
 /// The settings of an end over a spool.
 #[derive(Clone, Copy)]
 pub struct MailSettings {
-    /// Set if it refuses what it can't read, and goes on.
+    /// Set if the end refuses what it can't read, and goes on.
     pub is_lenient: bool,
-    /// Set if it announces digests of its files, and compares those that are announced to it.
+    /// Set if the end announces digests of its files, and compares those announced to it.
     pub tells_digests: bool,
-    /// The size of the greatest file that it gives or takes.
+    /// The size of the largest file that the end gives or takes.
     pub limit: FileLimit,
 }
 
-/// The files of an end over a spool. A file that it gives is named by its copy or its path, or by its name in the
-/// public folder. A received one goes where its name says, with the public folder as it was when the session began.
+/// The files of an end over a spool. A file that it gives is found by the name of its copy, by its path, or by its name
+/// in the public folder. The place of a received file follows from its name and from the contents of the public folder
+/// when the session began.
 #[derive(Drop)]
 pub struct MailSpool<D, N, A: Allocator> {
     given: Vec<Stored<A>, A>,
     public: PublicFolder<A>,
-    /// Holds the first bytes of files that were cut off, if the end resumes such files.
+    /// The partial files that the end holds, if it resumes.
     partials: Option<Partials<A>>,
-    /// The notebook for what comes of a file, if the end resumes.
+    /// The notebook in which the end records received bytes, if it resumes.
     notebook: N,
-    /// The files that were kept, for clauses alone: the bytes are in the spool, and no longer in memory.
+    /// The files that were kept, for clauses only: their bytes are in the spool, and no longer in memory.
     kept: Vec<Snapshot<KeptFile<A>>, A>,
     /// The folders of the spool.
     pub folder: SpoolFolder<D, A>,
@@ -54,8 +55,8 @@ pub struct MailSpool<D, N, A: Allocator> {
 }
 
 impl<D: Disk, N: Notebook, A: Allocator + Copy> MailSpool<D, N, A> {
-    /// Makes the spool with these files to give, over these folders, that has kept none, and holds this of files that
-    /// were cut off. It takes no memory.
+    /// Makes a spool that gives these files, stores into these folders, has kept none, and holds these partial files.
+    /// It allocates nothing.
     pub fn new(
         alloc: A,
         given: Vec<Stored<A>, A>,
@@ -85,7 +86,7 @@ impl<D: Disk, N: Notebook, A: Allocator + Copy> MailSpool<D, N, A> {
         }
     }
 
-    /// Returns what its end holds of files that were cut off.
+    /// Returns the partial files that the end holds.
     pub fn partials(&self) -> &Option<Partials<A>>
         ensures { result.now ≡ self.now.partials }
     {
@@ -130,7 +131,7 @@ impl<D: Disk, N: Notebook, A: Allocator + Copy> Spool for MailSpool<D, N, A> {
         }
     }
 
-    /// Puts the file in its place by just the operations that its name, its bytes and the markers say.
+    /// Stores the file in its place. The disk operations follow from its name, its bytes and the markers.
     fn keep(&mut self, name: &Name, mode: u16, bytes: &[u8]) -> Result<(), KeepFault>
         requires { mode ≤ MODE_MAX }
         ensures done { OnOk result (D.done self.new.folder.disk
@@ -156,7 +157,7 @@ impl<D: Disk, N: Notebook, A: Allocator + Copy> Spool for MailSpool<D, N, A> {
         let Some(target) = self.public.place_in(name) else {
             return Err(KeepFault::Refused);
         };
-        // All memory is taken before the disk is touched.
+        // All memory is allocated before the disk is touched.
         let Ok(file) = kept_beside_room(&mut self.kept, self.alloc, name, mode, bytes) else {
             return Err(KeepFault::Memory);
         };
@@ -207,7 +208,8 @@ impl<D: Disk, N: Notebook, A: Allocator + Copy> Spool for MailSpool<D, N, A> {
     } };
 }
 
-/// Returns whether the file that is asked for by this name, which has this path in the public folder, may be given later.
+/// Returns whether the file requested by this name may be given later. `path` is its path in the public folder, if that
+/// is a valid name.
 fn is_delayed_in<A: Allocator>(public: &PublicFolder<A>, name: &Name, path: &Option<Name>) -> bool
     ensures { result ≡ delayed_in (shown_public public.now) name.now path.now }
 {
@@ -221,7 +223,7 @@ fn is_delayed_in<A: Allocator>(public: &PublicFolder<A>, name: &Name, path: &Opt
         || has_name(public.delayed.as_slice(), name.as_bytes())
 }
 
-/// Returns the file under just this name, or else that of this name in the public folder.
+/// Returns the file of exactly this name, or else the one of this name in the public folder.
 fn given<'a, A: Allocator>(files: &'a [Stored<A>], name: &Name) -> Option<FileView<'a>>
     ensures { shown_file result ≡ given (map kept_of files.now) name.now }
 {
@@ -254,7 +256,7 @@ fn first_named<'a, A: Allocator>(files: &'a [Stored<A>], name: &Name) -> Option<
     None
 }
 
-/// Makes room for one more file, and describes it.
+/// Reserves room for one more kept file, and returns its description.
 fn kept_beside_room<A: Allocator + Copy>(
     kept: &mut Vec<Snapshot<KeptFile<A>>, A>,
     alloc: A,

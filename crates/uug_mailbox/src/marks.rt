@@ -1,4 +1,4 @@
-//! The markers of received files, and which of them are there.
+//! The markers of received files: those of earlier sessions, and those of this one.
 ghost use Rattle.std.specs.Prelude.{◌≡◌};
 ghost use Rattle.std.specs.List.{list_any};
 ghost use Rattle.uug_talk.specs.Lines.{lines};
@@ -8,29 +8,29 @@ use std::alloc::Allocator;
 use uug_spool::Room;
 use uug_talk::{Name, hash_text, split_line};
 
-/// A marker that was there when the session began. Its file is in its place, or was used up there, and may be sent
+/// A marker that existed when the session began. Its file is in its place, or was used up there. The file may be sent
 /// again.
 #[derive(Drop)]
 pub struct Came<A: Allocator> {
     /// Its name, which is that of its file.
     pub name: Name,
-    /// Its text: that of an execution file, or the digest of data.
+    /// Its text: an execution file's own text, or the digest of data.
     pub text: Vec<u8, A>,
 }
 
-/// The files of this session whose markers are there.
+/// The files received in this session that still have markers.
 #[derive(Clone, Copy, Debug, PartialEq, Eq)]
 pub struct Marks {
-    /// The data received with the last file, if that is an execution file.
+    /// The data received just before the last file, if that is an execution file.
     pub before: Option<Name>,
     /// The last file.
     pub last: Option<Name>,
-    /// True if the last file is data that was not received before the session.
+    /// Set if the last file is data that was not received before the session.
     pub is_new: bool,
 }
 
-/// Returns whether a received execution file leaves the marker of the last file, which is data. The sender has not sent
-/// the last of the two for good before it knows of both.
+/// Returns whether the marker of the last file stays when a file for this room arrives: the last file is data, and the
+/// new one an execution file. The sender may send both again until it knows that both were received.
 pub(crate) fn keeps(room: Room, last: &Option<Name>) -> bool
     ensures { result ≡ keeps room last.now }
 {
@@ -40,15 +40,15 @@ pub(crate) fn keeps(room: Room, last: &Option<Name>) -> bool
     }
 }
 
-/// Returns whether files of this place are the data of execution files.
+/// Returns whether files of this room are the data of execution files.
 fn is_data(room: Room) -> bool
     ensures { result ≡ is_data room }
 {
     matches!(room, Room::Data | Room::Text)
 }
 
-/// Returns the markers that are there once a file of this place and name is received, which was received before the
-/// session or not.
+/// Returns the marks once a file of this room and name is received. `again` is whether it was received before the
+/// session.
 pub(crate) fn next_marks(marks: &Marks, room: Room, again: bool, name: &Name) -> Marks
     ensures { result ≡ next_marks marks.now room again name.now }
 {
@@ -64,7 +64,7 @@ pub(crate) fn next_marks(marks: &Marks, room: Room, again: bool, name: &Name) ->
     }
 }
 
-/// Returns whether this marker has the name.
+/// Returns whether there is a marker and it has this name.
 pub(crate) fn is_mark(mark: &Option<Name>, name: &Name) -> bool
     ensures { result ≡ is_mark mark.now name.now }
 {
@@ -74,7 +74,7 @@ pub(crate) fn is_mark(mark: &Option<Name>, name: &Name) -> bool
     }
 }
 
-/// Returns whether the text of an execution file names a file that has to be there.
+/// Returns whether the text of an execution file names a file that must exist.
 fn names_data(text: &[u8]) -> bool
     ensures { result ≡ names_data text.now }
 {
@@ -102,10 +102,11 @@ fn has_same_text<A: Allocator>(came: &[Came<A>], text: &[u8]) -> bool
     came.iter().any(|other| other.text.as_slice() == text)
 }
 
-/// Returns whether a file of this place, name and bytes was received before the session. Its name alone does not show
-/// that: names begin anew with a spool that is made anew. An execution file is new if the data before it is. Otherwise
-/// it is known by its text as well, because Taylor UUCP gives it another name at each try: the name of its data is in
-/// it.
+/// Returns whether a file of this room, name and bytes was received before the session. Its name alone does not show
+/// that: a sender with a new spool uses the same names again. An execution file is new if the data received just before
+/// it is new. Otherwise, if it names its data, its text alone identifies it: Taylor UUCP gives it another name at each
+/// try, but its text has the name of its data. A file in the public folder always counts as new: another may be sent
+/// under its name.
 pub(crate) fn is_again<A: Allocator>(
     room: Room,
     is_new: bool,

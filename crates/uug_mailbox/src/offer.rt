@@ -18,28 +18,29 @@ use uug_talk::Name;
 pub struct Offer {
     /// The name of the data, if it is a copy.
     pub copy: Option<Name>,
-    /// The job, or that of the data if a command is run with it.
+    /// The job. If the line runs a command, this job sends the data.
     pub first: Job,
-    /// The job that sends the execution file of a command that is run.
+    /// The job that sends the execution file, if the line runs a command.
     pub second: Option<Job>,
 }
 
-/// The reason for which a session offers nothing for a line of a C. file.
+/// The reason why a session offers nothing for a line of a C. file.
 #[derive(Clone, Copy, Debug, PartialEq, Eq, Error)]
 pub enum NotOffered {
-    /// The line is no command.
+    /// The line is not a valid command.
     #[error("{0}")]
     Bad(CommandFault),
-    /// The line has a wildcard expanded at the other system.
+    /// The line asks the other system to expand a wildcard.
     #[error("a wildcard for the other system")]
     Wildcard,
-    /// The names of the line are quoted: one of them may have bytes that no command of a session has.
+    /// The names of the line are quoted: they may have bytes that no command of a session can have.
     #[error("quoted names")]
     Quoted,
-    /// A name of the line is longer than a name of a session, or has other bytes, or is that of no data.
+    /// A name of the line is too long for a session, has bytes that no name of a session has, or is not the name of
+    /// data where one is needed.
     #[error("a name that no session has")]
     Name,
-    /// The data of the line is no copy, and the path of its source isn't whole.
+    /// The data of the line is not a copy, and the path of its source is not absolute.
     #[error("a path that is not whole")]
     Relative,
 }
@@ -52,7 +53,7 @@ struct JobNames {
     user: Name,
 }
 
-/// Returns the name that a word is.
+/// Reads a word as a name.
 fn named(word: &[u8]) -> Result<Name, NotOffered>
     ensures { result ≡ named word.now }
 {
@@ -81,8 +82,8 @@ fn words_of(fields: &Fields<'_>) -> Result<JobNames, NotOffered>
     })
 }
 
-/// Returns the name of the copy, if the options say that the data is one of this name. Otherwise the data is the file
-/// at the source's path.
+/// Returns the name of the copy, if the options say that the data is a copy. Otherwise the data is the file at the path
+/// `source`, which must be absolute.
 fn copied(options: &[u8], source: &[u8], temp: &[u8]) -> Result<Option<Name>, NotOffered>
     ensures { result ≡ copied options.now source.now temp.now }
 {
@@ -113,7 +114,7 @@ fn sent(fields: &Fields<'_>, file: &SentFile<'_>) -> Result<Offer, NotOffered>
     Ok(sending(&names, &copy))
 }
 
-/// Makes a job that sends a file, and nothing with it.
+/// Makes the offer of one job, which sends a file.
 fn sending(names: &JobNames, copy: &Option<Name>) -> Offer
     ensures { result ≡ sending names.now copy.now }
 {
@@ -144,7 +145,8 @@ fn requested(fields: &Fields<'_>) -> Result<Offer, NotOffered>
     })
 }
 
-/// Returns the name that an execution file has here.
+/// Returns the local name of an execution file. It is derived from the name of the data's copy, or without a copy from
+/// the data's name at the other system.
 pub fn text_name(options: &[u8], target: &[u8], temp: &[u8]) -> Option<Name>
     ensures { result ≡ text_name options.now target.now temp.now }
 {
@@ -174,8 +176,9 @@ fn executed(fields: &Fields<'_>, file: &SentFile<'_>) -> Result<Offer, NotOffere
     })
 }
 
-/// Returns the jobs that a session offers for a line of a C. file, without its line feed. A line that has a command run
-/// is two jobs: its data, and the execution file, whose names are those of the data with an `X`, the same at each try.
+/// Returns the jobs that a session offers for a line of a C. file, without its line feed. A line that runs a command is
+/// two jobs: one sends the data, the other the execution file. The names of the execution file are those of the data
+/// with an `X`, and so the same at each try.
 pub fn read_offer(line: &[u8]) -> Result<Offer, NotOffered>
     ensures exact { result ≡ offer_of line.now }
 {

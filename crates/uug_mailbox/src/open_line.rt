@@ -4,18 +4,19 @@ use uug_talk::Name;
 /// The outcome of a job that is over.
 #[derive(Clone, Copy, Debug, PartialEq, Eq)]
 pub enum Outcome {
-    /// The other end has its file.
+    /// Its file is stored at the receiving end.
     Done,
-    /// It was refused for good.
+    /// It was given up.
     Failed,
 }
 
-/// A line of a C. file that is not over, or one of the two jobs of a line that has a command run.
+/// An open line of a C. file: one that is not over. A line that runs a command is two open lines, one for each of its
+/// jobs.
 #[derive(Clone, Copy, Debug, PartialEq, Eq)]
 pub struct OpenLine {
     /// The name of its C. file.
     pub file: Name,
-    /// The number of lines before it there.
+    /// The number of lines before it in that file.
     pub number: usize,
     /// The name of its data, if the data is a copy.
     pub copy: Option<Name>,

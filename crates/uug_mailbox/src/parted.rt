@@ -9,20 +9,21 @@ use std::alloc::{AllocError, Allocator};
 use uug_folder::take_first;
 use uug_session::Job;
 
-/// Lines in the order in which they go, and those that stay.
+/// Lines in the order of their removal, and those that stay.
 #[derive(Drop)]
 pub(crate) struct Parted<A: Allocator, B: Allocator> {
-    /// Those whose jobs are done, then those whose jobs have failed, then those that stay.
+    /// The lines whose jobs are done, then those whose jobs have failed, then those that stay.
     pub(crate) order: Vec<OpenLine, B>,
-    /// The number of those that are done.
+    /// The number of lines whose jobs are done.
     pub(crate) done: usize,
-    /// The number of those after them that have failed.
+    /// The number of lines after them whose jobs have failed.
     pub(crate) failed: usize,
-    /// Those that stay.
+    /// The lines that stay.
     pub(crate) left: Vec<OpenLine, A>,
 }
 
-/// Divides these lines by the jobs that are over, each once: those that were done, and those that have failed.
+/// Divides these lines: the jobs in `struck` are done, and those in `failed` have failed. Each of these jobs counts for
+/// one line.
 pub(crate) fn divided<A: Allocator + Copy, B: Allocator + Copy>(
     alloc: A,
     spare: B,
@@ -48,8 +49,8 @@ pub(crate) fn divided<A: Allocator + Copy, B: Allocator + Copy>(
     })
 }
 
-/// Appends each line whose job is one of these, once for each of them, to those that go, and each other line to those
-/// that stay.
+/// Appends each line whose job is in `over` to `gone`, and each other line to `left`. A job in `over` counts for one
+/// line.
 fn part<A: Allocator, B: Allocator, C: Allocator>(
     spare: B,
     over: &[Job],
@@ -71,7 +72,7 @@ fn part<A: Allocator, B: Allocator, C: Allocator>(
     Ok(())
 }
 
-/// Removes this job from those that are over, if it is among them. Returns whether it was.
+/// Removes this job once from `over`, if it is there. Returns whether it was.
 fn is_taken<A: Allocator>(over: &mut Vec<Job, A>, job: &Option<Job>) -> bool
     ensures { IsTaken result (without_said job.now over.old.items) over.old.items over.new.items }
 {

@@ -1,4 +1,4 @@
-//! The place of a file that another system sends, by what is in the public folder when the session begins.
+//! The place of a file that another system sends, given the contents of the public folder when the session begins.
 ghost use Rattle.std.specs.Path.{rsplit_once, slash};
 ghost use Rattle.std.specs.Prelude.{◌≡◌, ◌++◌, MatchOption, None, Some, codes};
 ghost use Rattle.uug_mailbox.specs.FolderRules.{without_slash};
@@ -13,7 +13,8 @@ use uug_conversation::has_name;
 use uug_spool::{Barred, Room, Spot, local_name, spot_of};
 use uug_talk::{NAME_MAX, Name};
 
-/// The most bytes of a path below the public folder: two names, a tilde and two slashes.
+/// The maximum size of a path below the public folder, in bytes: two names of `NAME_MAX` bytes in all, a tilde and two
+/// slashes.
 const PATH_MAX: usize = NAME_MAX + 3;
 
 /// The contents of the public folder when a session begins.
@@ -21,15 +22,15 @@ const PATH_MAX: usize = NAME_MAX + 3;
 pub struct PublicFolder<A: Allocator> {
     /// The names of its folders.
     pub folders: Vec<Name, A>,
-    /// The names under which nothing can be put there.
+    /// The names under which no file can be stored there.
     pub barred: Vec<Name, A>,
-    /// True if nothing can be put there at all.
+    /// Set if no file can be stored there at all.
     pub is_closed: bool,
     /// The names of the files that can't be given now, but may be later.
     pub delayed: Vec<Name, A>,
-    /// True if its files could not be listed: each may be given later.
+    /// Set if its files could not be listed: each may be given later.
     pub is_unknown: bool,
-    /// The folders into which the other system may send files: a list of them (see `is_allowed`).
+    /// The list of folders into which the other system may send files (see `is_allowed`).
     pub taken: String<A>,
 }
 
@@ -44,7 +45,7 @@ pub fn split_last(path: &str) -> Option<(&str, &str)>
     }
 }
 
-/// Returns the part of a name after the last slash.
+/// Returns the part of a name after its last slash, or all of it.
 fn last_part(name: &Name) -> &[u8]
     ensures { result.now ≡ last_part name.now }
 {
@@ -54,7 +55,7 @@ fn last_part(name: &Name) -> &[u8]
     }
 }
 
-/// Returns whether a name is in the public folder by itself, and no path.
+/// Returns whether this can be the name of a file directly in the public folder.
 fn is_public_name(name: &Name) -> bool
     ensures { result ≡ is_public_name name.now }
 {
@@ -65,16 +66,16 @@ fn is_public_name(name: &Name) -> bool
 }
 
 impl<A: Allocator> PublicFolder<A> {
-    /// Returns the place of a file that arrives under this name, if it has one. A folder there takes the files whose
-    /// names begin with its own and a slash. No name with a further slash is taken.
+    /// Returns the place of a file that arrives under this name, or `None` if it has none. A file whose name begins
+    /// with that of a folder there and a slash goes into this folder. A name with a further slash has no place.
     pub fn place_in(&self, name: &Name) -> Option<Spot>
         ensures { result ≡ place_in (shown_public self.now) name.now }
     {
         self.placed(name, spot_of(name))
     }
 
-    /// Returns whether a file is taken that the other system sends under this name: one that has a place. If that is in
-    /// the public folder, the list of folders has to allow it.
+    /// Returns whether the other system may send a file under this name. The file must have a place. If that is in the
+    /// public folder, the list of folders must allow it.
     pub fn takes(&self, name: &Name) -> bool
         ensures { result ≡ takes (shown_public self.now) name.now }
     {
@@ -105,7 +106,7 @@ impl<A: Allocator> PublicFolder<A> {
         }
     }
 
-    /// Returns whether nothing can be put right in the folder under this name.
+    /// Returns whether no file of this name can be stored directly in the public folder.
     fn is_taken(&self, name: &Name) -> bool
         ensures { result ≡ is_taken (shown_public self.now) name.now }
     {
@@ -136,7 +137,7 @@ impl<A: Allocator> PublicFolder<A> {
         }
     }
 
-    /// Returns the place of this name in a folder there.
+    /// Returns the place of this name in a folder of the public folder.
     fn deep_by(&self, name: &Name) -> Option<Spot>
         ensures { result ≡ deep_by (shown_public self.now) name.now (rsplit_once slash name.now) }
     {
@@ -159,8 +160,9 @@ impl<A: Allocator> PublicFolder<A> {
 }
 
 impl<A: Allocator> PublicFolder<A> {
-    /// Returns the name under which a file called `source` is kept that is sent to `target`. If the target is the
-    /// public folder, or a folder there, the file is kept in it under the last part of its own name.
+    /// Returns the name under which a file called `source` and sent to `target` is stored. If `target` is the public
+    /// folder or a folder in it, the file is stored there under the last part of `source`. Any other target stays as it
+    /// is, and so does one whose path would be too long.
     pub fn landing(&self, source: &Name, target: &Name) -> Name
         ensures { result ≡ landing (shown_public self.now) source.now target.now }
     {
@@ -178,7 +180,7 @@ impl<A: Allocator> PublicFolder<A> {
     }
 }
 
-/// Returns whether a name is that of a file of the spool.
+/// Returns whether a name belongs to the spool, and not to the public folder.
 fn is_spooled(target: &Name) -> bool
     ensures { result ≡ is_spooled (spot_of target.now) }
 {
@@ -188,7 +190,7 @@ fn is_spooled(target: &Name) -> bool
     }
 }
 
-/// Returns a name without a slash at its end.
+/// Strips a slash from the end of a name.
 pub(crate) fn without_slash(name: &[u8]) -> &[u8]
     ensures { result.now ≡ without_slash name.now }
 {
@@ -198,8 +200,7 @@ pub(crate) fn without_slash(name: &[u8]) -> &[u8]
     }
 }
 
-/// Returns the name with this last part in this folder of the public folder, or right in the public folder if `folder`
-/// is empty. `None` if that is no name.
+/// Returns the name `~/FOLDER/LAST`, or `~/LAST` if `folder` is empty. Returns `None` if that is not a valid name.
 pub fn below_home(folder: &[u8], last: &[u8]) -> Option<Name>
     ensures { result ≡ name_of (codes "~/" ++ front_of folder.now ++ last.now) }
 {
@@ -221,8 +222,8 @@ pub fn below_home(folder: &[u8], last: &[u8]) -> Option<Name>
     Name::new(path.as_slice()).ok()
 }
 
-/// Returns whether a path below the public folder is one under which a file may be given: a name there, or that of a
-/// folder there, a slash and such a name.
+/// Returns whether a file may be given under this path below the public folder. The path must be a file's name, or a
+/// folder's name, a slash and a file's name.
 pub fn is_public_path(path: &Name) -> bool
     ensures { result ≡ is_public_path path.now }
 {
@@ -233,7 +234,7 @@ pub fn is_public_path(path: &Name) -> bool
     }
 }
 
-/// Returns whether these bytes are a name that is in the public folder by itself.
+/// Returns whether these bytes can be the name of a file directly in the public folder.
 fn is_public_last(last: &[u8]) -> bool
     ensures { result ≡ is_public_last (name_of last.now) }
 {
@@ -243,7 +244,7 @@ fn is_public_last(last: &[u8]) -> bool
     }
 }
 
-/// Returns the name of a file of this place while it is received: the part of its own name after the last slash.
+/// Returns the name that a file of this place has while it is received: the part of its name after the last slash.
 pub fn temp_name(target: &Spot) -> Name
     ensures { result ≡ temp_name target.now }
 {

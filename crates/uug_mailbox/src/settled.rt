@@ -1,4 +1,4 @@
-//! The operations on the disk when a job is over, before anything is written that acknowledges it.
+//! The disk operations for a job that is over. They are done before anything is written that acknowledges it.
 ghost use Rattle.std.specs.Prelude.{◌≡◌, ℕ, List, Some, false, OnOk, OnErr};
 ghost use Rattle.uug_spool.specs.Operations.{FrontDone, HasFault, also_all};
 ghost use Rattle.uug_spool.specs.SpoolNames.{data_spot, spot};
@@ -11,7 +11,7 @@ use crate::open_line::{OpenLine, Outcome};
 use uug_spool::{Disk, DiskFailed, Room, Spot, data_spot};
 use uug_talk::Name;
 
-/// Removes a copy.
+/// Removes a copy, and syncs its folder.
 fn remove<D: Disk>(disk: &mut D, copy: &Spot) -> Result<(), DiskFailed>
     ensures ok { OnOk result (D.done disk.new
         ≡ also_all (removed_ops copy.now) (D.done disk.old)) }
@@ -27,7 +27,7 @@ fn remove<D: Disk>(disk: &mut D, copy: &Spot) -> Result<(), DiskFailed>
     Ok(())
 }
 
-/// Preserves a copy.
+/// Moves a copy to the preserved files, and syncs both folders.
 fn preserve<D: Disk>(disk: &mut D, copy: &Spot) -> Result<(), DiskFailed>
     ensures ok { OnOk result (D.done disk.new
         ≡ also_all (preserved_ops copy.now) (D.done disk.old)) }
@@ -73,8 +73,8 @@ pub(crate) fn has_line(lines: &[OpenLine], file: &Name) -> bool
         .any(|line| line.file.as_bytes() == file.as_bytes())
 }
 
-/// Removes the copy of a job that is over, unless one of these other lines has it, or preserves it if the job has
-/// failed.
+/// Removes or preserves the copy of a line that is over. If the job is done, the copy is removed, unless one of these
+/// other lines has it. If the job has failed, the copy is preserved at once.
 fn settle_copy<D: Disk>(
     disk: &mut D,
     copy: &Option<Name>,
@@ -129,11 +129,13 @@ pub fn settle_file<D: Disk>(
     Ok(())
 }
 
-/// Removes a line that is over from the disk; `others` are those that are not. First its copy goes, unless another of
-/// them has it; if the job has failed, it is preserved at once. Then the C. file goes, if none of the others is in it.
+/// Removes a line that is over from the disk. `others` are the lines that are still there. First the line's copy is
+/// removed, unless one of the others has it. If the job has failed, the copy is preserved at once. Then the C. file is
+/// removed, unless one of the others is in it.
 ///
-/// If it is stopped in between, the line has no copy, and is over for whoever reads it next. Wherever a power cut stops
-/// it, the C. file is as it was, or the copy is gone for good. The copy is gone once all is done.
+/// If this is stopped in between, the line has no copy, and so is over for the next reader. For a copy that none of the
+/// others has: wherever a power cut stops this, the C. file is as it was, or the copy is gone for good; and once all is
+/// done, the copy is gone.
 pub fn settle<D: Disk>(
     disk: &mut D,
     line: &OpenLine,

@@ -1,4 +1,4 @@
-//! The folders of a spool, as one folder that takes the files of another system.
+//! The folders of a spool, as one folder that takes files from another system.
 ghost use Rattle.std.specs.Prelude.{◌≡◌, ◌++◌, OnErr, OnOk};
 ghost use Rattle.uug_spool.specs.Operations.{FrontDone, also_all};
 ghost use Rattle.uug_mailbox.specs.Places.{temp_name};
@@ -17,20 +17,20 @@ const NO_MARKS: Marks = Marks {
     is_new: false,
 };
 
-/// The folders of a spool, as one folder that takes the files of another system, each with a marker of its name. The
-/// marker of a file is removed when the next one arrives, which shows that the other system knows of it. The marker of
-/// data stays when its execution file arrives: both are sent again if the other system does not know of both.
+/// The folders of a spool, as one folder that takes files from another system, each with a marker of its name. When the
+/// next file arrives, the other system knows that the one before was received, and its marker is removed. The marker of
+/// data stays when its execution file arrives: both are sent again unless the other system knows of both.
 #[derive(Drop)]
 pub struct SpoolFolder<D, A: Allocator> {
     pub disk: D,
-    /// The markers that were there when the session began.
+    /// The markers that existed when the session began.
     came: Vec<Came<A>, A>,
-    /// The files of the session whose markers are there.
+    /// The files of the session that still have markers.
     marks: Marks,
 }
 
 impl<D: Disk, A: Allocator> SpoolFolder<D, A> {
-    /// Makes a folder of the folders of this disk, on which these markers are.
+    /// Makes a folder from the folders of this disk, on which these markers exist.
     pub fn new(disk: D, came: Vec<Came<A>, A>) -> Self
         ensures came { came_of result ≡ came.items }
         ensures marks { marks_of result ≡ no_marks }
@@ -42,15 +42,15 @@ impl<D: Disk, A: Allocator> SpoolFolder<D, A> {
         }
     }
 
-    /// Returns the files of the session whose markers are there.
+    /// Returns the files of the session that still have markers.
     pub fn marks(&self) -> Marks
         ensures { result ≡ marks_of self.now }
     {
         self.marks
     }
 
-    /// Puts a file in this place, and removes the markers of those before. A file of the spool that had arrived already
-    /// is dropped: it is in its place, or was used up there.
+    /// Removes the markers of earlier files, and then stores a file in this place. A spool file that was received
+    /// before the session is dropped: it is in its place, or was used up there.
     pub fn place(&mut self, target: &Spot, bytes: &[u8]) -> Result<(), DiskFailed>
         ensures ok { OnOk result (D.done self.new.disk
             ≡ also_all (place_ops (marks_of self.old) (came_of self.old) target.now bytes.now)
@@ -98,7 +98,7 @@ fn remove_marker<D: Disk>(disk: &mut D, mark: &Option<Name>) -> Result<(), DiskF
     }
 }
 
-/// Removes the markers that are there.
+/// Removes these markers.
 pub fn remove_markers<D: Disk>(disk: &mut D, marks: &Marks) -> Result<(), DiskFailed>
     ensures ok { OnOk result (D.done disk.new ≡ also_all (end_ops marks.now) (D.done disk.old)) }
     ensures err { OnErr result (FrontDone (end_ops marks.now) (D.done disk.old) (D.done disk.new)) }
@@ -108,7 +108,8 @@ pub fn remove_markers<D: Disk>(disk: &mut D, marks: &Marks) -> Result<(), DiskFa
     Ok(())
 }
 
-/// Syncs the folder of the markers to disk, if one of these has this name.
+/// Syncs the marker folder to disk if one of these markers has this name. Without that, a power cut could bring the
+/// marker back beside an incomplete file.
 fn see_markers<D: Disk>(disk: &mut D, marks: &Marks, name: &Name) -> Result<(), DiskFailed>
     ensures ok { OnOk result (D.done disk.new
         ≡ also_all (seen_ops marks.now name.now) (D.done disk.old)) }
@@ -122,7 +123,7 @@ fn see_markers<D: Disk>(disk: &mut D, marks: &Marks, name: &Name) -> Result<(), 
     }
 }
 
-/// Removes the markers of the files before, unless they stay when a file of this place arrives.
+/// Removes the markers of earlier files, unless they stay when a file for this room arrives (see `keeps`).
 fn unmark<D: Disk>(disk: &mut D, marks: &Marks, room: Room, name: &Name) -> Result<(), DiskFailed>
     ensures ok { OnOk result (D.done disk.new
         ≡ also_all (unmark_ops marks.now room name.now) (D.done disk.old)) }
@@ -137,7 +138,7 @@ fn unmark<D: Disk>(disk: &mut D, marks: &Marks, room: Room, name: &Name) -> Resu
     Ok(())
 }
 
-/// Removes the markers of the files before, and then puts a file in this place, unless it was received before the
+/// Removes the markers of earlier files, and then stores a file in this place, unless it was received before the
 /// session.
 #[tactic(auto, using(crate::proofs::OverLemmas::both_done, crate::proofs::OverLemmas::front_of_first, crate::proofs::OverLemmas::front_of_both))]
 fn place_at<D: Disk>(
@@ -161,7 +162,7 @@ fn place_at<D: Disk>(
     Ok(())
 }
 
-/// Puts a file in this place, unless it was received before the session.
+/// Stores a file in this place, unless it was received before the session.
 fn store_new<D: Disk>(
     disk: &mut D,
     again: bool,

@@ -20,8 +20,8 @@ use uug_session::Job;
 use uug_spool::{Disk, DiskFailed};
 use uug_stream::ToolFault;
 
-/// The jobs of an end over the C. files of a system: their lines that are not over, the texts of these files, and the
-/// disk from which a line that is over is removed.
+/// The jobs of an end over the C. files of a system: the open lines, the texts of these files, and the disk from which
+/// a line that is over is removed.
 #[derive(Drop)]
 pub struct WorkStore<D, A: Allocator> {
     pub disk: D,
@@ -45,16 +45,17 @@ impl<D: Disk, A: Allocator + Copy> WorkStore<D, A> {
         }
     }
 
-    /// Returns the lines that are not over.
+    /// Returns the open lines.
     pub fn lines(&self) -> &[OpenLine]
         ensures { result.now ≡ lines_of self.now }
     {
         self.lines.as_slice()
     }
 
-    /// Removes these jobs, each once: those that were done, and those that have failed. If a line has two jobs, its
-    /// copy goes with the second of them. A C. file that has lost a line without a copy, and has others, is written
-    /// anew. After a fault the lines are as before, and the disk may have lost some that are over.
+    /// Removes these jobs, each once: those that are done (`struck`), and those that have failed. Appends the notice
+    /// before it removes anything. The copy of a line with two jobs is removed when both are done, and preserved when
+    /// one has failed. A C. file that has lost a line without a copy, and has others, is rewritten. After an error the
+    /// lines are as before, but some that are over may be gone from the disk.
     #[tactic(auto, using(crate::proofs::OverLemmas::none_done, crate::proofs::StoreLemmas::tells_none, crate::proofs::StoreLemmas::tells_all))]
     pub fn settle_jobs<B: Allocator + Copy>(
         &mut self,
@@ -77,7 +78,7 @@ impl<D: Disk, A: Allocator + Copy> WorkStore<D, A> {
             (settling_ops struck.now failed.now (lines_of self.old) (files_of self.old))
             (D.done self.old.disk) (D.done self.new.disk)) }
         ensures told_some { OnErr result (TellsSome notice.now (D.told self.old.disk) (D.told self.new.disk)) }
-        // Nothing goes from the disk before all is told.
+        // Nothing is removed from the disk before the whole notice is appended.
         ensures first { OnErr result (IsToldFirst notice.now (D.told self.old.disk) (D.told self.new.disk)
             (D.done self.old.disk) (D.done self.new.disk)) }
         ensures calm { OnOk result (D.fault_count self.new.disk ≡ D.fault_count self.old.disk) }
@@ -120,7 +121,7 @@ fn tell_some<D: Disk>(disk: &mut D, notice: &[u8]) -> Result<(), DiskFailed>
     disk.tell(notice)
 }
 
-/// Removes from the disk the lines that are over, and then writes these C. files anew.
+/// Removes the lines that are over from the disk, and then rewrites these C. files.
 #[tactic(auto, using(crate::proofs::OverLemmas::both_done, crate::proofs::OverLemmas::front_of_first, crate::proofs::OverLemmas::front_of_both))]
 fn settle_all<D: Disk, A: Allocator, B: Allocator, C: Allocator>(
     disk: &mut D,
@@ -143,7 +144,7 @@ fn settle_all<D: Disk, A: Allocator, B: Allocator, C: Allocator>(
     Ok(())
 }
 
-/// Removes from the disk the lines that are over.
+/// Removes the lines that are over from the disk.
 #[tactic(auto, using(crate::proofs::OverLemmas::both_done, crate::proofs::OverLemmas::front_of_first, crate::proofs::OverLemmas::front_of_both))]
 fn settle_parted<D: Disk, A: Allocator, B: Allocator>(
     disk: &mut D,
@@ -172,7 +173,7 @@ impl<D: Disk, A: Allocator + Copy> JobStore for WorkStore<D, A> {
 
     ghost fault_count = { λ store. D.fault_count store.disk };
 
-    /// Removes the jobs from the disk by just the operations that their lines and files say.
+    /// Removes the jobs from the disk. The disk operations follow from their lines and files.
     fn settle<B: Allocator + Copy>(
         &mut self,
         alloc: B,

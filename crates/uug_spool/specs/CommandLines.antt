@@ -1,5 +1,5 @@
--- What a line of a C. file says (as Taylor UUCP 1.07 writes them; that one or more spaces separate the words, which names
--- are refused, and that words behind the last one needed are read past, is this project's profile).
+-- The lines of a C. file (as Taylor UUCP 1.07 writes them; that words are separated by one or more spaces, which names
+-- are refused, and that words after the last one needed are skipped, is this project's profile).
 use Rattle.std.specs.Prelude.{◌==◌, ◌&&◌, ◌||◌, not, ℕ, Bool, List, [], ◌∷◌, codes, nat_eq, Result, Ok, Err, if◌then◌else◌}
 use Rattle.std.specs.List.{list_any, starts_with}
 use Rattle.std.specs.Str.{bytes_eq}
@@ -11,14 +11,14 @@ use Rattle.uug_spool.specs.SpoolNames.{is_data_name}
 use Rattle.uug_spool.specs.declared.command.CommandFault.{CommandFault}
 use Rattle.uug_spool.specs.declared.command.CommandFault.TheVariants as fault
 
--- the words of a line that each command has
+-- the words that all commands have
 pub record FieldWords : Type 0 where
   pub source : List ℕ
   pub target : List ℕ
   pub user : List ℕ
   pub options : List ℕ
 
--- what a command has that sends a file
+-- the further words of a command that sends a file
 pub record FileWords : Type 0 where
   pub temp : List ℕ
   pub mode : ℕ
@@ -78,7 +78,7 @@ file_read options temp mode notify =
 abbrev pub notify_of : List ℕ → List ℕ
 notify_of word = if is_blank word then [] else word
 
--- the field of NOTIFY, which may lack at the end of a line
+-- the NOTIFY field, which may be missing at the end of a line
 abbrev pub notify_in : List (List ℕ) → List ℕ
 notify_in [] = []
 notify_in (word ∷ more) = notify_of word
@@ -94,7 +94,7 @@ abbrev pub request_of : List (List ℕ) → Result FieldWords CommandFault
 request_of (source ∷ target ∷ user ∷ options ∷ more) = fields_read source target user options
 request_of _ = Err fault.Fields
 
--- FROM TO USER -OPTIONS TEMP MODE NOTIFY SIZE COMMAND..; the size on the disk says nothing
+-- FROM TO USER -OPTIONS TEMP MODE NOTIFY SIZE COMMAND..; the size is not used
 abbrev pub execute_of : List (List ℕ) → Result Line CommandFault
 execute_of (source ∷ target ∷ user ∷ options ∷ temp ∷ mode ∷ notify ∷ size ∷ first ∷ more) =
     fields_read source target user options >>= (λ f. file_read options temp mode (notify_of notify) >>= (λ w.

@@ -15,7 +15,7 @@ field_words f = f.source ∷ f.target ∷ f.user ∷ f.options ∷ []
 abbrev pub copy_words : FileWords → List (List ℕ)
 copy_words w = w.temp ∷ mode_digits w.mode ∷ []
 
--- an empty field in the middle of a line
+-- the NOTIFY field in the middle of a line: two quotation marks if it is empty
 abbrev pub notify_field : List ℕ → List ℕ
 notify_field [] = 34 ∷ 34 ∷ []
 notify_field (b ∷ bs) = b ∷ bs
@@ -52,7 +52,7 @@ pub record AreFields (f : FieldWords) : Type 0 where
   pub dash : begins_with (codes "-") f.options ≡ true
   pub solid : HasNoSpace f.options
 
--- whom to tell may be nobody
+-- NOTIFY may be empty
 pub record IsFile (options : List ℕ) (w : FileWords) : Type 0 where
   pub temp : is_data_name w.temp ≡ true
   pub solid : HasNoSpace w.temp

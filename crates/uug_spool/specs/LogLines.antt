@@ -5,7 +5,7 @@ use Rattle.uug_talk.specs.Lines.{ended}
 use Rattle.uug_spool.specs.Moments.{moment_text}
 use Rattle.uug_spool.specs.declared.moment.Moment.{Moment}
 
--- what stands in front of a line
+-- the head of a line
 pub record HeadWords : Type 0 where
   pub program : List ℕ
   pub system : List ℕ
@@ -13,7 +13,7 @@ pub record HeadWords : Type 0 where
   pub moment : Moment
   pub process : ℕ
 
--- what a line tells
+-- the event of a line
 pub data Entry : Type 0 where
   calls : (port : List ℕ) → Entry
   logged_in : Entry
@@ -27,7 +27,7 @@ pub data Entry : Type 0 where
   over : (seconds bytes : ℕ) → Entry
   fault : (text : List ℕ) → Entry
 
--- a word that may lack
+-- a word, or a dash if it is empty
 abbrev pub or_dash : List ℕ → List ℕ
 or_dash [] = 45 ∷ []
 or_dash (b ∷ bs) = b ∷ bs
@@ -38,24 +38,24 @@ head_text h =
     h.program ++ codes " " ++ or_dash h.system ++ codes " " ++ or_dash h.user
     ++ codes " (" ++ moment_text h.moment ++ codes " " ++ decimal h.process ++ codes ") "
 
--- bytes in a second
+-- bytes per second, or 0 if no second has passed
 abbrev pub rate : (bytes seconds : ℕ) → ℕ
 rate bytes seconds = if seconds == 0 then 0 else bytes / seconds
 
 abbrev pub bytes_text : ℕ → List ℕ
 bytes_text bytes = codes " (" ++ decimal bytes ++ codes " bytes)"
 
--- a size that the other system may not have told
+-- a size, if the other system announced it
 abbrev pub size_text : Option ℕ → List ℕ
 size_text None = []
 size_text (Some bytes) = bytes_text bytes
 
--- where a file goes on that was cut off, behind its whole size, which the other system may not have told
+-- the position at which an interrupted file resumes, after its total size if the other system announced that
 abbrev pub position_text : (size : Option ℕ) → (position : ℕ) → List ℕ
 position_text None position = codes " (resume at " ++ decimal position ++ codes ")"
 position_text (Some size) position = codes " (" ++ decimal size ++ codes " bytes resume at " ++ decimal position ++ codes ")"
 
--- of a system
+-- the text of an event, for this system
 abbrev pub entry_text : (system : List ℕ) → Entry → List ℕ
 entry_text system (calls port) = codes "Calling system " ++ system ++ codes " (port " ++ port ++ codes ")"
 entry_text system logged_in = codes "Login successful"

@@ -1,4 +1,4 @@
--- What a spool in memory tells of what was done to it.
+-- The operations and notices that a spool in memory reports.
 use Rattle.std.specs.Prelude.{ℕ, List, map}
 use Rattle.uug_spool.specs.Operations.{Op, folder_synced, made, renamed, synced, unlinked}
 use Rattle.uug_spool.specs.declared.memory_disk.MemoryDisk.{MemoryDisk}

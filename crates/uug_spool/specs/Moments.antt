@@ -1,4 +1,4 @@
--- The moment of a line of a log (as Taylor UUCP 1.07 writes it).
+-- The date and time in a line of a log (as Taylor UUCP 1.07 writes them).
 use Rattle.std.specs.Prelude.{ℕ, ◌+◌, ◌/◌, ◌%◌, List, [], ◌∷◌, ◌++◌}
 use Rattle.uug_spool.specs.declared.moment.Moment.{Moment}
 

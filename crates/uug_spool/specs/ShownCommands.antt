@@ -1,4 +1,4 @@
--- What the value of a line shows of its words.
+-- Commands as clauses see them: by their words.
 use Rattle.uug_talk.specs.Words.{words}
 use Rattle.uug_spool.specs.CommandLines.{FieldWords, FileWords, Line, send, request, expand, execute}
 use Rattle.uug_spool.specs.declared.command.Command.{Command}

@@ -1,4 +1,4 @@
--- What the values of a log's lines show of their words.
+-- Lines of logs and statistics as clauses see them: by their words.
 use Rattle.uug_spool.specs.LogLines.{Entry, HeadWords, agreed, called, calls, fault, logged_in, over, packets, receives, receives_from, sends, sends_from}
 use Rattle.uug_spool.specs.StatsLines.{StatWords}
 use Rattle.uug_spool.specs.declared.log_text.LogEvent.{LogEvent}

@@ -16,23 +16,23 @@ begins_with front name = starts_with nat_eq name front
 abbrev pub has_slash : List ℕ → Bool
 has_slash name = list_any (λ b. b == 47) name
 
--- two dots stand side by side somewhere
+-- two dots are side by side somewhere
 abbrev pub has_two_dots : List ℕ → Bool
 has_two_dots [] = false
 has_two_dots (b ∷ bs) = begins_with (codes "..") (b ∷ bs) || has_two_dots bs
 
--- ---- where a file goes that another system sends
+-- ---- the place of a file that another system sends
 
 abbrev pub spot : Room → List ℕ → Spot
 spot room name = record { room = room; name = name }
 
--- in the spool, where names of at most so many bytes are those of this system's own data
+-- in the spool; names of at most `own_max` bytes are those of this system's own data
 abbrev pub spool_spot : Room → (own_max : ℕ) → List ℕ → Result Spot Barred
 spool_spot room own_max name =
     if has_slash name then Err barred.Path else
     (if nat_le (length name) own_max then Err barred.Ours else Ok (spot room name))
 
--- a name without the public folder or the root in front
+-- a name without ~/ or / in front
 abbrev pub local_name : List ℕ → List ℕ
 local_name name =
     if begins_with (codes "~/") name then drop 2 name else
@@ -42,7 +42,7 @@ abbrev pub public_by : Result (List ℕ) BadText → Result Spot Barred
 public_by (Ok name) = Ok (spot rooms.Public name)
 public_by (Err fault) = Err barred.Path
 
--- in the public folder: no further path, and nothing that is hidden there
+-- in the public folder: no path, and no hidden name
 abbrev pub public_spot : List ℕ → Result Spot Barred
 public_spot name =
     if has_slash name || begins_with (codes "~") name then Err barred.Path else
@@ -59,7 +59,7 @@ spot_of name =
 
 -- ---- names in the spool
 
--- D. and more, which leads nowhere else
+-- D. and more, without a slash and without two dots side by side
 abbrev pub is_data_name : List ℕ → Bool
 is_data_name name =
     nat_lt 2 (length name) && (begins_with (codes "D.") name && (not (has_slash name) && not (has_two_dots name)))
@@ -68,7 +68,7 @@ is_data_name name =
 abbrev pub data_spot : List ℕ → Spot
 data_spot name = if begins_with (codes "D.X") name then spot rooms.Text name else spot rooms.Data name
 
--- the name of a folder that is none of the spool's own, which begin with a dot
+-- a name that the folder of a system can have: the names of the spool's own folders begin with a dot
 abbrev pub is_system_name : List ℕ → Bool
 is_system_name name = not (has_slash name) && not (begins_with (codes ".") name)
 

@@ -1,5 +1,5 @@
--- What a power cut leaves of the folders of a spool (this project's profile). Of the changes of a folder that were not seen on
--- the device any may be gone, in any order; a file whose bytes were not seen there may have any bytes.
+-- What a power cut leaves of the folders of a spool (this project's profile). Any of the changes of a folder that were
+-- not synced may be lost, whatever becomes of the others. A file whose bytes were not synced may have any bytes.
 use Rattle.std.specs.Prelude.{◌≡◌, ◌⊎◌, ◌==◌, ◌&&◌, ◌||◌, ℕ, suc, Bool, true, false, List, [], ◌∷◌, Option, Some, None, ⊤}
 use Rattle.std.specs.Str.{bytes_eq}
 use Rattle.uug_spool.specs.Operations.{Op, folder_synced, made, renamed, synced, unlinked}
@@ -14,22 +14,22 @@ pub record Inode : Type 0 where
   pub number : ℕ
   pub bytes : List ℕ
 
--- a name in a folder gets a file, or goes
+-- a name in a folder gets a file, or is removed
 pub data Change : Type 0 where
   put : Spot → Inode → Change
   gone : Spot → Change
 
 pub record Noted : Type 0 where
   pub change : Change
-  -- whether it was seen on the device
+  -- whether it was synced
   pub durable : Bool
 
 pub record Standing : Type 0 where
-  -- the number of the next file that is made
+  -- the number of the next file that is created
   pub next : ℕ
   -- the changes of all folders, the last one first
   pub notes : List Noted
-  -- the numbers of the files whose bytes were seen on the device
+  -- the numbers of the files whose bytes were synced
   pub safe : List ℕ
 
 abbrev pub room_number : Room → ℕ
@@ -85,7 +85,7 @@ abbrev pub made_safe : Option Inode → Standing → Standing
 made_safe None s = s
 made_safe (Some inode) s = record { next = s.next; notes = s.notes; safe = inode.number ∷ s.safe }
 
--- either of the two changes may be gone without the other
+-- either of the two changes may be lost without the other
 abbrev pub moved : Option Inode → (from to : Spot) → Standing → Standing
 moved None from to s = s
 moved (Some inode) from to s = noted (gone from) (noted (put to inode) s)
@@ -93,7 +93,7 @@ moved (Some inode) from to s = noted (gone from) (noted (put to inode) s)
 abbrev pub seen_one : Room → Noted → Noted
 seen_one room n = record { change = n.change; durable = n.durable || is_room (place_of n.change).room room }
 
--- the changes of a folder are seen on the device
+-- the changes of a folder are synced
 abbrev pub seen : Room → List Noted → List Noted
 seen room [] = []
 seen room (n ∷ ns) = seen_one room n ∷ seen room ns
@@ -111,7 +111,7 @@ after_all (op ∷ ops) s = after_all ops (after op s)
 
 -- ---- what a power cut leaves
 
--- each change that was seen on the device stays, and of the others any
+-- each change that was synced stays; any other may stay or be lost
 abbrev pub Survive : List Noted → List Change → Type 0
 Survive [] cs = cs ≡ []
 Survive (n ∷ ns) cs = ((n.durable ≡ false) × Survive ns cs) ⊎ ((rest : List Change) × (cs ≡ n.change ∷ rest) × Survive ns rest)
@@ -120,14 +120,14 @@ abbrev pub IsIn : ℕ → List ℕ → Type 0
 IsIn n [] = ⊥
 IsIn n (m ∷ ms) = (n ≡ m) ⊎ IsIn n ms
 
--- a file whose bytes were not seen on the device shows any
+-- a file whose bytes were not synced may show any bytes
 abbrev pub Shows : (safe : List ℕ) → (file : Option Inode) → (held : Option (List ℕ)) → Type 0
 Shows safe None None = ⊤
 Shows safe None (Some text) = ⊥
 Shows safe (Some inode) None = ⊥
 Shows safe (Some inode) (Some text) = IsIn inode.number safe → text ≡ inode.bytes
 
--- a name may have a file of these bytes then, or none
+-- after a power cut this name may have a file of these bytes, or none
 pub record MayHold (s : Standing) (spot : Spot) (held : Option (List ℕ)) : Type 0 where
   pub changes : List Change
   pub survive : Survive s.notes changes
@@ -147,11 +147,11 @@ IsWholeThere spot bytes s = (held : Option (List ℕ)) → MayHold s spot held �
 abbrev pub IsGoneThere : Spot → Standing → Type 0
 IsGoneThere spot s = (held : Option (List ℕ)) → MayHold s spot held → held ≡ None
 
--- as it was before, or this file stands there whole
+-- the place is as it was before, or the marker is there, complete
 abbrev pub IsMarked : (before : Standing) → (spot marker : Spot) → (text : List ℕ) → Standing → Type 0
 IsMarked before spot marker text s = IsAsBefore before spot s ⊎ IsWholeThere marker text s
 
--- as it was before, or that file is gone for good
+-- the place is as it was before, or the first file is gone for good
 abbrev pub IsBehind : (before : Standing) → (spot first : Spot) → Standing → Type 0
 IsBehind before spot first s = IsAsBefore before spot s ⊎ IsGoneThere first s
 
@@ -160,7 +160,7 @@ abbrev pub AfterEach : (Standing → Type 0) → List Op → Standing → Type 0
 AfterEach P [] s = P s
 AfterEach P (op ∷ ops) s = P s × AfterEach P ops (after op s)
 
--- ---- where a disk tells what was done
+-- ---- if a disk reports its operations
 
 abbrev pub no_folders : Standing
 no_folders = record { next = 0; notes = []; safe = [] }

@@ -7,7 +7,7 @@ use Rattle.uug_spool.specs.declared.moment.Moment.{Moment}
 use Rattle.uug_spool.specs.declared.stats_text.Course.{Course}
 use Rattle.uug_spool.specs.declared.stats_text.Course.TheVariants.{Sent, Received}
 
--- of which file it is
+-- the file that a line is about
 pub record StatWords : Type 0 where
   pub user : List ℕ
   pub system : List ℕ
@@ -26,11 +26,11 @@ failure_text false = codes ""
 abbrev pub seconds_text : (thousandths : ℕ) → List ℕ
 seconds_text n = decimal (n / 1000) ++ 46 ∷ (48 + n / 100 % 10) ∷ two_digits n
 
--- bytes in a second
+-- bytes per second, or 0 if no time has passed
 abbrev pub speed : (bytes thousandths : ℕ) → ℕ
 speed bytes thousandths = if thousandths == 0 then 0 else bytes * 1000 / thousandths
 
--- how much of the file went, and how long that took
+-- the bytes of a file that were transferred, and the time that this took
 abbrev pub amount_text : (bytes thousandths : ℕ) → List ℕ
 amount_text bytes thousandths =
     decimal bytes ++ codes " bytes in " ++ seconds_text thousandths

@@ -1,5 +1,5 @@
--- How the last call with a system went, as its status file says (as Taylor UUCP 1.07 writes it; that what stands behind the
--- four numbers is read past is this project's profile).
+-- The result of the last call with a system, as in its status file (as Taylor UUCP 1.07 writes it; that words after the
+-- first four are skipped is this project's profile).
 use Rattle.std.specs.Prelude.{◌==◌, ◌≤◌, ℕ, ◌+◌, ◌*◌, Bool, List, [], ◌∷◌, ◌++◌, codes, nat_le, Option, Some, None, if◌then◌else◌}
 use Rattle.std.specs.Fmt.{decimal}
 use Rattle.uug_talk.specs.Number.{number_of}
@@ -37,7 +37,7 @@ status_line s system =
     state_digit s.state ∷ 32 ∷ decimal s.tries ++ 32 ∷ decimal s.time ++ 32 ∷ decimal s.wait
     ++ 32 ∷ state_text s.state ++ 32 ∷ system ++ 10 ∷ []
 
--- ---- what it says
+-- ---- reading it
 
 abbrev pub state_by : (digit : ℕ) → Option CallState
 state_by digit =
@@ -83,7 +83,7 @@ abbrev pub tries_of : Option Status → ℕ
 tries_of None = 0
 tries_of (Some s) = s.tries
 
--- each call in a row that failed puts off the next one by ten minutes more; where it was the wrong time to call, nothing does
+-- the wait is ten minutes for each failed call in a row, or none if it was the wrong time to call
 abbrev pub wait_after : CallState → (tries : ℕ) → ℕ
 wait_after states.WrongTime tries = 0
 wait_after _ tries = capped (600 * tries)

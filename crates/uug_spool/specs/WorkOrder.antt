@@ -6,7 +6,7 @@ use Rattle.std.specs.Option.{option_cmp}
 use Rattle.std.specs.Ordering.{nat_cmp, on, then_cmp}
 use Rattle.std.specs.declared.cmp.Ordering.{Ordering}
 
--- the third byte of a name behind C., where that is a letter or a digit
+-- the byte after C. in a name, if that is a letter or a digit
 abbrev pub grade_of : List ℕ → Option ℕ
 grade_of (c ∷ dot ∷ grade ∷ more) = if c == 67 && (dot == 46 && is_ascii_alphanumeric grade) then Some grade else None
 grade_of _ = None

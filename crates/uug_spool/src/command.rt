@@ -11,12 +11,12 @@ use std::alloc::{AllocError, Allocator};
 use thiserror::Error;
 use uug_talk::{read_mode, split_word};
 
-/// The fields that each command of a C. file has: the words of its line, as written.
+/// The fields that all commands of a C. file have: words of the line, as written.
 #[derive(Clone, Copy, Debug, PartialEq, Eq)]
 pub struct Fields<'a> {
-    /// The file's name where it comes from.
+    /// The file's name where it is sent from.
     pub source: &'a [u8],
-    /// The file's name where it goes to.
+    /// The file's name where it is sent to.
     pub target: &'a [u8],
     /// The user that the file belongs to.
     pub user: &'a [u8],
@@ -27,29 +27,30 @@ pub struct Fields<'a> {
 /// A line of a C. file.
 #[derive(Clone, Copy, Debug, PartialEq, Eq)]
 pub enum Command<'a> {
-    /// `S`: a file is sent.
+    /// `S`: this system sends a file.
     Send(Fields<'a>, SentFile<'a>),
-    /// `R`: a file is asked for.
+    /// `R`: this system requests a file.
     Request(Fields<'a>),
     /// `X`: the other system is asked to send the files that a wildcard names.
     Expand(Fields<'a>),
-    /// `E`: a file is sent, and a command run with it. The command's words are separated by one or more spaces.
+    /// `E`: this system sends a file, and has a command run with it. The command's words are separated by one or more
+    /// spaces.
     Execute(Fields<'a>, SentFile<'a>, &'a [u8]),
 }
 
 /// An error in a line of a C. file.
 #[derive(Clone, Copy, Debug, PartialEq, Eq, Error)]
 pub enum CommandFault {
-    /// The first word is no `S`, `R`, `X` or `E`.
+    /// The first word is not `S`, `R`, `X` or `E`.
     #[error("unknown command")]
     Unknown,
     /// There are too few words, or the options don't begin with a dash.
     #[error("missing words or options")]
     Fields,
-    /// A name is empty, or quoted otherwise than by a backslash and three octal digits.
+    /// A name is empty, or badly quoted: a backslash is not followed by the three octal digits of a byte.
     #[error("bad name")]
     Name,
-    /// The name of the copy isn't one of data.
+    /// The name of the copy is not that of data.
     #[error("bad name of a copy")]
     Temp,
     /// The mode isn't one to seven octal digits.
@@ -64,8 +65,7 @@ pub fn has_option(options: &[u8], letter: u8) -> bool
     options.contains(&letter)
 }
 
-/// Returns the bytes of the name that a word stands for, with these options. If `q` is among them, a backslash and
-/// three octal digits are one byte.
+/// Returns the name that a word stands for. With option `q`, a backslash and three octal digits stand for one byte.
 pub fn name_said<A: Allocator>(
     alloc: A,
     options: &[u8],
@@ -92,7 +92,7 @@ fn add_name<A: Allocator>(
     }
 }
 
-/// Returns whether a word is a name, with these options. Two quotation marks are an empty field, and no name.
+/// Returns whether a word is a name under these options. Two quotation marks are an empty field, and no name.
 fn is_named(options: &[u8], word: &[u8]) -> bool
     ensures { result ≡ is_named options.now word.now }
 {
@@ -145,7 +145,7 @@ fn read_file<'a>(
     Ok(SentFile { temp, mode, notify })
 }
 
-/// Returns the field of a word, which is empty if the word is two quotation marks.
+/// Returns the NOTIFY field that a word stands for. Two quotation marks stand for an empty field.
 fn notify_of(word: &[u8]) -> &[u8]
     ensures { result.now ≡ notify_of word.now }
 {
@@ -172,7 +172,7 @@ fn read_send(text: &[u8]) -> Result<Command<'_>, CommandFault>
     Ok(Command::Send(fields, file))
 }
 
-/// Returns the field of NOTIFY at the front of a text, or nothing if it is missing.
+/// Returns the NOTIFY field at the front of a text, or an empty one if it is missing.
 fn notify_in(text: &[u8]) -> &[u8]
     ensures { result.now ≡ notify_in (words text.now) }
 {
@@ -216,9 +216,9 @@ fn read_execute(text: &[u8]) -> Result<Command<'_>, CommandFault>
 /// Reads a line of a C. file, without its line feed. Its words are separated by one or more spaces; those after the
 /// last one needed are skipped.
 ///
-/// The errors in their order: `Unknown` for another first word; `Fields` for too few words, or options without a dash;
-/// `Name` for a name that is none. Then, if a file is sent, `Temp` for the name of its copy, `Mode` for its mode, and
-/// `Name` for whom to notify.
+/// The errors are checked in this order: `Unknown` for another first word; `Fields` for too few words, or options
+/// without a dash in front; `Name` for an invalid name. Then, if a file is sent, `Temp` for the name of its copy,
+/// `Mode` for its mode, and `Name` for NOTIFY.
 pub fn read_command(line: &[u8]) -> Result<Command<'_>, CommandFault>
     ensures exact { MatchResult result
         (λ command. command_of line.now ≡ Ok (shown command))

@@ -33,7 +33,7 @@ fn add_copy<A: Allocator>(text: &mut Vec<u8, A>, file: &SentFile<'_>) -> Result<
     add_word(text, &mode_digits(file.mode))
 }
 
-/// Returns the field of NOTIFY in the middle of a line: two quotation marks if it is empty.
+/// Returns the NOTIFY field in the middle of a line: two quotation marks if it is empty.
 fn notify_field(notify: &[u8]) -> &[u8]
     ensures { result.now ≡ notify_field notify.now }
 {
@@ -72,7 +72,7 @@ fn add_request<A: Allocator>(
     Ok(())
 }
 
-/// Appends whom to notify, the size and the words of a command that is run.
+/// Appends the end of an `E` line: NOTIFY, the size 0, and the words of the command.
 fn add_run<A: Allocator>(
     text: &mut Vec<u8, A>,
     notify: &[u8],
@@ -88,7 +88,7 @@ fn add_run<A: Allocator>(
     Ok(())
 }
 
-/// Appends the line of a command that is run.
+/// Appends an `E` line.
 fn add_execute<A: Allocator>(
     text: &mut Vec<u8, A>,
     fields: &Fields<'_>,

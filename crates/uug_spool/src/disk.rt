@@ -10,7 +10,7 @@ use thiserror::Error;
 #[error("device fault")]
 pub struct DiskFailed;
 
-/// The folders of a spool. After a fault a call may have been done or not.
+/// The folders of a spool. An operation that returns an error may or may not have been done.
 pub trait Disk {
     /// The operations that were done, in order, if the disk reports them.
     ghost done: { Self → Option (List Op) };
@@ -21,7 +21,7 @@ pub trait Disk {
     /// The number of faults of its device.
     ghost fault_count: { Self → ℕ };
 
-    /// Makes a file of this name, which must not exist yet, and writes it whole.
+    /// Creates a file of this name, which must not exist yet, with these bytes.
     fn make(&mut self, spot: &Spot, bytes: &[u8]) -> Result<(), DiskFailed>
         ensures ok { OnOk result (done self.new
             ≡ also_done (made spot.now bytes.now) (done self.old)) }
@@ -56,7 +56,8 @@ pub trait Disk {
             (HasFault u64.MAX (fault_count self.old) (fault_count self.new)) }
         ensures grows { fault_count self.old ≤ fault_count self.new };
 
-    /// Renames a file, as `rename` does, if it exists. A missing file is no fault.
+    /// Renames a file, if it exists. A missing file is no fault. If there is a file of the new name, the disk may pick
+    /// another name.
     fn put_away(&mut self, from: &Spot, to: &Spot) -> Result<(), DiskFailed>
         ensures ok { OnOk result (done self.new
             ≡ also_done (renamed from.now to.now) (done self.old)) }

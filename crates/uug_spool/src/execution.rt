@@ -1,4 +1,4 @@
-//! The execution file that goes with the data of an `E` line to a system without that command.
+//! The execution file that is sent with the data of an `E` line to a system without the command `E`.
 ghost use Rattle.std.specs.Prelude.{◌≡◌, ◌++◌, ◌∷◌, ◌+◌, ◌≤◌, [], IfOk, OnOk, length};
 ghost use Rattle.uug_talk.specs.Words.{words};
 ghost use Rattle.uug_talk.specs.Lines.{ended};
@@ -12,7 +12,8 @@ use arrayvec::ArrayVec;
 use std::alloc::{AllocError, Allocator};
 use uug_talk::{NAME_MAX, Name, split_word};
 
-/// Returns the name of data with these letters in place of its `D.`, if it is a name.
+/// Returns the name of data with these letters in place of its `D.`. Returns `None` if it doesn't begin with `D.`, or
+/// the result is not a valid name.
 fn renamed_data(letters: &[u8], name: &[u8]) -> Option<Name>
     requires { length letters.now ≤ NAME_MAX }
     ensures { result ≡ renamed_data letters.now name.now }
@@ -30,16 +31,16 @@ fn renamed_data(letters: &[u8], name: &[u8]) -> Option<Name>
     }
 }
 
-/// Returns the name that the execution file gets at the other system, by the name that the data gets there: an `X` in
-/// place of its `D`. It is the same at each try.
+/// Returns the name of the execution file at the other system: the name of the data there, with an `X` in place of its
+/// `D`. It is the same at each try.
 pub fn execution_target(target: &[u8]) -> Option<Name>
     ensures { result ≡ execution_target target.now }
 {
     renamed_data(b"X.", target)
 }
 
-/// Returns the name under which the execution file is sent, by that of the data: `D.X` in place of its `D.`. It is the
-/// same at each try.
+/// Returns the name under which the execution file is sent: the name of the data, with `D.X` in place of its `D.`. It
+/// is the same at each try.
 pub fn execution_temp(temp: &[u8]) -> Option<Name>
     ensures { result ≡ execution_temp temp.now }
 {
@@ -76,7 +77,7 @@ fn add_flag<A: Allocator>(
     }
 }
 
-/// Appends the line of the requestor, if the options say that NOTIFY is one.
+/// Appends the line of the requestor, if there is an option `R` and NOTIFY is not empty.
 fn add_requestor<A: Allocator>(
     text: &mut Vec<u8, A>,
     options: &[u8],
@@ -100,7 +101,7 @@ pub(crate) fn add_word<A: Allocator>(text: &mut Vec<u8, A>, word: &[u8]) -> Resu
     text.extend_from_slice(word)
 }
 
-/// Appends each of the words of a text, with a space in front.
+/// Appends each word of a text, with a space in front.
 pub(crate) fn add_words<A: Allocator>(
     text: &mut Vec<u8, A>,
     command: &[u8],
@@ -153,9 +154,10 @@ fn add_options<A: Allocator>(
     add_flag(text, b'e', options)
 }
 
-/// Returns the execution file of an `E` line of this node, in this order: `U` with the user and the node, `F` and `I`
-/// with the name that the data gets at the other system, `N` and `Z` as the options have them, `R` with whom to notify,
-/// `e`, and `C` with the command. Names are written as in the line: those of a line with option `q` are quoted.
+/// Returns the execution file of an `E` line of this node. Its lines, in this order: `U` with the user and the node;
+/// `F` and `I`, each with the name of the data at the other system; `N` and `Z`, if these are options; `R` with the
+/// requestor, if there is one; `e`, if it is an option; and `C` with the command. Names are written as in the line:
+/// those of a line with option `q` are quoted.
 pub fn execution_text<A: Allocator>(
     alloc: A,
     node: &Name,

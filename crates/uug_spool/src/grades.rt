@@ -4,7 +4,8 @@ ghost use Rattle.uug_spool.specs.WorkOrder.{grade_of, work_order};
 
 use std::cmp::Ordering;
 
-/// Returns the grade of the C. file of this name: the letter or digit after `C.`. Files of other names are no jobs.
+/// Returns the grade of the C. file of this name: the letter or digit after `C.`. A file of any other name holds no
+/// jobs.
 pub fn grade_of(name: &[u8]) -> Option<u8>
     ensures { result ≡ grade_of name.now }
 {
@@ -14,8 +15,8 @@ pub fn grade_of(name: &[u8]) -> Option<u8>
     }
 }
 
-/// Compares two C. files by the order in which they are taken: by grade, `0` to `9` before `A` to `Z` before `a` to
-/// `z`, and within one grade by name.
+/// Compares two C. files by the order in which they are taken: by grade (`0` to `9`, then `A` to `Z`, then `a` to `z`),
+/// and within a grade by name.
 pub fn work_order(name: &[u8], other: &[u8]) -> Ordering
     ensures { result ≡ work_order name.now other.now }
 {

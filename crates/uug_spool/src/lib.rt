@@ -1,6 +1,6 @@
-//! A spool of Taylor UUCP: the names of its files, the lines of C. files, execution files, statuses and logs, and the order
-//! in which its files come and go.
-//! Nothing here calls the system.
+//! A Taylor UUCP spool: the names of its files, the lines of C. files, execution files, status files and logs, and the
+//! order of the disk operations that store and replace files.
+//! Nothing here makes a system call.
 #![tactic(auto)]
 
 mod command;

@@ -18,33 +18,34 @@ pub struct LogHead<'a> {
     pub user: &'a [u8],
     /// The moment of writing.
     pub moment: Moment,
-    /// The process that writes it.
+    /// The number of the process that writes it.
     pub process: u32,
 }
 
 /// The event of a line of a log.
 #[derive(Clone, Copy, Debug, PartialEq, Eq)]
 pub enum LogEvent<'a> {
-    /// The system is called at this port.
+    /// The system is called, at this port.
     Calls(&'a [u8]),
-    /// The other end has let this one in.
+    /// The other end has accepted the login.
     LoggedIn,
-    /// A call arrives with this login, at this port.
+    /// A call has arrived, with this login, at this port.
     Called(&'a [u8], &'a [u8]),
-    /// The session begins: the size and the window of the packets of this end, and those of the other one.
+    /// The session begins: the packet size and window of this end, and those of the other end.
     Agreed((u16, u8), (u16, u8)),
-    /// The file of this name is sent: its number of bytes.
+    /// The file of this name is sent: its size in bytes.
     Sends(&'a [u8], u64),
-    /// The file of this name is received: its number of bytes, if that was announced.
+    /// The file of this name is received: its size in bytes, if that was announced.
     Receives(&'a [u8], Option<u64>),
-    /// The file of this name goes on: its whole size, if that was announced, and the position from which it is sent.
+    /// Sending the file of this name resumes: its total size in bytes, if that was announced, and the position from
+    /// which it is sent.
     SendsFrom(&'a [u8], Option<u64>, u64),
-    /// The file of this name goes on: its whole size, if that was announced, and the position from which it is
-    /// received.
+    /// Receiving the file of this name resumes: its total size in bytes, if that was announced, and the position from
+    /// which it is received.
     ReceivesFrom(&'a [u8], Option<u64>, u64),
-    /// The number of packets sent, of those sent again, and of those received.
+    /// The number of packets sent, of packets retransmitted, and of packets received.
     Packets(u64, u64, u64),
-    /// The session is over: its seconds, and the bytes of files that went.
+    /// The session is over: its duration in seconds, and the bytes of files transferred.
     Over(u64, u64),
     /// An error.
     Fault(&'a [u8]),
@@ -133,7 +134,7 @@ fn add_agreed<A: Allocator>(
     add_text(line, b")")
 }
 
-/// Appends the number of bytes of a file.
+/// Appends the size of a file in bytes.
 fn add_bytes<A: Allocator>(line: &mut Vec<u8, A>, bytes: u64) -> Result<(), AllocError>
     ensures { OnOk result (line.new.items ≡ line.old.items ++ bytes_text bytes) }
 {
@@ -141,7 +142,7 @@ fn add_bytes<A: Allocator>(line: &mut Vec<u8, A>, bytes: u64) -> Result<(), Allo
     add_text(line, b" bytes)")
 }
 
-/// Appends the number of bytes of a file, if that was announced.
+/// Appends the size of a file in bytes, if that was announced.
 fn add_size<A: Allocator>(line: &mut Vec<u8, A>, bytes: Option<u64>) -> Result<(), AllocError>
     ensures { OnOk result (line.new.items ≡ line.old.items ++ size_text bytes) }
 {
@@ -151,7 +152,7 @@ fn add_size<A: Allocator>(line: &mut Vec<u8, A>, bytes: Option<u64>) -> Result<(
     }
 }
 
-/// Appends the position at which a file goes on, behind its whole size, if that was announced.
+/// Appends the total size of a file, if that was announced, and the position at which the file resumes.
 fn add_position<A: Allocator>(
     line: &mut Vec<u8, A>,
     size: Option<u64>,
@@ -237,8 +238,8 @@ fn add_event<A: Allocator>(
     }
 }
 
-/// Returns a line of a log: the program that writes it, the system and the user (a dash if there is none), the moment
-/// and the process, and the event. It is to be appended by one write.
+/// Returns a line of a log: the program that writes it, the system and the user (a dash for an empty one), the moment
+/// and the process, and the event. It must be appended with one write.
 pub fn log_line<A: Allocator>(
     alloc: A,
     head: &LogHead<'_>,

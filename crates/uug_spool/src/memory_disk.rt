@@ -10,9 +10,9 @@ use std::alloc::Allocator;
 /// An operation on the folders of a spool.
 #[derive(Drop)]
 pub enum Operation<A: Allocator> {
-    /// This file was made, with these bytes.
+    /// This file was created, with these bytes.
     Made(Spot, Vec<u8, A>),
-    /// Its bytes were synced to disk.
+    /// The bytes of this file were synced to disk.
     Synced(Spot),
     /// The file at the first place was renamed to the second one.
     Renamed(Spot, Spot),
@@ -22,7 +22,8 @@ pub enum Operation<A: Allocator> {
     FolderSynced(Room),
 }
 
-/// A spool in memory, of which one operation may fail. It keeps the operations and the notices, and no files.
+/// A spool in memory, in which one operation can be made to fail. It records operations and notices, but keeps no
+/// files.
 #[derive(Drop)]
 pub struct MemoryDisk<A: Allocator> {
     operations: Vec<Operation<A>, A>,
@@ -33,7 +34,8 @@ pub struct MemoryDisk<A: Allocator> {
 }
 
 impl<A: Allocator + Copy> MemoryDisk<A> {
-    /// Makes a disk on which the operation after `fails_after` others fails, and those after it are done again.
+    /// Creates a disk. The first `fails_after` operations succeed, the next one fails, and those after it succeed
+    /// again.
     pub fn new(alloc: A, fails_after: u64) -> Self
         ensures ops { ops_of result ≡ [] }
         ensures told { told_of result ≡ [] }
@@ -61,7 +63,7 @@ impl<A: Allocator + Copy> MemoryDisk<A> {
         self.told.as_slice()
     }
 
-    /// Counts a fault.
+    /// Counts a fault, and returns the error.
     fn fault(&mut self) -> DiskFailed
         ensures ops { ops_of self.new ≡ ops_of self.old }
         ensures told { told_of self.new ≡ told_of self.old }
@@ -72,7 +74,7 @@ impl<A: Allocator + Copy> MemoryDisk<A> {
         DiskFailed
     }
 
-    /// Returns whether the next operation is the one that fails.
+    /// Counts an operation, and returns whether it is the one that fails.
     fn is_faulty(&mut self) -> bool
         ensures ops { ops_of self.new ≡ ops_of self.old }
         ensures told { told_of self.new ≡ told_of self.old }
@@ -85,7 +87,7 @@ impl<A: Allocator + Copy> MemoryDisk<A> {
         false
     }
 
-    /// Notes that this was done, unless it fails.
+    /// Records an operation, unless it is the one that fails.
     fn note(&mut self, operation: Operation<A>) -> Result<(), DiskFailed>
         ensures ok { OnOk result (ops_of self.new ≡ ops_of self.old ++ op_of operation ∷ []) }
         ensures err { OnErr result (ops_of self.new ≡ ops_of self.old) }

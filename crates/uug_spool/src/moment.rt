@@ -1,13 +1,13 @@
-//! The moment of a line of a log.
+//! The date and time in a line of a log.
 ghost use Rattle.std.specs.Prelude.{◌≡◌, ◌++◌, OnOk};
 ghost use Rattle.uug_spool.specs.Moments.{moment_text, two_digits};
 
 use std::alloc::{AllocError, Allocator};
 
-/// A day, and a time of it.
+/// A date and a time of day.
 #[derive(Clone, Copy, Debug, PartialEq, Eq)]
 pub struct Moment {
-    /// The year, of which the last four digits are written.
+    /// The year. Only its last four digits are written.
     pub year: u16,
     /// The month, from 1 on.
     pub month: u8,
@@ -30,7 +30,7 @@ pub(crate) fn two_digits(number: u32) -> [u8; 2]
     [b'0' + (number / 10 % 10) as u8, b'0' + (number % 10) as u8]
 }
 
-/// Returns the text of a moment.
+/// Returns the text of a moment: `YEAR-MONTH-DAY HOUR:MINUTE:SECOND.HUNDREDTHS`.
 fn moment_text(moment: &Moment) -> [u8; 22]
     ensures { result ≡ moment_text moment.now }
 {

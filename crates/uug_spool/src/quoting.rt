@@ -1,4 +1,4 @@
-//! Names in the lines of C. files, where a backslash and three octal digits stand for a byte.
+//! Quoted names in the lines of C. files, where a backslash and three octal digits stand for a byte.
 ghost use Rattle.std.specs.Prelude.{◌≡◌, ◌+◌, ◌≤◌, ◌∷◌, ◌++◌, [], length, All, MatchOption, OnOk, IfOk, IfSome};
 ghost use Rattle.uug_spool.specs.Quoting.{byte_in_digits, is_octal, is_well_quoted, needs_quoting, octal_byte, quoted, quoted_byte, unquoted};
 
@@ -10,7 +10,8 @@ fn is_octal(byte: u8) -> bool
     b'0' <= byte && byte <= b'7'
 }
 
-/// Returns the byte that three octal digits stand for. `None` if they are no digits, or stand for more than 255.
+/// Returns the byte that three octal digits stand for. Returns `None` if one is no octal digit, or they stand for more
+/// than 255.
 fn octal_byte(high: u8, middle: u8, low: u8) -> Option<u8>
     ensures { result ≡ octal_byte high middle low }
 {
@@ -21,7 +22,7 @@ fn octal_byte(high: u8, middle: u8, low: u8) -> Option<u8>
     }
 }
 
-/// Returns the byte that a backslash and three octal digits in front of a text stand for, if they are there.
+/// Returns the byte of a backslash and three octal digits, if the text begins with these.
 fn byte_in_digits(text: &[u8]) -> Option<u8>
     ensures byte { result ≡ byte_in_digits text.now }
     ensures long { IfSome result (λ byte. 4 ≤ length text.now) }
@@ -46,7 +47,7 @@ pub(crate) fn is_well_quoted(word: &[u8]) -> bool
     true
 }
 
-/// Returns the byte that the front of a text stands for, and the rest of the text, or `None` if the text is empty.
+/// Returns the first byte of a text as unquoted, and the rest of the text. Returns `None` if the text is empty.
 fn first_byte(text: &[u8]) -> Option<(u8, &[u8])>
     ensures bytes { MatchOption result (unquoted text.now ≡ [])
         (λ found. unquoted text.now ≡ found.0 ∷ unquoted found.1.now) }
@@ -83,7 +84,7 @@ fn needs_quoting(byte: u8) -> bool
     !byte.is_ascii_graphic() || byte == b'"' || byte == b'\\'
 }
 
-/// Appends a byte, as it is in a quoted word.
+/// Appends a byte as it is written in a quoted word.
 fn add_quoted_byte<A: Allocator>(text: &mut Vec<u8, A>, byte: u8) -> Result<(), AllocError>
     ensures { OnOk result (text.new.items ≡ text.old.items ++ quoted_byte byte) }
 {
@@ -99,8 +100,8 @@ fn add_quoted_byte<A: Allocator>(text: &mut Vec<u8, A>, byte: u8) -> Result<(), 
     ])
 }
 
-/// Returns the word of a name. A byte that is no printing character, a space, `"` and the backslash become a backslash
-/// and three octal digits. A line with a quoted word has the option `q`.
+/// Returns a name as a quoted word. A space, `"`, a backslash, and any byte that is no printing character become a
+/// backslash and three octal digits. A line with a quoted word has the option `q`.
 pub fn quoted<A: Allocator>(alloc: A, name: &[u8]) -> Result<Vec<u8, A>, AllocError>
     ensures { IfOk result (λ word. word.items ≡ quoted name.now) }
 {

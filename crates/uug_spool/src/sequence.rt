@@ -1,8 +1,8 @@
-//! The numbers of the files that a system makes for another one, as its file SEQF has them.
+//! The sequence numbers of the files that a system makes for another one, as in its file SEQF.
 ghost use Rattle.std.specs.Prelude.{true, ◌≡◌, ◌<◌, ◌≤◌};
 ghost use Rattle.uug_spool.specs.Sequence.{digit, digit_value, is_digit, next_sequence, sequence_value};
 
-/// The count of the numbers: four digits of base 36.
+/// The number of sequence numbers: each is four digits of base 36.
 const NUMBERS: u32 = 1_679_616;
 
 /// Returns whether a byte is a digit of base 36: `0` to `9` or `A` to `Z`.
@@ -49,8 +49,8 @@ fn sequence_value(text: &[u8]) -> u32
     46_656 * digit_value(*a) + 1_296 * digit_value(*b) + 36 * digit_value(*c) + digit_value(*d)
 }
 
-/// Returns the number after the one in the text of SEQF, as four digits of base 36. After `ZZZZ` comes `0000`. A text
-/// without a number counts as `0000`.
+/// Returns the sequence number after the one in the text of SEQF, as four digits of base 36. The number after `ZZZZ` is
+/// `0000`. A text without a number counts as `0000`.
 pub fn next_sequence(text: &[u8]) -> [u8; 4]
     ensures { result ≡ next_sequence text.now }
 {

@@ -1,4 +1,4 @@
-//! The names of the files of a spool: the place of a file that another system sends, and the names of data there.
+//! The names of the files of a spool: the place of a file that another system sends, and the names of data.
 ghost use Rattle.std.specs.Prelude.{◌≡◌, ◌+◌, ◌≤◌, ◌++◌, length};
 ghost use Rattle.uug_spool.specs.SpoolNames.{data_spot, far_name, has_slash, has_two_dots, is_data_name, is_system_name, local_name, public_spot, spool_spot, spot_of};
 ghost use Rattle.uug_spool.specs.declared.spool_names.TheConstants.{FAR_NAME_MAX};
@@ -7,16 +7,16 @@ use arrayvec::ArrayVec;
 use thiserror::Error;
 use uug_talk::Name;
 
-/// The most bytes of a name that this system gives to its own data: `D.` and four digits.
+/// The maximum size of a name that this system gives to its own data, in bytes: `D.` and four digits.
 pub const OWN_DATA_MAX: usize = 6;
 
-/// The most bytes of a name that this system gives to its own texts: `D.X` and four digits.
+/// The maximum size of a name that this system gives to its own texts, in bytes: `D.X` and four digits.
 pub const OWN_TEXT_MAX: usize = 7;
 
-/// The most bytes of a name that data gets at another system.
+/// The maximum size of the name of data at another system, in bytes.
 pub const FAR_NAME_MAX: usize = 14;
 
-/// The most letters of a node's name in the names that its files get at another system.
+/// The maximum number of letters of a node's name in the names of its files at another system.
 const NODE_LETTERS: usize = 7;
 
 /// A folder of a spool, or the public one.
@@ -32,11 +32,11 @@ pub enum Room {
     Execution,
     /// The public folder.
     Public,
-    /// `.Temp`, the system's folder there: files that are being received.
+    /// The system's folder in `.Temp`: files that are being received, or written to replace a C. file.
     Temporary,
-    /// `.Received`, the system's folder there: a marker for each received file.
+    /// The system's folder in `.Received`: a marker for each received file.
     Marked,
-    /// `.Preserve`, the system's folder there: data of jobs that have failed.
+    /// `.Preserve`, which all systems share: data of jobs that have failed.
     Preserved,
 }
 
@@ -49,7 +49,7 @@ pub struct Spot {
     pub name: Name,
 }
 
-/// The reason for which no file is taken under a name.
+/// The reason why no file is accepted under a name.
 #[derive(Clone, Copy, Debug, PartialEq, Eq, Error)]
 pub enum Barred {
     /// The name is a path that may lead elsewhere, or names a folder.
@@ -61,7 +61,7 @@ pub enum Barred {
     /// The name is one that this system gives to its own data.
     #[error("the name of data of this system")]
     Ours,
-    /// The name begins with a dot in the public folder.
+    /// The name is in the public folder, and begins with a dot.
     #[error("a hidden name")]
     Hidden,
 }
@@ -89,8 +89,8 @@ fn has_two_dots(name: &[u8]) -> bool
 /// Returns the place of a file that another system sends under this name.
 ///
 /// `D.` and `X.` names without a slash are in the spool, except those that this system gives to its own data. `~/x`,
-/// `/x` and `x` are `x` in the public folder. All else is barred: C. names, two dots side by side, any other slash, a
-/// dot in front, and the public folder itself.
+/// `/x` and `x` are `x` in the public folder. Everything else is barred: C. names, two dots side by side, any other
+/// slash, any other tilde in front, a dot in front, and the public folder itself.
 pub fn spot_of(target: &Name) -> Result<Spot, Barred>
     ensures { result ≡ spot_of target.now }
 {
@@ -111,7 +111,7 @@ pub fn spot_of(target: &Name) -> Result<Spot, Barred>
     }
 }
 
-/// Returns the place of a file of the spool, where names of at most `own_max` bytes are this system's own.
+/// Returns the place of a file in the spool. Names of at most `own_max` bytes are this system's own, and barred.
 fn spool_spot(room: Room, own_max: usize, name: &Name) -> Result<Spot, Barred>
     ensures { result ≡ spool_spot room own_max name.now }
 {
@@ -125,7 +125,7 @@ fn spool_spot(room: Room, own_max: usize, name: &Name) -> Result<Spot, Barred>
     Ok(Spot { room, name: *name })
 }
 
-/// Returns a name without the prefix of the public folder or the root.
+/// Strips `~/` or `/` from the front of a name.
 pub fn local_name(name: &[u8]) -> &[u8]
     ensures { result.now ≡ local_name name.now }
 {
@@ -157,8 +157,8 @@ fn public_spot(name: &[u8]) -> Result<Spot, Barred>
     }
 }
 
-/// Returns whether a name may be that of data in a spool, or of a file that is being received there: `D.` and more,
-/// without a slash and without two dots side by side.
+/// Returns whether a name can be that of data in a spool: `D.` and more, without a slash and without two dots side by
+/// side.
 pub fn is_data_name(name: &[u8]) -> bool
     ensures { result ≡ is_data_name name.now }
 {
@@ -177,7 +177,7 @@ pub fn data_spot(name: &Name) -> Spot
     Spot { room, name: *name }
 }
 
-/// Returns whether the name of a system may be that of its folder in a spool: no slash, and no dot in front.
+/// Returns whether the name of a system can be that of its folder in a spool: no slash, and no leading dot.
 pub fn is_system_name(name: &Name) -> bool
     ensures { result ≡ is_system_name name.now }
 {
@@ -185,8 +185,8 @@ pub fn is_system_name(name: &Name) -> bool
     !has_slash(bytes) && !bytes.starts_with(b".")
 }
 
-/// Returns the name that a file of this node gets at another system: the kind of the file (`D` or `X`), a dot, the
-/// first seven letters of the node's name, the grade and the number.
+/// Returns the name of a file of this node at another system: the kind of the file (`D` or `X`), a dot, the first seven
+/// letters of the node's name, the grade and the number.
 pub fn far_name(kind: u8, node: &Name, grade: u8, number: [u8; 4]) -> ArrayVec<u8, FAR_NAME_MAX>
     ensures { result.items ≡ far_name kind node.now grade number }
 {

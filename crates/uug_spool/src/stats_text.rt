@@ -8,20 +8,20 @@ use crate::moment::{Moment, add_moment, two_digits};
 use crate::parts::{add_named, add_number};
 use std::alloc::{AllocError, Allocator};
 
-/// The file of a line of the statistics.
+/// The head of a line of the statistics: the file that it is about.
 #[derive(Clone, Copy, Debug, PartialEq, Eq)]
 pub struct StatsHead<'a> {
     /// The user that the job belongs to.
     pub user: &'a [u8],
     /// The other system.
     pub system: &'a [u8],
-    /// The moment at which the file had gone.
+    /// The moment at which the transfer of the file ended.
     pub moment: Moment,
-    /// The port of the line.
+    /// The port of the call.
     pub port: &'a [u8],
 }
 
-/// The direction of a file.
+/// The direction of a transfer.
 #[derive(Clone, Copy, Debug, PartialEq, Eq)]
 pub enum Course {
     /// Sent to the other system.
@@ -30,7 +30,7 @@ pub enum Course {
     Received,
 }
 
-/// The amount of a file that went, and the time that it took.
+/// The bytes of a file that were transferred, and the time that this took.
 #[derive(Clone, Copy, Debug, PartialEq, Eq)]
 pub struct Amount {
     /// The number of bytes.
@@ -74,7 +74,7 @@ fn add_seconds<A: Allocator>(line: &mut Vec<u8, A>, thousandths: u32) -> Result<
     line.extend_from_slice(&[b'.', b'0' + (thousandths / 100 % 10) as u8, tens, last])
 }
 
-/// Appends the amount of a file that went, and the time that it took.
+/// Appends the bytes of a file that were transferred, the time that this took, and the bytes per second.
 fn add_amount<A: Allocator>(line: &mut Vec<u8, A>, amount: Amount) -> Result<(), AllocError>
     ensures { OnOk result (line.new.items
         ≡ line.old.items ++ amount_text amount.bytes amount.thousandths) }
@@ -97,8 +97,8 @@ fn add_file<A: Allocator>(line: &mut Vec<u8, A>, head: &StatsHead<'_>) -> Result
     line.extend_from_slice(b") ")
 }
 
-/// Returns the line of a file in the statistics: the user, the system, the moment at which it had gone, whether it
-/// failed, its direction, the bytes that went and the time, and the port. It is to be appended by one write.
+/// Returns the line of a file in the statistics: the user, the system, the moment at which the transfer ended, whether
+/// it failed, its direction, the bytes, time and speed, and the port. It must be appended with one write.
 pub fn stats_line<A: Allocator>(
     alloc: A,
     head: &StatsHead<'_>,

@@ -7,7 +7,7 @@ use crate::parts::{add_named, add_number};
 use std::alloc::{AllocError, Allocator};
 use uug_talk::{NUMBER_MAX, Name, read_number, split_word};
 
-/// The seconds by which each failed call in a row puts off the next one.
+/// The seconds to wait before the next call, for each failed call in a row.
 const SECONDS_PER_TRY: u64 = 600;
 
 /// The result of a call.
@@ -19,13 +19,13 @@ pub enum CallState {
     PortUnavailable,
     /// Nobody answered.
     DialFailed,
-    /// The other end did not let this one in.
+    /// The login at the other end failed.
     LoginFailed,
     /// The other end refused the session, or the line ended before it began.
     HandshakeFailed,
     /// The session broke.
     CallFailed,
-    /// The call goes on.
+    /// The call is in progress.
     Talking,
     /// The system may not be called now.
     WrongTime,
@@ -40,7 +40,7 @@ pub struct Status {
     pub tries: u32,
     /// The time of the last call, in seconds since 1970.
     pub time: u32,
-    /// The seconds after the last call until the next one may be.
+    /// The seconds to wait after the last call before the next one.
     pub wait: u32,
 }
 
@@ -117,8 +117,8 @@ fn state_of(code: &[u8]) -> Option<CallState>
     }
 }
 
-/// Reads the text of a status file, if its first four words are a digit from 0 to 7 and three numbers of at most 32
-/// bits. Words after these are skipped.
+/// Reads the text of a status file. Returns `None` unless its first four words are a digit from 0 to 7 and three
+/// numbers of at most 32 bits. Words after these are skipped.
 pub fn read_status(text: &[u8]) -> Option<Status>
     ensures { result ≡ status_of text.now }
 {
@@ -154,8 +154,8 @@ fn wait_after(state: CallState, tries: u32) -> u32
     }
 }
 
-/// Returns the status after a call of this end that failed with this result, at this time. One more call in a row has
-/// failed than before. The wait is ten minutes for each of them, or none if it was the wrong time to call.
+/// Returns the status after a call of this end that failed with this result, at this time. The number of failed calls
+/// in a row rises by one. The wait is ten minutes for each of them, or none if it was the wrong time to call.
 pub fn status_failed(state: CallState, before: Option<Status>, time: u32) -> Status
     ensures { result ≡ status_failed state before time }
 {

@@ -1,4 +1,4 @@
-//! The operations on the disk before a received file is acknowledged.
+//! The disk operations that put a file in its place. A received file is acknowledged only after them.
 ghost use Rattle.std.specs.Prelude.{◌≡◌, true, OnOk, OnErr};
 ghost use Rattle.uug_spool.specs.DiskOrder.{finished_ops, replaced_ops, stored_ops};
 ghost use Rattle.uug_spool.specs.Operations.{FrontDone, HasFault, also_all};
@@ -9,11 +9,12 @@ use crate::disk::{Disk, DiskFailed};
 use crate::spool_names::{Room, Spot};
 use uug_talk::Name;
 
-/// Puts a received file into its place. It is renamed only after its bytes, and a marker of its name with this text,
-/// were synced to disk; then its place is synced. A left-over file of this name is removed first.
+/// Stores a received file in its place. First a left-over temporary file of this name is removed. Then the file is
+/// written and synced, and after it a marker of its name with this text. Only then is the file renamed, and its place
+/// synced.
 ///
-/// Wherever a power cut stops this, the place has what it had before or the whole file, and no new file is without its
-/// marker. Once it is done, the file is there, complete.
+/// Wherever a power cut stops this, the place holds what it held before, or the complete file, and a new file is never
+/// there without its marker. Once this is done, the complete file is there.
 #[tactic(auto, using(crate::proofs::StoredSafelyLemmas::stays_safe, crate::proofs::StoredSafelyLemmas::stays_marked, crate::proofs::StoredSafelyLemmas::all_stays_safe, crate::proofs::StoredSafelyLemmas::all_stays_marked, crate::proofs::StoredSafelyLemmas::is_there))]
 pub fn store<D: Disk>(
     disk: &mut D,
@@ -76,7 +77,8 @@ fn store_marked<D: Disk>(
     Ok(())
 }
 
-/// Puts a file into its place that was complete beside its marker when this end was stopped.
+/// Finishes a `store` that was stopped once the file and its marker were complete: renames the file into its place, and
+/// syncs the folders.
 pub fn finish<D: Disk>(disk: &mut D, temp: &Name, target: &Spot) -> Result<(), DiskFailed>
     ensures ok { OnOk result (D.done disk.new
         ≡ also_all (finished_ops temp.now target.now) (D.done disk.old)) }
@@ -96,11 +98,11 @@ pub fn finish<D: Disk>(disk: &mut D, temp: &Name, target: &Spot) -> Result<(), D
     Ok(())
 }
 
-/// Replaces a file with one of these bytes. It is renamed only after its bytes were synced to disk; then its place is
-/// synced. A file of its name among those being received is removed first.
+/// Replaces a file with one of these bytes. First a left-over temporary file of its name is removed. Then the new file
+/// is written and synced. Only then is it renamed, and its place synced.
 ///
-/// Wherever a power cut stops this, the place has what it had before or the whole file. Once it is done, the file is
-/// there, complete.
+/// Wherever a power cut stops this, the place holds what it held before, or the complete file. Once this is done, the
+/// complete file is there.
 #[tactic(auto, using(crate::proofs::ReplacedLemmas::stays_safe, crate::proofs::ReplacedLemmas::all_stays_safe, crate::proofs::ReplacedLemmas::is_there))]
 pub fn replace<D: Disk>(disk: &mut D, target: &Spot, bytes: &[u8]) -> Result<(), DiskFailed>
     ensures ok { OnOk result (D.done disk.new

@@ -1,12 +1,13 @@
--- Where the folders and files of a spool are (that each system has a folder with one for each kind of its files is Taylor UUCP's; the
--- folders whose names begin with a dot are as it has them too, but that each system has its own in .Temp and .Received; it has no .Partial).
+-- Where the folders and files of a spool are (as in Taylor UUCP, each system has a folder, with one for each kind of
+-- its files; the folders whose names begin with a dot are Taylor UUCP's too, except that here each system has its own
+-- in .Temp and .Received; Taylor UUCP has no .Partial).
 use Rattle.std.specs.Prelude.{ℕ, List, ◌++◌, codes, string_bytes}
 use Rattle.uug_spool.specs.declared.spool_names.Room.{Room}
 use Rattle.uug_spool.specs.declared.spool_names.Room.TheVariants as rooms
 use Rattle.uug_spool.specs.declared.spool_names.Spot.{Spot}
 use Rattle.uug_spool_disk.specs.declared.spool_paths.SpoolPaths.{SpoolPaths}
 
--- the folder of one kind of files, for a system of the spool at this path, beside this public folder
+-- the folder of a room, by the path of the spool, the name of the system, and the path of the public folder
 abbrev pub room_at : (spool system public : List ℕ) → Room → List ℕ
 room_at spool system public rooms.Commands = spool ++ codes "/" ++ system ++ codes "/C."
 room_at spool system public rooms.Data = spool ++ codes "/" ++ system ++ codes "/D."
@@ -20,11 +21,11 @@ room_at spool system public rooms.Preserved = spool ++ codes "/.Preserve"
 abbrev pub room_path : {A : Type 0} → SpoolPaths A → Room → List ℕ
 room_path paths room = room_at (string_bytes paths.spool) paths.system (string_bytes paths.public) room
 
--- the folder in which is held what has come of this system's files that were cut off
+-- the folder with the partial files of this system
 abbrev pub partial_path : {A : Type 0} → SpoolPaths A → List ℕ
 partial_path paths = string_bytes paths.spool ++ codes "/.Partial/" ++ paths.system
 
--- all systems have one folder of preserved files, and data of the same names
+-- all systems share the folder of preserved files, and may have data of the same names
 abbrev pub name_at : (system : List ℕ) → Room → (name : List ℕ) → List ℕ
 name_at system rooms.Preserved name = system ++ codes "." ++ name
 name_at system _ name = name

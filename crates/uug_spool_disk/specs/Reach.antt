@@ -1,4 +1,4 @@
--- Which of the system's errors say that a file can't be put at a path, whatever is tried (this project's profile).
+-- Which of the system's errors mean that a file can't be put at a path, whatever is tried (this project's profile).
 use Rattle.std.specs.Prelude.{not, Bool, true, false}
 use Rattle.std.specs.declared.io.ErrorKind.{ErrorKind}
 use Rattle.std.specs.declared.io.ErrorKind.TheVariants as kinds
@@ -15,7 +15,7 @@ is_no_place kinds.CrossesDevices = true
 is_no_place kinds.InvalidFilename = true
 is_no_place _ = false
 
--- a C. file only takes the place of one that is still there
+-- a C. file only replaces one that still exists
 abbrev pub is_absent : Room → (is_there : Bool) → Bool
 is_absent rooms.Commands is_there = not is_there
 is_absent _ is_there = false

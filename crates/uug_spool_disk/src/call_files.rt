@@ -14,7 +14,7 @@ use uug_talk::{NUMBER_MAX, read_number};
 /// The maximum size of a status file that is read, in bytes.
 const STATUS_MAX: usize = 4096;
 
-/// Returns how the last call with the system went, if its file says it.
+/// Returns the result of the last call with the system, if its status file can be read.
 pub fn read_status_file<A: Allocator + Copy, R: Files>(
     alloc: A,
     rt: &R,
@@ -27,8 +27,8 @@ pub fn read_status_file<A: Allocator + Copy, R: Files>(
     read_status(text.as_slice())
 }
 
-/// Writes how a call with the system went to its status file, as a whole. Nobody waits for the disk: it is written
-/// again at the next call.
+/// Replaces the status file of the system, by renaming a new file. The file is not synced: it is written again at the
+/// next call.
 pub fn write_status_file<A: Allocator + Copy, R: Files>(
     alloc: A,
     rt: &R,
@@ -47,8 +47,8 @@ pub fn write_status_file<A: Allocator + Copy, R: Files>(
     fs::rename(rt, part.as_str(), path.as_str())
 }
 
-/// Appends a line to the file at a path, by one write unless the system takes only a part of it. A pipe with a name of
-/// its own is refused: nobody may read it.
+/// Appends a line to the file at a path, with one write unless the system writes only a part. A named pipe is refused:
+/// it may have no reader.
 pub fn append_line<R: Files<File = File>>(rt: &R, path: &str, line: &[u8]) -> io::Result<()> {
     if is_named_pipe(rt, path) {
         return Err(io::Error::from(ErrorKind::Unsupported));
@@ -57,8 +57,8 @@ pub fn append_line<R: Files<File = File>>(rt: &R, path: &str, line: &[u8]) -> io
     file.write_all(line)
 }
 
-/// Returns whether there is a pipe at a path that would be waited for when it is opened. No path below `/dev` or
-/// `/proc` counts: this process may have it already, such as its standard output.
+/// Returns whether there is a named pipe at a path, whose opening may block. A path below `/dev` or `/proc` doesn't
+/// count: it may be open in this process already, such as its standard output.
 pub(crate) fn is_named_pipe<R: Files>(rt: &R, path: &str) -> bool {
     if path.starts_with("/dev/") || path.starts_with("/proc/") {
         return false;

@@ -1,4 +1,5 @@
-//! A spool of Taylor UUCP on a disk: its folders, what is done to them, tried and read there, and the files about calls.
+//! A Taylor UUCP spool on a disk: the paths of its folders, operations and checks on them, their listing and reading,
+//! and the files about calls.
 #![tactic(auto)]
 
 mod call_files;

@@ -1,8 +1,8 @@
-//! The time of the system's clock, as a status has it.
+//! The time of the system's clock, as in a status.
 
 use std::time::{Clock, SystemTime, UNIX_EPOCH};
 
-/// Returns the seconds since 1970, as far as they fit, or 0 if the clock reports nothing.
+/// Returns the seconds since 1970, at most `u32::MAX`, or 0 if the clock fails or is before 1970.
 pub fn seconds_since_1970<R: Clock>(rt: &R) -> u32 {
     let Ok(time) = SystemTime::now(rt) else {
         return 0;

@@ -13,7 +13,7 @@ use std::{fs, io};
 use uug_failure::{Resource, RunFault};
 use uug_talk::Name;
 
-/// The names in the public folder that a session can say.
+/// The names in the public folder that are valid in a session.
 #[derive(Drop)]
 pub struct PublicListing<A: Allocator> {
     /// The names of its files.
@@ -22,13 +22,13 @@ pub struct PublicListing<A: Allocator> {
     pub folders: Vec<Name, A>,
     /// The names of files that this program can't replace.
     pub anothers: Vec<Name, A>,
-    /// Set if this program can't put anything there.
+    /// Set if this program can't store anything there.
     pub is_closed: bool,
     /// Set if the system failed to list it.
     pub is_unknown: bool,
 }
 
-/// The owner of a file, and its mode.
+/// The owner and the mode of a file.
 #[derive(Clone, Copy)]
 struct Access {
     owner: u32,
@@ -44,8 +44,8 @@ impl Access {
     }
 }
 
-/// Returns whether a user can surely put nothing in a folder. It is another's, and neither a group nor everybody may
-/// write there; or it is their own, and they may not. Root may.
+/// Returns whether a user certainly can't create files in a folder. Either it belongs to another user, and neither its
+/// group nor everybody may write there; or it is the user's own, and they may not. Root always may.
 fn is_closed(folder: Access, me: u32) -> bool
     ensures { result ≡ is_closed folder.owner folder.mode me }
 {
@@ -53,8 +53,8 @@ fn is_closed(folder: Access, me: u32) -> bool
     me != 0 && folder.mode & bits == 0
 }
 
-/// Returns whether a file is one that a user can't replace: that of another, in a folder of another from which each may
-/// remove only their own. Root may.
+/// Returns whether a user can't replace a file. Neither the file nor its folder is theirs, and the folder lets each
+/// user remove only their own files. Root always can.
 fn is_anothers(folder: Access, owner: u32, me: u32) -> bool
     ensures { result ≡ is_anothers folder.owner folder.mode owner me }
 {
@@ -80,7 +80,7 @@ impl<A: Allocator + Copy> PublicListing<A> {
         listing
     }
 
-    /// Adds the name of an entry, if a session can say it. A file that has vanished is skipped.
+    /// Adds the name of an entry, if it is valid in a session. A file that has vanished is skipped.
     fn add<R: Files + Alloc + Clone + Drop>(
         &mut self,
         entry: &DirEntry<R, R::A>,
@@ -140,7 +140,8 @@ fn read_listing<A: Allocator + Copy, R: Files + Alloc + Clone + Drop>(
     Ok(listing)
 }
 
-/// Returns the user as whom this program runs, or root if the system does not report it: then it is tried.
+/// Returns the user that this program runs as. Returns root if the system does not report it: then nothing is ruled out
+/// before it is tried.
 fn user_of<R: Files>(rt: &R) -> u32 {
     match fs::metadata(rt, "/proc/self") {
         Ok(process) => process.uid(),

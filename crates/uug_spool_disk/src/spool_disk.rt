@@ -23,16 +23,16 @@ use uug_talk::Name;
 /// The name of the file that lists jobs that have failed, in the folder of preserved files.
 const TOLD: &str = "failed";
 
-/// The maximum number of preserved files of one name, which differ in the number after it.
+/// The maximum number of preserved files of one name. All but the first have a number after it.
 const PRESERVED_MAX: u32 = 10_000;
 
-/// The mode of a file that everybody may read, and write if the mask of the process lets them.
+/// The mode of a file in the public folder, before the process's umask: everybody may read and write.
 const PUBLIC_MODE: u32 = 0o666;
 
-/// The mode of each other file.
+/// The mode of any other file: only its owner may read and write.
 const PRIVATE_MODE: u32 = 0o600;
 
-/// A file that has come into its place.
+/// A received file that was moved into its place.
 #[derive(Clone, Copy)]
 pub struct Arrived {
     /// Its place.
@@ -50,14 +50,14 @@ pub struct Preserved<A: Allocator> {
     pub path: String<A>,
 }
 
-/// The folders of a spool on a disk. A missing folder is created when a file comes into it.
+/// The folders of a spool on a disk. A missing folder is created when a file is put in it.
 #[derive(Drop)]
 pub struct SpoolDisk<'a, 'p, R, A: Allocator> {
     rt: &'a R,
     paths: &'p SpoolPaths<A>,
     alloc: A,
     faults: Faults,
-    /// The size in bytes of the file that came last, which is beside its place.
+    /// The size in bytes of the last file created in `Room::Temporary`.
     size: u64,
     arrived: Vec<Arrived, A>,
     preserved: Vec<Preserved<A>, A>,
@@ -81,31 +81,31 @@ impl<'a, 'p, R: Files<File = File>, A: Allocator + Copy> SpoolDisk<'a, 'p, R, A>
 }
 
 impl<R, A: Allocator> SpoolDisk<'_, '_, R, A> {
-    /// Returns why a call of the system failed first, if one did.
+    /// Returns the first failure of a system call, if there was one.
     pub fn failure(&self) -> Option<SystemFailure>
         ensures told { 0 < self.now.faults.count → IsSome result }
     {
         self.faults.first()
     }
 
-    /// Returns the files that have come into their places, as far as there was memory to keep that.
+    /// Returns the received files that were moved into their places, as far as there was memory to record them.
     pub fn arrived(&self) -> &[Arrived] {
         self.arrived.as_slice()
     }
 
-    /// Returns the files that were preserved, as far as there was memory to keep that.
+    /// Returns the files that were preserved, as far as there was memory to record them.
     pub fn preserved(&self) -> &[Preserved<A>] {
         self.preserved.as_slice()
     }
 
-    /// Notes that a file was preserved.
+    /// Records a preserved file, if there is memory.
     fn note_preserved(&mut self, name: &Name, path: String<A>)
         ensures { self.new.faults ≡ self.old.faults }
     {
         let _ = self.preserved.push(Preserved { name: *name, path });
     }
 
-    /// Notes that a file has moved, if it was one that came.
+    /// Records a received file that was moved into its place, if there is memory. Other files are not recorded.
     fn note_moved(&mut self, from: &Spot, to: &Spot)
         ensures { self.new.faults ≡ self.old.faults }
     {
@@ -118,7 +118,7 @@ impl<R, A: Allocator> SpoolDisk<'_, '_, R, A> {
         }
     }
 
-    /// Returns the result of a call of the system. A failure is counted.
+    /// Converts the result of a system call, and records a failure.
     fn answer(&mut self, answer: io::Result<()>) -> Result<(), DiskFailed>
         ensures calm { OnOk result (self.new.faults.count ≡ self.old.faults.count) }
         ensures fault { OnErr result
@@ -146,7 +146,7 @@ impl<R: Files<File = File>, A: Allocator + Copy> Disk for SpoolDisk<'_, '_, R, A
 
     ghost fault_count = { λ disk. disk.faults.count };
 
-    /// Creates a file with these bytes. A file of this name that is left over is removed before.
+    /// Creates a file with these bytes. A left-over file of this name is removed first.
     fn make(&mut self, spot: &Spot, bytes: &[u8]) -> Result<(), DiskFailed> {
         let made = make_file(self.alloc, self.rt, self.paths, spot, bytes);
         if spot.room == Room::Temporary {
@@ -168,7 +168,7 @@ impl<R: Files<File = File>, A: Allocator + Copy> Disk for SpoolDisk<'_, '_, R, A
         self.answer(moved)
     }
 
-    /// Leaves what has that place already, and takes the next free name.
+    /// Keeps a file that has this name already, and picks the next free name.
     fn put_away(&mut self, from: &Spot, to: &Spot) -> Result<(), DiskFailed> {
         match preserve_file(self.alloc, self.rt, self.paths, from, to) {
             Ok(path) => {
@@ -195,7 +195,7 @@ impl<R: Files<File = File>, A: Allocator + Copy> Disk for SpoolDisk<'_, '_, R, A
     }
 }
 
-/// Returns the result, where a missing file is no fault.
+/// Returns this result, with `NotFound` as success.
 fn unless_gone(answer: io::Result<()>) -> io::Result<()>
     ensures done { OnOk answer (IsOk result) }
     ensures gone { IfErr answer (λ error. error_kind error ≡ ErrorKind.NotFound → IsOk result) }
@@ -207,7 +207,8 @@ fn unless_gone(answer: io::Result<()>) -> io::Result<()>
     }
 }
 
-/// Creates a file, and writes it. One that can't be written whole is removed: it would keep a full disk full.
+/// Creates a file and writes it. A file of this name is removed first, and a missing folder is created. If the write
+/// fails, the new file is removed: it would keep a full disk full.
 pub(crate) fn make_file<A: Allocator + Copy, R: Files<File = File>>(
     alloc: A,
     rt: &R,
@@ -231,8 +232,8 @@ pub(crate) fn make_file<A: Allocator + Copy, R: Files<File = File>>(
     written
 }
 
-/// Returns the mode of a file before the mask of the process. Everybody may read what goes into the public folder, and
-/// nobody else a mail.
+/// Returns the mode of a new file, before the process's umask. Everybody may read a file in the public folder. Only its
+/// owner may read any other, such as mail.
 fn mode_of(spot: &Spot) -> u32
     ensures public { (target : Spot) → spot.now.room ≡ rooms.Temporary → spot_of spot.now.name ≡ Ok target
         → target.room ≡ rooms.Public → result ≡ PUBLIC_MODE }
@@ -245,7 +246,7 @@ fn mode_of(spot: &Spot) -> u32
     }
 }
 
-/// Creates a file that is not there yet.
+/// Creates a file that doesn't exist yet.
 fn new_file<R: Files<File = File>>(rt: &R, path: &str, mode: u32) -> io::Result<File> {
     OpenOptions::new()
         .write(true)
@@ -254,7 +255,8 @@ fn new_file<R: Files<File = File>>(rt: &R, path: &str, mode: u32) -> io::Result<
         .open(rt, path)
 }
 
-/// Removes what kept a file from being created: there is one of its name, or its folder is missing.
+/// Makes way for a file that could not be created: removes a file of its name, or creates its missing folder. Returns
+/// any other error.
 fn make_way<A: Allocator + Copy, R: Files>(
     alloc: A,
     rt: &R,
@@ -270,7 +272,7 @@ fn make_way<A: Allocator + Copy, R: Files>(
     }
 }
 
-/// Creates the folder of a room, and those in which it is.
+/// Creates the folder of a room, and its parents.
 fn make_room<A: Allocator + Copy, R: Files>(
     alloc: A,
     rt: &R,
@@ -292,8 +294,8 @@ fn see_file<A: Allocator + Copy, R: Files>(
     File::open(rt, path.as_str())?.sync_all()
 }
 
-/// Moves a file to another place. A missing folder there is created. A C. file only replaces one that is still there:
-/// `uustat` may have removed that meanwhile, and with it the job.
+/// Moves a file to another place. A missing folder there is created. A C. file only replaces one that still exists:
+/// `uustat` may have removed the old one meanwhile, and with it the job. The new file is then removed.
 fn move_file<A: Allocator + Copy, R: Files>(
     alloc: A,
     rt: &R,
@@ -313,14 +315,14 @@ fn move_file<A: Allocator + Copy, R: Files>(
     see_below(rt, to, target.as_str())
 }
 
-/// Returns whether a file comes too late for its place in this room: a C. file does if none is there any more.
+/// Returns whether a file is too late for its place in this room: it is a C. file, and there is none to replace.
 fn is_absent(room: Room, is_there: bool) -> bool
     ensures { result ≡ is_absent room is_there }
 {
     room == Room::Commands && !is_there
 }
 
-/// Removes a file that comes too late for its place.
+/// Removes a file that is too late for its place.
 fn drop_late<R: Files>(rt: &R, source: &str, room: Room, is_there: bool) -> io::Result<()>
     requires { is_absent room is_there ≡ true }
 {
@@ -347,7 +349,7 @@ fn move_path<A: Allocator + Copy, R: Files>(
     }
 }
 
-/// Syncs the folder of a name that is in a folder of its room. The room itself is synced apart.
+/// Syncs the folder of a name that is in a folder of its room. The room itself is synced separately.
 fn see_below<R: Files>(rt: &R, spot: &Spot, path: &str) -> io::Result<()> {
     if !spot.name.as_bytes().contains(&b'/') {
         return Ok(());
@@ -358,7 +360,7 @@ fn see_below<R: Files>(rt: &R, spot: &Spot, path: &str) -> io::Result<()> {
     }
 }
 
-/// Moves a file to a place that nothing has: this one, or one with a number after it. Returns its path.
+/// Moves a file to a free path: this one, or the first one with a number after it. Returns the path.
 fn preserve_file<A: Allocator + Copy, R: Files>(
     alloc: A,
     rt: &R,
@@ -373,7 +375,7 @@ fn preserve_file<A: Allocator + Copy, R: Files>(
     Ok(target)
 }
 
-/// Returns this path, or the first with a number after it, at which nothing is.
+/// Returns the first free path: this one, or this one with a number after it.
 fn free_path<A: Allocator + Copy, R: Files>(
     alloc: A,
     rt: &R,

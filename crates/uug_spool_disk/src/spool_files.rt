@@ -1,4 +1,4 @@
-//! Looks at the files in the folders of a spool, and reads them.
+//! Lists and reads the files in the folders of a spool.
 ghost use Rattle.std.specs.Fs.{IsSymlink, file_type};
 ghost use Rattle.std.specs.IoError.{error_kind};
 ghost use Rattle.std.specs.Prelude.{◌<◌, ◌≡◌, ◌≢◌, ◌≤◌, ◌↔◌, false, true, Err, IfErr, IfOk, IfSome, IsErr, IsTrue, None, Ok, Some, length};
@@ -24,7 +24,7 @@ const ALL_MAY_READ: u32 = 0o004;
 /// The bit of a folder's mode that is set if everybody may search the folder.
 const ALL_MAY_SEARCH: u32 = 0o001;
 
-/// Returns the names in a room that a session can say. A missing folder has none.
+/// Returns the names in a room that are valid in a session. A missing folder has none.
 pub fn list_room<A: Allocator + Copy, R: Files + Alloc + Clone + Drop>(
     alloc: A,
     rt: &R,
@@ -38,7 +38,7 @@ pub fn list_room<A: Allocator + Copy, R: Files + Alloc + Clone + Drop>(
     Ok(names)
 }
 
-/// Adds the names in a room that a session can say.
+/// Adds the names in a room that are valid in a session.
 fn add_names<A: Allocator + Copy, R: Files + Alloc + Clone + Drop>(
     names: &mut Vec<Name, A>,
     alloc: A,
@@ -74,7 +74,7 @@ fn add_entries<A: Allocator, R: Files + Alloc + Clone + Drop>(
     Ok(())
 }
 
-/// Adds the name of an entry, if a session can say it.
+/// Adds the name of an entry, if it is valid in a session.
 fn add_entry<A: Allocator, R: Files + Alloc + Clone + Drop>(
     names: &mut Vec<Name, A>,
     entry: &DirEntry<R, R::A>,
@@ -88,8 +88,8 @@ fn add_entry<A: Allocator, R: Files + Alloc + Clone + Drop>(
     Ok(())
 }
 
-/// Returns the names in a folder of the public folder that a session can say. A folder that is gone, or that not
-/// everybody may search, has none.
+/// Returns the names in a folder of the public folder that are valid in a session. A folder that can't be reached, or
+/// that not everybody may search, has none.
 pub fn list_below<A: Allocator + Copy, R: Files + Alloc + Clone + Drop>(
     alloc: A,
     rt: &R,
@@ -125,7 +125,7 @@ fn open_to_all<R: Files + Alloc + Clone + Drop>(
     Ok(Some(fs::read_dir(rt, path)?))
 }
 
-/// Returns whether a path that was looked at is a folder that everybody may search.
+/// Returns whether this is a folder that everybody may search.
 fn is_searchable_by_all(seen: &Metadata) -> bool
     ensures { IsTrue result ↔ MayAllSearch seen.now }
 {
@@ -148,7 +148,7 @@ pub fn is_there<A: Allocator + Copy, R: Files>(
     }
 }
 
-/// Returns whether a path that was looked at exists. It is missing only if the system reports `NotFound`. Other errors
+/// Returns whether a path exists, from its metadata. It is missing only if the system reports `NotFound`. Other errors
 /// are returned.
 pub(crate) fn is_found(seen: io::Result<Metadata>) -> io::Result<bool>
     ensures found { IfOk seen (λ _. result ≡ Ok true) }
@@ -234,8 +234,8 @@ fn whole_of<T>(read: Result<T, Unfit>) -> Result<Option<T>, Cause>
     }
 }
 
-/// Reads the file that a person named. Returns `None` if there is none that may be read, or it has more than `most`
-/// bytes. A relative path has no file, as its folder is not known.
+/// Reads the file that a user named. Returns `None` if there is none that may be read, or it has more than `most`
+/// bytes. Returns `None` for a relative path too, as its folder is not known.
 pub fn read_source<A: Allocator + Copy, R: Files>(
     alloc: A,
     rt: &R,
@@ -257,7 +257,7 @@ pub fn read_source<A: Allocator + Copy, R: Files>(
     }
 }
 
-/// Returns the result of a read. It is `None` if no file is there that this program may read.
+/// Returns the result of a read. It is `None` if there is no file that this program may read.
 fn within_reach<T>(read: io::Result<Option<T>>) -> io::Result<Option<T>>
     ensures found { IfOk read (λ found. result ≡ Ok found) }
     ensures gone { IfErr read (λ error. is_out_of_reach (error_kind error) ≡ true → result ≡ Ok None) }
@@ -286,7 +286,7 @@ pub fn is_no_place(kind: ErrorKind) -> bool
     )
 }
 
-/// Looks at the folders of incoming files and of their markers. Returns the first that is a link, and thus not the
+/// Returns the first of the folders for markers and for files being received that is a symbolic link, and thus not the
 /// spool's own.
 pub fn linked_room<A: Allocator + Copy, R: Files>(
     alloc: A,
@@ -306,7 +306,7 @@ pub fn linked_room<A: Allocator + Copy, R: Files>(
     Ok(None)
 }
 
-/// Returns whether a path that was looked at is a link. A missing one is none.
+/// Returns whether a path is a symbolic link, from its metadata. A missing path is none.
 fn is_link(seen: io::Result<Metadata>) -> io::Result<bool>
     ensures seen { IfOk seen (λ seen. IfOk result (λ is_link.
         IsTrue is_link ↔ IsSymlink (file_type seen))) }
@@ -321,7 +321,7 @@ fn is_link(seen: io::Result<Metadata>) -> io::Result<bool>
 }
 
 /// Reads the file of this name in the public folder. Returns `None` unless it is a regular file that everybody may
-/// read, of at most `most` bytes. A link is not read: it may lead elsewhere.
+/// read, of at most `most` bytes. A symbolic link is not read: it may lead elsewhere.
 pub fn read_public<A: Allocator + Copy, R: Files<File = File>>(
     alloc: A,
     rt: &R,
@@ -371,15 +371,15 @@ fn open_plain<R: Files<File = File>>(rt: &R, path: &str) -> io::Result<Option<Fi
     }
 }
 
-/// Returns whether a path that was looked at is a regular file that everybody may read.
+/// Returns whether this is a regular file that everybody may read.
 fn is_readable_by_all(seen: &Metadata) -> bool
     ensures { IsTrue result ↔ MayAllRead seen.now }
 {
     seen.is_file() && seen.mode() & ALL_MAY_READ != 0
 }
 
-/// Opens a file that everybody may read, which was looked at before. Returns `None` if another one has replaced it
-/// since, for example by a link.
+/// Opens a file that everybody may read. Returns `None` if another file has replaced the one that was `seen`, for
+/// example by a link.
 fn open_seen<R: Files<File = File>>(rt: &R, path: &str, seen: &Metadata) -> io::Result<Option<File>>
     requires { MayAllRead seen.now }
 {
@@ -408,7 +408,7 @@ pub(crate) fn read_file<A: Allocator, R: Files>(
     }
 }
 
-/// The reason that a path has no bytes.
+/// The reason why a path has no bytes.
 #[derive(Clone, Copy)]
 enum Unfit {
     /// No regular file is there.
@@ -417,8 +417,8 @@ enum Unfit {
     TooMuch,
 }
 
-/// Reads the regular file at a path, or returns the reason that it has no bytes. A pipe, which would wait for a writer,
-/// is not opened.
+/// Reads the regular file at a path, or returns the reason why it has no bytes. A pipe is not opened: that would wait
+/// for a writer.
 fn read_regular<A: Allocator, R: Files>(
     alloc: A,
     rt: &R,

@@ -7,7 +7,7 @@ use uug_failure::EndDir;
 use uug_spool::{Room, Spot};
 use uug_talk::Name;
 
-/// A spool, the system in it whose files are meant, and the public folder.
+/// The paths of a spool, of one system's folders in it, and of the public folder.
 #[derive(Drop)]
 pub struct SpoolPaths<A: Allocator> {
     spool: String<A>,
@@ -16,7 +16,7 @@ pub struct SpoolPaths<A: Allocator> {
 }
 
 impl<A: Allocator + Copy> SpoolPaths<A> {
-    /// Creates the paths of the spool at this path, of this system's folders, and of the public folder at that path.
+    /// Creates the paths of the spool at `spool`, of this system's folders, and of the public folder at `public`.
     pub fn new(alloc: A, spool: &str, system: Name, public: &str) -> Result<Self, AllocError>
         ensures spool { IfOk result (λ paths. string_bytes paths.spool ≡ spool.now) }
         ensures system { IfOk result (λ paths. paths.system ≡ system) }
@@ -52,7 +52,7 @@ impl<A: Allocator> SpoolPaths<A> {
         self.public.as_str()
     }
 
-    /// Returns the path of the folder in which is held what has come of the system's files that were cut off.
+    /// Returns the path of the folder with the partial files of the system.
     pub fn partial<B: Allocator>(&self, alloc: B) -> Result<String<B>, AllocError>
         ensures { IfOk result (λ path. string_bytes path ≡ partial_path self.now) }
     {
@@ -62,7 +62,7 @@ impl<A: Allocator> SpoolPaths<A> {
         Ok(path)
     }
 
-    /// Returns the spool as the folder of a failure.
+    /// Returns the spool as the folder that a failure names.
     pub fn end_dir(&self) -> EndDir<'_> {
         EndDir {
             path: self.spool.as_str(),
@@ -98,7 +98,7 @@ impl<A: Allocator> SpoolPaths<A> {
         let name = spot.name.as_str();
         let path = match spot.room {
             Room::Preserved => {
-                // All systems have one folder there, and data of the same names.
+                // All systems share this folder, and may have data of the same names.
                 let system = self.system.as_str();
                 format!(in alloc; "{front}/{system}.{name}")?
             }

@@ -1,4 +1,4 @@
-//! Trials of what a session removes from a spool, and writes there in its place.
+//! Checks, before a session, that it can remove and rewrite files of a spool.
 ghost use Rattle.std.specs.Prelude.{IfErr};
 ghost use Rattle.uug_failure.specs.Faults.{IsFolderFault};
 
@@ -13,8 +13,8 @@ use uug_failure::{Resource, RunFault};
 use uug_spool::{Room, Spot};
 use uug_talk::Name;
 
-/// Checks that this run may remove the file at a spot, and removes nothing: the call is one that removes a folder. The
-/// system asks whether a name may go before it says that a file has it.
+/// Checks that this run may remove the file at a spot, without removing it: tries to remove a folder at this path. The
+/// system checks the permission before it finds that there is no folder.
 pub fn see_removable<A: Allocator + Copy, R: Files>(
     alloc: A,
     rt: &R,
@@ -32,7 +32,7 @@ pub fn see_removable<A: Allocator + Copy, R: Files>(
     }
 }
 
-/// Checks that the C. file of this name can be written anew: makes one beside its place, and removes that.
+/// Checks that the C. file of this name can be rewritten: creates a temporary file of this name, and removes it.
 pub fn see_rewritable<A: Allocator + Copy, R: Files<File = File>>(
     alloc: A,
     rt: &R,
@@ -51,7 +51,7 @@ pub fn see_rewritable<A: Allocator + Copy, R: Files<File = File>>(
     }
 }
 
-/// Makes an empty file, and removes it.
+/// Creates an empty file, and removes it.
 fn make_and_remove<A: Allocator + Copy, R: Files<File = File>>(
     alloc: A,
     rt: &R,
@@ -62,7 +62,7 @@ fn make_and_remove<A: Allocator + Copy, R: Files<File = File>>(
     remove_file(alloc, rt, paths, spot)
 }
 
-/// Returns whether an error of this kind says that the system lets nothing be removed.
+/// Returns whether an error of this kind means that this run may not remove the file.
 fn is_refusal(kind: ErrorKind) -> bool {
     matches!(
         kind,

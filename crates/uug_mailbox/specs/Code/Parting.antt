@@ -1,4 +1,4 @@
--- Lines in the order in which they go, and those that stay.
+-- Lines in the order of their removal, and those that stay.
 use Rattle.std.specs.Prelude.{◌≡◌, ◌≤◌, ◌+◌, ℕ, zero, suc, List, [], ◌∷◌, ◌++◌, length, take, drop}
 use Rattle.uug_conversation.specs.declared.job.Job.{Job}
 use Rattle.uug_spool.specs.Operations.{Op}
@@ -8,7 +8,7 @@ use Rattle.uug_mailbox.specs.declared.open_line.Outcome.{Outcome}
 use Rattle.uug_mailbox.specs.declared.open_line.Outcome.TheVariants.{Done, Failed}
 use Rattle.uug_mailbox.specs.declared.parted.Parted.{Parted}
 
--- the first so many of these lines are over so, one after the other
+-- the first n of these lines are removed with this outcome, one after the other
 abbrev pub first_ops : Outcome → ℕ → List OpenLine → List Op
 first_ops outcome zero lines = []
 first_ops outcome (suc n) [] = []
