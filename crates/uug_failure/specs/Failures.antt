@@ -1,4 +1,4 @@
--- Why a run over the system gave up, and which call of the system failed first (this project's profile).
+-- Why a run over the system gave up, and which system call failed first (this project's profile).
 use Rattle.std.specs.Prelude.{◌≡◌, ℕ, Option, Some, None, ⊤}
 use Rattle.std.specs.declared.io.ErrorKind.TheVariants.{Interrupted, WouldBlock}
 use Rattle.uug_session.specs.Engine.{HasFailed, faults_max}
@@ -10,30 +10,30 @@ use Rattle.uug_failure.specs.declared.failure.SystemFailure.{SystemFailure}
 use Rattle.uug_failure.specs.declared.run_fault.RunFault.{RunFault}
 use Rattle.uug_failure.specs.declared.run_fault.RunFault.TheVariants.{System, Tool, Unread}
 
--- the first failure of a device, once this one came too
+-- the first failure of a device, after this one was noted too
 abbrev pub first_of : Option SystemFailure → SystemFailure → Option SystemFailure
 first_of (Some first) failure = Some first
 first_of None failure = Some failure
 
--- the call would have waited for longer than it may, or a signal came meanwhile
+-- the call timed out (`WouldBlock`), or a signal interrupted it
 abbrev pub IsSilence : Cause → Type 0
 IsSilence (Refused WouldBlock number) = ⊤
 IsSilence (Refused Interrupted number) = ⊤
 IsSilence _ = ⊥
 
--- what the program answers
+-- the program's fault
 abbrev pub fault_of_run : RunFault → ToolFault
 fault_of_run (System failure) = Device
 fault_of_run (Unread failure) = Read
 fault_of_run (Tool fault) = fault
 
--- the fault of a run that answers this, where the first call of the system that failed is known
+-- the fault of a run with this answer, by the first failed system call, if one failed
 abbrev pub fault_with : (answer : ToolFault) → (first : Option SystemFailure) → RunFault
 fault_with Device (Some failure) = System failure
 fault_with Read (Some failure) = Unread failure
 fault_with answer first = Tool answer
 
--- how a count of faults goes: it rises, up to the greatest number, where a call of the system failed, and only there
+-- the count of faults rises, up to the greatest number, if a system call failed, and only then
 abbrev pub NotesFault : RunFault → (count count_after : ℕ) → Type 0
 NotesFault (System failure) count count_after = HasFailed faults_max count count_after
 NotesFault (Unread failure) count count_after = count_after ≡ count

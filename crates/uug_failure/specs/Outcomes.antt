@@ -1,4 +1,4 @@
--- What a session comes to (this project's profile).
+-- The outcome of a session (this project's profile).
 use Rattle.std.specs.Prelude.{ℕ, Option, Result, Ok, Err}
 use Rattle.uug_stream.specs.declared.fault.ToolFault.{ToolFault}
 use Rattle.uug_failure.specs.Failures.{fault_with}
@@ -6,7 +6,7 @@ use Rattle.uug_failure.specs.declared.failure.SystemFailure.{SystemFailure}
 use Rattle.uug_failure.specs.declared.outcome.Ended.{Ended}
 use Rattle.uug_failure.specs.declared.run_fault.RunFault.{RunFault}
 
--- by the program's answer, and the first failed call of the system on the files of the end
+-- by the session's answer, and the first failed system call on the files of the end
 abbrev pub ended_of : Result ℕ ToolFault → (failure : Option SystemFailure) → Result Ended RunFault
 ended_of (Ok status) failure = Ok (record { status = status; failure = failure })
 ended_of (Err fault) failure = Err (fault_with fault failure)

@@ -1,4 +1,4 @@
-//! The failure of a call of the system: on what, and why.
+//! A failed system call: its object and its cause.
 ghost use Rattle.std.specs.Prelude.{◌≡◌};
 ghost use Rattle.uug_failure.specs.Passing.{is_out_of_reach, may_pass};
 
@@ -6,7 +6,7 @@ use std::io;
 use std::io::ErrorKind;
 use uug_talk::Name;
 
-/// The object of a call of the system. The texts, and the files given and got, are below the folder of an end.
+/// The object of a system call. The texts, and the files given and got, are below the folder of an end.
 #[derive(Clone, Copy, Debug, PartialEq, Eq)]
 pub enum Resource {
     /// The input that is read.
@@ -29,7 +29,7 @@ pub enum Resource {
     Got(Name),
 }
 
-/// A file of an end with a text of its own.
+/// A text file in the folder of an end.
 #[derive(Clone, Copy, Debug, PartialEq, Eq)]
 pub enum EndText {
     /// The file of its jobs.
@@ -61,7 +61,7 @@ pub struct EndDir<'a> {
 }
 
 impl SystemFailure {
-    /// Makes the failure of a call on a resource that is in no folder.
+    /// Creates the failure of a call on a resource outside the folders of ends.
     pub fn on(resource: Resource, cause: Cause) -> SystemFailure
         ensures resource { result.resource ≡ resource }
         ensures cause { result.cause ≡ cause }
@@ -75,7 +75,7 @@ impl SystemFailure {
 }
 
 impl EndDir<'_> {
-    /// Makes the failure of a call on a resource of this end.
+    /// Creates the failure of a call on a resource of this end.
     pub fn failure(self, resource: Resource, cause: Cause) -> SystemFailure
         ensures end { result.end ≡ self.entry.number }
         ensures resource { result.resource ≡ resource }
@@ -102,7 +102,7 @@ pub enum Cause {
     NotAFile,
     /// The text is not a number.
     NotANumber,
-    /// Another run holds it.
+    /// The lock is already held.
     InUse,
     /// A spool of Taylor UUCP is there, not the folder of an end.
     IsSpool,
@@ -115,7 +115,7 @@ pub enum Cause {
 }
 
 impl Cause {
-    /// Returns the cause that an error of the system reports.
+    /// Returns the cause for an error of the system.
     pub fn of(error: &io::Error) -> Cause {
         Cause::Refused(error.kind(), error.raw_os_error())
     }
@@ -139,7 +139,7 @@ impl Cause {
     }
 }
 
-/// Returns whether an error of this kind means that no file that this program may read is at a path.
+/// Returns whether an error of this kind means that the path leads to no file that this program may read.
 pub fn is_out_of_reach(kind: ErrorKind) -> bool
     ensures { result ≡ is_out_of_reach kind }
 {
@@ -153,11 +153,11 @@ pub fn is_out_of_reach(kind: ErrorKind) -> bool
     )
 }
 
-/// A call of the system that failed.
+/// A system call that failed.
 #[derive(Clone, Copy, Debug, PartialEq, Eq)]
 pub struct SystemFailure {
-    /// The number of the end's folder among the program's arguments, counted from 0. It is 0 for a resource that is in
-    /// no folder.
+    /// The number of the end's folder among the program's arguments, counted from 0. It is 0 for a resource outside
+    /// these folders.
     pub end: usize,
     /// The object of the call.
     pub resource: Resource,

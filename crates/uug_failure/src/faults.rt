@@ -1,4 +1,4 @@
-//! A count of the faults of a device of the system.
+//! Counts the faults of a device of the system.
 ghost use Rattle.std.specs.Prelude.{◌≡◌, ◌<◌, ◌≤◌, IsSome};
 ghost use Rattle.uug_session.specs.Engine.{HasFailed};
 ghost use Rattle.uug_failure.specs.Failures.{NotesFault, first_of};
@@ -6,7 +6,7 @@ ghost use Rattle.uug_failure.specs.Failures.{NotesFault, first_of};
 use crate::failure::SystemFailure;
 use crate::run_fault::RunFault;
 
-/// The faults of a device: their number, up to the greatest that fits, and the cause of the first one.
+/// The faults of a device: their number, which saturates, and the first one.
 #[derive(Clone, Copy)]
 pub struct Faults {
     count: u64,
@@ -15,7 +15,7 @@ pub struct Faults {
 }
 
 impl Faults {
-    /// Returns a count of no faults.
+    /// Creates a count with no faults.
     pub fn none() -> Faults
         ensures { result.count ≡ 0 }
     {
@@ -37,7 +37,7 @@ impl Faults {
         };
     }
 
-    /// Counts another fault if a call of the system failed.
+    /// Counts another fault if `fault` is a failed system call.
     pub fn note_fault(&mut self, fault: RunFault)
         ensures { NotesFault fault self.old.count self.new.count }
     {
@@ -54,7 +54,7 @@ impl Faults {
         self.count
     }
 
-    /// Returns the failure that was the first fault, if there was a fault.
+    /// Returns the first fault, if there was one.
     pub fn first(&self) -> Option<SystemFailure>
         ensures first { result ≡ self.now.first }
         ensures told { 0 < self.now.count → IsSome result }

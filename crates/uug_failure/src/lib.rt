@@ -1,6 +1,5 @@
-//! Failures of calls of the system (which call, on what and why), counts of a device's faults, and the reasons that a
-//! run gave up. Also here: reads and writes that a signal does not end, and the reading of a whole text within its
-//! limit.
+//! Failures of system calls (their object and cause), counts of a device's faults, and the reasons why a run gave up.
+//! Also here: reads and writes that are repeated after a signal, and the reading of a whole text within a limit.
 #![tactic(auto)]
 
 mod failure;

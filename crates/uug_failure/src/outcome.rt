@@ -7,17 +7,17 @@ use crate::run_fault::RunFault;
 use std::alloc::Allocator;
 use uug_stream::ToolFault;
 
-/// The outcome of a run: its answer, and its remark.
+/// The outcome of a run: its result, and lines for standard error.
 #[derive(Drop)]
 pub struct Outcome<T, A: Allocator> {
-    /// The result of the run, or the reason that it gave up.
+    /// The result of the run, or the reason why it gave up.
     pub answer: Result<T, RunFault>,
     /// Lines for standard error. There are none if the text is empty.
     pub remark: String<A>,
 }
 
 impl<T, A: Allocator> Outcome<T, A> {
-    /// Makes the outcome of a run with this answer that remarks on nothing.
+    /// Creates the outcome of a run with this answer and no remark.
     pub fn of(alloc: A, answer: Result<T, RunFault>) -> Outcome<T, A>
         ensures answer { result.answer ≡ answer }
         ensures remark { string_bytes result.remark ≡ [] }
@@ -34,13 +34,13 @@ impl<T, A: Allocator> Outcome<T, A> {
 pub struct Ended {
     /// The program's status.
     pub status: u8,
-    /// The first failed call of the system on the files of the end, if one failed.
+    /// The first failed system call on the files of the end, if one failed.
     pub failure: Option<SystemFailure>,
 }
 
 impl Ended {
-    /// Returns the outcome of a session with this answer, or the reason that it was given up. `failure` is the first failed call of
-    /// the system on the files of the end, if one failed.
+    /// Returns the outcome of a session with this answer, or the reason why it was given up. `failure` is the first
+    /// failed system call on the files of the end, if one failed.
     pub fn of(
         answer: Result<u8, ToolFault>,
         failure: Option<SystemFailure>,

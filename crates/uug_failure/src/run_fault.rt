@@ -1,4 +1,4 @@
-//! The reasons that a run over the system gave up.
+//! The reasons why a run over the system gave up.
 ghost use Rattle.std.specs.Prelude.{◌≡◌, IfErr, IsOk, OnOk};
 ghost use Rattle.uug_failure.specs.Failures.{fault_of_run, fault_with};
 ghost use Rattle.uug_failure.specs.Faults.{IsFolderFault};
@@ -15,20 +15,21 @@ use uug_stream::ToolFault;
 /// The maximum number of times in a row that a listing of a folder is repeated because a signal ended it.
 pub const LISTINGS_MAX: u32 = 100;
 
-/// The reason that a run gave up.
+/// The reason why a run gave up.
 #[derive(Clone, Copy, Debug)]
 pub enum RunFault {
-    /// A call of the system failed. The program answers `ToolFault::Device`.
+    /// A system call failed. The program's fault is `ToolFault::Device`.
     System(SystemFailure),
-    /// A file that the task names can't be read. The program answers `ToolFault::Read`.
+    /// A file that the task names can't be read. The program's fault is `ToolFault::Read`.
     Unread(SystemFailure),
-    /// Another fault, which is the program's answer.
+    /// Another fault, which is the program's fault.
     Tool(ToolFault),
 }
 
 impl RunFault {
-    /// Returns the fault of a run that gives up over an error of the system. Memory that was refused is not a failure
-    /// of the system, which has a numbered error of its own for it.
+    /// Returns the fault of a run that gives up over an error of the system. An `OutOfMemory` error without an error
+    /// number is memory that was refused, and becomes `ToolFault::Memory`. The system's own error for it has a number,
+    /// and is a failed call.
     pub fn of(error: &io::Error, dir: EndDir<'_>, resource: Resource) -> RunFault
         ensures { IsFolderFault result }
     {
@@ -39,7 +40,7 @@ impl RunFault {
         }
     }
 
-    /// Returns the fault of a run with this answer. `first` is the first call of the system that failed, if one did.
+    /// Returns the fault of a run with this answer. `first` is the first failed system call, if one failed.
     pub fn with(answer: ToolFault, first: Option<SystemFailure>) -> RunFault
         ensures { result ≡ fault_with answer first }
     {
@@ -50,7 +51,7 @@ impl RunFault {
         }
     }
 
-    /// Returns the program's answer.
+    /// Returns the program's fault.
     pub fn answer(self) -> ToolFault
         ensures { result ≡ fault_of_run self }
     {
@@ -62,8 +63,8 @@ impl RunFault {
     }
 }
 
-/// Handles the system's answer to a request for the lock of a folder. The run continues only if the lock was granted. A
-/// lock that another run holds is the failure `Cause::InUse`.
+/// Converts the result of a call that locks a folder. Returns `Ok` only if the lock was granted. A lock that is already
+/// held is the failure `Cause::InUse`.
 pub fn grant_lock(answer: Result<(), TryLockError>, dir: EndDir<'_>) -> Result<(), RunFault>
     ensures granted { OnOk result (IsOk answer) }
     ensures no_other { IfErr result IsFolderFault }
@@ -77,7 +78,7 @@ pub fn grant_lock(answer: Result<(), TryLockError>, dir: EndDir<'_>) -> Result<(
     }
 }
 
-/// Returns whether a signal has ended a call of the system.
+/// Returns whether a run gave up because a signal interrupted a system call.
 pub fn was_interrupted<T>(ended: &Result<T, RunFault>) -> bool {
     match ended {
         Err(RunFault::System(failure)) => match failure.cause {

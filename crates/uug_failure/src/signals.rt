@@ -1,4 +1,4 @@
-//! Reads and writes that a signal does not end.
+//! Reads and writes that are repeated after a signal.
 ghost use Rattle.std.specs.Prelude.{◌≡◌, ◌<◌, length, take, IfOk, OnErr};
 ghost use Rattle.std.specs.Io.{ReadsAtMost, WritesAtMost};
 ghost use Rattle.std.specs.Io.KnownBytes.{Appends, Consumes, IsAtEnd, Keeps};
@@ -6,10 +6,11 @@ ghost use Rattle.std.specs.Io.KnownBytes.{Appends, Consumes, IsAtEnd, Keeps};
 use std::io;
 use std::io::{ErrorKind, Read, Write};
 
-/// The number of signals in a row that end a call before it counts as failed.
+/// The number of signals in a row after which a call has failed.
 const SIGNALS_MAX: u32 = 1024;
 
-/// Writes once. A write that a signal has ended is repeated, up to `SIGNALS_MAX` tries in all.
+/// Writes once. A write that a signal interrupts is repeated, up to `SIGNALS_MAX` tries in all. After these the error
+/// is `Interrupted`.
 pub fn write_again<T: Write>(stream: &mut T, piece: &[u8]) -> io::Result<usize>
     ensures bound { WritesAtMost result piece.now }
     ensures bytes { IfOk result (λ n.
@@ -25,8 +26,8 @@ pub fn write_again<T: Write>(stream: &mut T, piece: &[u8]) -> io::Result<usize>
     Err(io::Error::from(ErrorKind::Interrupted))
 }
 
-/// Reads once. A read that a signal has ended is repeated, up to `SIGNALS_MAX` tries in all. A repeated read waits for
-/// the whole time again.
+/// Reads once. A read that a signal interrupts is repeated, up to `SIGNALS_MAX` tries in all. After these the error is
+/// `Interrupted`. A repeated read waits for the whole time again.
 pub fn read_again<T: Read>(stream: &mut T, buffer: &mut [u8]) -> io::Result<usize>
     ensures bound { ReadsAtMost result buffer.new }
     ensures size { length buffer.new ≡ length buffer.old }

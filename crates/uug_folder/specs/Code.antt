@@ -1,2 +1,2 @@
--- How the code of this crate keeps what the other definitions say: no public contract names any of it.
+-- How the code of this crate fulfils the other definitions. No public contract names anything in here.
 pub mod LocalModes

@@ -1,4 +1,4 @@
--- What `pair`, `call` and `answer` print of an end (this project's profile).
+-- The lines that `pair`, `call` and `answer` print for an end (this project's profile).
 use Rattle.std.specs.Prelude.{ℕ, List, [], ◌∷◌, ◌++◌, length, codes}
 use Rattle.std.specs.Fmt.{decimal}
 use Rattle.uug_conversation.specs.Jobs.{Lists, pending}

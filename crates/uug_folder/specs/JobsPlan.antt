@@ -1,4 +1,4 @@
--- What is to become of a file of jobs once its text was read again (this project's profile).
+-- The plan for a file of jobs after its text was read again (this project's profile).
 use Rattle.std.specs.Prelude.{◌≡◌, ◌⊎◌, ℕ, List, Option, ⊤}
 use Rattle.uug_session.specs.Engine.{HasFailed, faults_max}
 use Rattle.uug_stream.specs.declared.fault.ToolFault.{ToolFault}
@@ -7,7 +7,7 @@ use Rattle.uug_folder.specs.TextFiles.{holding}
 use Rattle.uug_folder.specs.declared.jobs_plan.JobsPlan.{JobsPlan}
 use Rattle.uug_folder.specs.declared.jobs_plan.JobsPlan.TheVariants.{Write, Failed}
 
--- what the file has, where it tells its text, when all goes as planned
+-- the text of the file after the plan was carried out, if the file exposes it
 abbrev pub carried : {A : Type 0} → JobsPlan A → Option (List ℕ) → Option (List ℕ)
 carried (Write text) before = holding text.items before
 carried Failed before = before
@@ -22,16 +22,16 @@ abbrev pub IsPlanned : {A : Type 0} → JobsPlan A → (goal text : Option (List
 IsPlanned (Write written) goal text count count_after = (holding written.items text ≡ goal) × (count_after ≡ count)
 IsPlanned Failed goal text count count_after = HasFailed faults_max count count_after
 
--- the file has what is planned, where it tells its text
+-- the file has the planned text, if it exposes its text
 abbrev pub HoldsPlanned : {A : Type 0} → JobsPlan A → (text : Option (List ℕ)) → Type 0
 HoldsPlanned (Write written) text = holding written.items text ≡ text
 HoldsPlanned Failed text = ⊥
 
--- it is as it was, or as planned
+-- the file is as before, or as planned
 abbrev pub IsCarried : {A : Type 0} → JobsPlan A → (before after : Option (List ℕ)) → Type 0
 IsCarried plan before after = (after ≡ before) ⊎ (after ≡ carried plan before)
 
--- the text could not be read, or the file's device has failed now
+-- the text could not be read, or the file's device has failed since
 abbrev pub HasFailedIn : {A : Type 0} → JobsPlan A → (count count_after : ℕ) → Type 0
 HasFailedIn (Write text) count count_after = HasFailed faults_max count count_after
 HasFailedIn Failed count count_after = ⊤
@@ -41,7 +41,7 @@ abbrev pub IsCarriedOut : {A : Type 0} → JobsPlan A → (before after : Option
 IsCarriedOut plan before after count count_after =
     ((after ≡ carried plan before) × IsFeasible plan) ⊎ HasFailedIn plan count count_after
 
--- the first fault is the device's, if its text could not be read
+-- the fault to return if memory runs out: the device's, if the text could not be read before
 abbrev pub fault_without_memory : {A : Type 0} → JobsPlan A → ToolFault
 fault_without_memory (Write text) = faults.Memory
 fault_without_memory Failed = faults.Device

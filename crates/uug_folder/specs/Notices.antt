@@ -1,4 +1,5 @@
--- What is told of a job that has failed: why, as far as its end knows, and its line (this project's profile).
+-- The notice of a job that has failed: the reason, as far as its end knows, and the job's line (this project's
+-- profile).
 use Rattle.std.specs.Prelude.{◌≡◌, ℕ, List, [], ◌∷◌, ◌++◌, codes, Option, Some, None}
 use Rattle.uug_conversation.specs.Choice.{fetched_by}
 use Rattle.uug_conversation.specs.Holdings.{File, Holdings, to_give}
@@ -11,7 +12,7 @@ use Rattle.uug_folder.specs.JobsText.{job_line}
 use Rattle.uug_folder.specs.declared.notices.WhyFailed.{WhyFailed}
 use Rattle.uug_folder.specs.declared.notices.WhyFailed.TheVariants.{NoFile, Refused, NotTaken, NotGiven}
 
--- ---- why
+-- ---- the reason
 
 abbrev pub why_not_sent : Option File → WhyFailed
 why_not_sent None = NoFile
@@ -27,7 +28,7 @@ abbrev pub why_failed : Holdings → Job → WhyFailed
 why_failed own (Send source target user temp) = why_not_sent (to_give own (fetched_by source temp))
 why_failed own (Request source target user) = why_not_got (own.verdict (own.landing source target))
 
--- ---- as it is written
+-- ---- the notice
 
 abbrev pub why_words : WhyFailed → List ℕ
 why_words NoFile = codes "no such file to send, or it is too large"
@@ -35,7 +36,7 @@ why_words Refused = codes "refused by the other end"
 why_words NotTaken = codes "no file of this name is taken here"
 why_words NotGiven = codes "not given by the other end, or not to be put in its place here"
 
--- the reason as a comment, and the job's line, which can so be appended to a text of jobs again
+-- the reason as a comment, and the job's line, so that the notice can be appended to a text of jobs
 abbrev pub notice : Holdings → Job → List ℕ
 notice own job = ended (codes "# " ++ why_words (why_failed own job)) ++ job_line job
 
@@ -43,14 +44,14 @@ abbrev pub notices : Holdings → List Job → List ℕ
 notices own [] = []
 notices own (job ∷ more) = notice own job ++ notices own more
 
--- ---- where they are told
+-- ---- the file of notices
 
--- behind what was told before, where the file tells its text
+-- the notices with these appended, if the file exposes its text
 abbrev pub also_told : List ℕ → Option (List ℕ) → Option (List ℕ)
 also_told more None = None
 also_told more (Some text) = Some (text ++ more)
 
--- some first bytes of this are told, or none of it
+-- the first bytes of these notices were appended, which may be none or all
 pub record TellsSome (more : List ℕ) (told told_after : Option (List ℕ)) : Type 0 where
   pub front : List ℕ
   pub rest : List ℕ

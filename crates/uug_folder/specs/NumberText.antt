@@ -25,37 +25,38 @@ number_in text = number_of_lines (lines text)
 
 -- ---- what an end keeps
 
--- it goes on with the number in its file
+-- the end continues with the number in its file; a file without one is an error
 abbrev pub goes_on_with : Option ℕ → Result (Option ℕ) BadNumber
 goes_on_with (Some number) = Ok (Some number)
 goes_on_with None = Err (record {})
 
--- without a file it keeps none, but where it is told to: then it begins at 0
+-- without a file the end keeps no number, unless it is told to: then it begins at 0
 abbrev pub begins_with : (is_told : Bool) → Result (Option ℕ) BadNumber
 begins_with true = Ok (Some 0)
 begins_with false = Ok None
 
--- what its file then has, where that tells its text: the line of the number that it keeps, and as before where it keeps none
+-- the text that its file then has, if the file exposes it: the line of the number, or the old text if the end keeps
+-- none
 abbrev pub holding_number : (number : Option ℕ) (before : Option (List ℕ)) → Option (List ℕ)
 holding_number None before = before
 holding_number (Some number) before = holding (number_line number) before
 
--- its file has it, where that tells its text
+-- its file has the number, if the end keeps one and the file exposes its text
 abbrev pub HoldsNumber : (number : Option ℕ) (text : Option (List ℕ)) → Type 0
 HoldsNumber number text = holding_number number text ≡ text
 
--- its file is as it was before, or has the line of its number as a whole
+-- its file is as before, or has the complete line of its number
 abbrev pub IsNumberKept : (number : Option ℕ) (before after : Option (List ℕ)) → Type 0
 IsNumberKept number before after = (after ≡ before) ⊎ (after ≡ holding_number number before)
 
--- ---- a caller that is one behind
+-- ---- a caller whose number is one less
 
 abbrev pub beside_by : (is_before : Bool) (own said : ℕ) → Option ℕ
 beside_by true own said = Some said
 beside_by false own said = Some own
 
--- With which number a called end begins a session: its own; but the one before it, where the caller says that. Then it rises to
--- its own again where the caller is let in.
+-- The number with which a called end begins a session: its own, or the one before it if the caller sends that. In that
+-- case it rises to the end's own again when the caller is let in.
 abbrev pub number_beside : (own said : Option ℕ) → Option ℕ
 number_beside None said = None
 number_beside (Some own) None = Some own

@@ -1,5 +1,5 @@
--- The text of the file in which an end holds the first bytes of a file that was cut off: a line that names the file, and
--- behind it these bytes (this project's profile).
+-- The text in which an end holds a partial file: a line that names the file, and after it the bytes that arrived (this
+-- project's profile).
 use Rattle.std.specs.Prelude.{ℕ, ◌+◌, List, ◌∷◌, ◌++◌, drop, take, Option, Some, None}
 use Rattle.std.specs.List.{position}
 use Rattle.uug_conversation.specs.Partial.{Partial}

@@ -1,4 +1,4 @@
--- What a person queues: the job of an order, the name of a copy in `send`, and what is appended to the text of the jobs (this
+-- Queueing: the job of an order, the name of its copy in `send`, and what is appended to the text of the jobs (this
 -- project's profile).
 use Rattle.std.specs.Prelude.{◌==◌, ◌||◌, ℕ, Bool, true, false, List, [], ◌∷◌, ◌++◌, length, codes, nat_eq, Option, Some, None, option_map, Result, Ok, Err, if◌then◌else◌}
 use Rattle.std.specs.Borrow.{Bor}
@@ -21,7 +21,7 @@ shown_text text = option_map (λ (t : Bor (List ℕ)). t.now) text
 abbrev pub has_slash : List ℕ → Bool
 has_slash text = list_any (λ b. nat_eq b 47) text
 
--- what stands behind the last slash of a path
+-- the part of a path after the last slash
 abbrev pub last_part : List ℕ → List ℕ
 last_part [] = []
 last_part (b ∷ bs) = if has_slash (b ∷ bs) then last_part bs else b ∷ bs
@@ -35,12 +35,12 @@ visible (Some name) = if starts_with nat_eq name (codes ".") then None else Some
 abbrev pub base_name : List ℕ → Option (List ℕ)
 base_name path = visible (name_of (last_part path))
 
--- the name that a text is, if there is one and it is one
+-- the text as a name, if there is a text and it is a name
 abbrev pub name_in : Option (List ℕ) → Option (List ℕ)
 name_in None = None
 name_in (Some text) = name_of text
 
--- the user where none is given: the first of two names that is there, else `uucp`
+-- the user if none is given: the first of these two names that is there, else `uucp`
 abbrev pub user_by : Option (List ℕ) → Option (List ℕ) → List ℕ
 user_by (Some user) login = user
 user_by None (Some login) = login
@@ -50,12 +50,12 @@ user_by None None = codes "uucp"
 abbrev pub nth_name : (base : List ℕ) (n : ℕ) → Option (List ℕ)
 nth_name base n = if n == 0 then Some base else name_of (base ++ codes "." ++ decimal n)
 
--- the job with this source, where it sends a file
+-- the job with this source, if it sends a file
 abbrev pub with_source : (name : List ℕ) → Job → Job
 with_source name (Send source target user temp) = Send name target user None
 with_source name (Request source target user) = Request source target user
 
--- a job of the same words is one of these
+-- whether a job with the same words and the same copy is one of these
 abbrev pub is_among : Job → List Job → Bool
 is_among job jobs = list_any (λ other. is_job other job) jobs
 
@@ -86,21 +86,21 @@ abbrev pub user_with : (user : Option (List ℕ)) (default : List ℕ) → Optio
 user_with None default = Some default
 user_with (Some user) default = name_of user
 
--- the job that sends, or what its order lacks first
+-- the job that sends a file, or the error for the first name that is missing
 abbrev pub sends_with : (source target user : Option (List ℕ)) → Result Job OrderFault
 sends_with None target user = Err fault.File
 sends_with (Some source) None user = Err fault.Target
 sends_with (Some source) (Some target) None = Err fault.User
 sends_with (Some source) (Some target) (Some user) = Ok (Send source target user None)
 
--- the job that asks for a file
+-- the job that requests a file, or the error for the first name that is missing
 abbrev pub requests_with : (source target user : Option (List ℕ)) → Result Job OrderFault
 requests_with None target user = Err fault.File
 requests_with (Some source) None user = Err fault.Target
 requests_with (Some source) (Some target) None = Err fault.User
 requests_with (Some source) (Some target) (Some user) = Ok (Request source target user)
 
--- The job of an order. One that sends has the name of the file as its source; its copy in `send` may get another one.
+-- The job of an order. The source of a Send job is the name of the file; its copy in `send` may get another name.
 abbrev pub ordered : (word path : List ℕ) (target user : Option (List ℕ)) → Result Job OrderFault
 ordered word path target user =
     if bytes_eq word (codes "send") then sends_with (base_name path) target user else
@@ -108,7 +108,7 @@ ordered word path target user =
 
 -- ---- the text of the jobs
 
--- an empty text, or one whose last line has its line feed
+-- an empty text, or one that ends with a line feed
 abbrev pub is_whole : List ℕ → Bool
 is_whole text = length text == 0 || ends_with nat_eq text (10 ∷ [])
 

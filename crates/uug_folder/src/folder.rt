@@ -12,7 +12,7 @@ pub struct FolderFailed;
 
 /// A folder that takes whole files.
 pub trait Folder {
-    /// The files that were put in it and synced to disk, in that order, if the folder reports them.
+    /// The files that were put in it and synced to disk, in that order, if the folder exposes them.
     ghost placed: { Self → Option (List Placed) };
 
     /// The number of faults of its device.
@@ -22,7 +22,7 @@ pub trait Folder {
     ghost barred: { Self → List ℕ → Bool };
 
     /// Puts a whole file in the folder under this name, replacing any file of that name, and syncs both to disk. After
-    /// a fault the name has the old file or this one as a whole, but this one does not count as put.
+    /// a fault the name has the complete old file or the complete new one, but the new one does not count as put.
     fn put(&mut self, name: &Name, bytes: &[u8]) -> Result<(), FolderFailed>
         ensures ok { OnOk result (placed self.new
             ≡ also_placed (placed_file name.now bytes.now) (placed self.old)) }
@@ -37,7 +37,7 @@ pub trait Folder {
     fn is_barred(&self, name: &Name) -> bool
         ensures { result ≡ barred self.now name.now };
 
-    /// Returns the number of faults of the device, up to the greatest number that fits.
+    /// Returns the number of faults of the device. The count saturates.
     fn faults(&self) -> u64
         ensures { result ≡ fault_count self.now };
 }

@@ -15,12 +15,12 @@ use std::snapshot::Snapshot;
 use uug_session::{FileView, KeepFault, Spool, Stored, Verdict};
 use uug_talk::{FILE_MAX, FileDigest, MODE_MAX, Name};
 
-/// A spool that puts the files that it keeps in a folder. Clauses see the files that it has to give, those that it has
-/// kept, and the folder.
+/// A spool that keeps files in a folder. Clauses see the files that it has to give, those that it has kept, and the
+/// folder.
 #[derive(Drop)]
 pub struct FolderSpool<F: Folder, A: Allocator> {
     files: Vec<Stored<A>, A>,
-    /// The files that were kept, for clauses alone: the bytes are in the folder, and no longer in memory.
+    /// The files that were kept, for clauses only: the bytes are in the folder, and no longer in memory.
     stored: Vec<Snapshot<KeptFile<A>>, A>,
     folder: F,
     alloc: A,
@@ -40,14 +40,14 @@ impl<F: Folder, A: Allocator> Model for FolderSpool<F, A> {
       folder = s.folder;
     } };
 
-    // What was kept is what was put in the folder.
+    // The kept files are those that were put in the folder last.
     ghost invariant = { λ s.
         EndsWith (F.placed s.folder)
         (map placed_of (map (λ f. shown_kept f.value) s.stored.items)) };
 }
 
 impl<F: Folder, A: Allocator + Copy> FolderSpool<F, A> {
-    /// Makes a spool with these files to give, that has kept none. It takes no memory.
+    /// Creates a spool with these files to give that has kept none yet. Allocates nothing.
     pub fn new(alloc: A, files: Vec<Stored<A>, A>, folder: F) -> Self
         ensures { result ≡ record { files = files.items; stored = []; folder = folder } }
     {
@@ -59,7 +59,7 @@ impl<F: Folder, A: Allocator + Copy> FolderSpool<F, A> {
         }
     }
 
-    /// Returns the folder. If the folder reports the files put in it, those that the spool has kept are the last ones.
+    /// Returns the folder. If it exposes the files put in it, those that the spool has kept are the last ones.
     pub fn folder(&self) -> &F
         ensures folder { result.now ≡ self.now.folder }
         ensures placed { EndsWith (F.placed result.now)
@@ -68,7 +68,7 @@ impl<F: Folder, A: Allocator + Copy> FolderSpool<F, A> {
         &self.folder
     }
 
-    /// Returns whether no file of this name can be put in its place.
+    /// Returns whether a file of this name can't be put in its place.
     pub fn is_immovable(&self, name: &Name) -> bool
         ensures { result ≡ (folder_holdings (F.barred self.now.folder)
             (map kept_of self.now.files)).immovable name.now }
@@ -196,7 +196,7 @@ fn put_and_store<F: Folder, A: Allocator + Copy>(
     ensures count { F.fault_count folder.old ≤ F.fault_count folder.new }
     ensures barred { F.barred folder.new ≡ F.barred folder.old }
 {
-    // All memory is taken before the folder is touched.
+    // All memory is allocated before the folder is touched.
     let Ok(file) = kept_beside_room(stored, alloc, name, mode, bytes) else {
         return Err(KeepFault::Memory);
     };
@@ -207,7 +207,7 @@ fn put_and_store<F: Folder, A: Allocator + Copy>(
     Ok(())
 }
 
-/// Makes room for one more file, and describes it.
+/// Reserves room for one more kept file, and describes it.
 fn kept_beside_room<A: Allocator + Copy>(
     stored: &mut Vec<Snapshot<KeptFile<A>>, A>,
     alloc: A,

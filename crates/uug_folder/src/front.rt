@@ -24,7 +24,7 @@ pub fn first_jobs<A: Allocator + Copy>(
     Ok(queue)
 }
 
-/// Adds a job to those that are to be offered. There is always room for it.
+/// Adds a job to those that are to be offered. The caller makes sure that there is room for it.
 fn add<A: Allocator>(queue: &mut Queue<A>, job: Job) -> Result<(), AllocError>
     ensures { OnOk result (queue.new ≡ added job queue.old) }
 {

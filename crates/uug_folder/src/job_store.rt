@@ -8,20 +8,21 @@ use std::alloc::Allocator;
 use uug_session::Job;
 use uug_stream::ToolFault;
 
-/// The store of an end's jobs between its sessions. A job is removed as soon as it is over: a program that is stopped
-/// leaves just those that are not.
+/// The store of an end's jobs between its sessions. A job is removed as soon as it is over, so that a program that is
+/// stopped leaves exactly the jobs that are not over.
 pub trait JobStore {
-    /// The jobs in it, if it reports them.
+    /// The jobs in it, if it exposes them.
     ghost open_jobs: { Self → Option (List JobValue) };
 
-    /// The notices of failed jobs, if it reports them.
+    /// The notices of failed jobs, if it exposes them.
     ghost told: { Self → Option (List ℕ) };
 
     /// The number of faults of its device.
     ghost fault_count: { Self → ℕ };
 
-    /// Removes these jobs, each once: those that were done, and those that were given up. The notice of the latter is
-    /// on disk before. All else stays as it is then. After a fault the store is as before, or without these jobs.
+    /// Removes these jobs, each once: the struck ones, which are done, and the failed ones, which were given up. The
+    /// notices of the failed ones are on disk before that. All else stays. After a fault the store is as before, or
+    /// without these jobs.
     fn settle<B: Allocator + Copy>(
         &mut self,
         alloc: B,
@@ -32,7 +33,7 @@ pub trait JobStore {
         ensures ok { OnOk result (open_jobs self.new
             ≡ settled_in (struck.now ++ failed.now) (open_jobs self.old)) }
         ensures told { OnOk result (told self.new ≡ also_told notice.now (told self.old)) }
-        // No job is gone from it before all is told.
+        // No job is removed before all notices were appended.
         ensures err { OnErr result (IsSettledOrNot (struck.now ++ failed.now) notice.now
             (open_jobs self.old) (open_jobs self.new) (told self.old) (told self.new)) }
         ensures calm { OnOk result (fault_count self.new ≡ fault_count self.old) }

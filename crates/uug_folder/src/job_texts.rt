@@ -10,10 +10,10 @@ use uug_stream::ToolFault;
 /// The files of an end's jobs: the text of the waiting ones, which is replaced as a whole, and the notices of failed
 /// ones, which only grow.
 pub trait JobTexts {
-    /// The text of the waiting jobs, if the files report it.
+    /// The text of the waiting jobs, if the files expose it.
     ghost text: { Self → Option (List ℕ) };
 
-    /// The notices of failed jobs, if the files report them.
+    /// The notices of failed jobs, if the files expose them.
     ghost told: { Self → Option (List ℕ) };
 
     /// The number of faults of their device.
@@ -28,8 +28,8 @@ pub trait JobTexts {
         ensures fault { IfErr result (λ fault.
             IsReadFault fault (fault_count self.old) (fault_count self.new)) };
 
-    /// Replaces the text of the waiting jobs. After a fault it is the old text or this one, which may be lost again
-    /// with the power.
+    /// Replaces the text of the waiting jobs. After a fault it is the old text or this one, and a power cut may undo
+    /// the change.
     fn replace(&mut self, bytes: &[u8]) -> Result<(), FolderFailed>
         ensures ok { OnOk result (text self.new ≡ holding bytes.now (text self.old)) }
         ensures told_same { told self.new ≡ told self.old }

@@ -38,9 +38,9 @@ impl<J: JobTexts, A: Allocator> JobStore for JobsFile<J, A> {
     }
 }
 
-/// Removes these jobs from the text of the waiting ones: for each of them the first line that says it, as the text is
-/// now. All other lines stay, in their order. If the text stays the same, it is not written. The notices of failed jobs
-/// are appended before.
+/// Removes these jobs from the present text of the waiting ones: for each job, the first line that is this job. All
+/// other lines stay, in their order. The notices of failed jobs are appended before that. A text that stays the same is
+/// not written.
 pub fn settle_text<J: JobTexts, B: Allocator + Copy>(
     alloc: B,
     file: &mut J,

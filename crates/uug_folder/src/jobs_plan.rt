@@ -1,4 +1,4 @@
-//! The plan for a file of jobs once its text was read again.
+//! The plan for a file of jobs after its text was read again.
 ghost use Rattle.std.specs.Prelude.{◌≡◌, ◌≤◌, IfErr, IfOk, OnErr, OnOk};
 ghost use Rattle.uug_folder.specs.TextFiles.{holding, IsReadFault};
 ghost use Rattle.uug_folder.specs.JobsFile.{settled};
@@ -15,14 +15,15 @@ use uug_stream::ToolFault;
 /// The plan for a file of jobs.
 #[derive(Drop)]
 pub enum JobsPlan<A: Allocator> {
-    /// This text is written.
+    /// The file gets this text.
     Write(Vec<u8, A>),
-    /// It stays as it is, because its text could not be read.
+    /// The file stays as it is, because its text could not be read.
     Failed,
 }
 
 impl<A: Allocator + Copy> JobsPlan<A> {
-    /// Reads the text of a file again, and plans what stays of it when these jobs are pending, done and given up.
+    /// Reads the text of a file again, and plans the text that stays of it, by the pending, struck and failed jobs of
+    /// the queue.
     pub fn new<J: TextFile, B: Allocator, C: Allocator>(
         alloc: A,
         jobs: &mut JobsFile<J, B>,
@@ -61,7 +62,8 @@ impl<A: Allocator> JobsPlan<A> {
         }
     }
 
-    /// Returns the error for memory that is refused before anything was written: the device's fault, if it came before.
+    /// Returns the fault to report if memory runs out before anything was written: the device's fault, if it came
+    /// before.
     pub fn fault_without_memory(&self) -> ToolFault
         ensures { result ≡ fault_without_memory self.now }
     {

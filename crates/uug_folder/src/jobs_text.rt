@@ -54,7 +54,7 @@ fn is_comment(first: &[u8]) -> bool
     first.starts_with(b"#")
 }
 
-/// Returns the job that a line says, if it says one.
+/// Returns the job of a line, if the line is a job.
 pub(crate) fn job_in(line: &[u8]) -> Option<Job>
     ensures { result ≡ job_said (says_of line.now) }
 {
@@ -68,7 +68,7 @@ pub(crate) fn job_in(line: &[u8]) -> Option<Job>
     read_job(first, rest)
 }
 
-/// Adds a job of the line of this number. `JOBS_MAX` jobs make the line bad.
+/// Adds the job of the line of this number. The line is bad if `JOBS_MAX` jobs are there already.
 fn add_job<A: Allocator>(queue: &mut Queue<A>, number: usize, job: Job) -> Result<(), JobsFault>
     requires fresh { queue.old ≡ at_start queue.old.ahead [] [] }
     ensures fresh { OnOk result (queue.new ≡ at_start queue.new.ahead [] []) }
@@ -83,7 +83,7 @@ fn add_job<A: Allocator>(queue: &mut Queue<A>, number: usize, job: Job) -> Resul
     }
 }
 
-/// Adds the job of a line of this number, if it has one.
+/// Adds the job of the line of this number, if it has one.
 fn add_line<A: Allocator>(queue: &mut Queue<A>, number: usize, line: &[u8]) -> Result<(), JobsFault>
     requires fresh { queue.old ≡ at_start queue.old.ahead [] [] }
     ensures fresh { OnOk result (queue.new ≡ at_start queue.new.ahead [] []) }
@@ -108,15 +108,15 @@ fn add_line<A: Allocator>(queue: &mut Queue<A>, number: usize, line: &[u8]) -> R
 
 /// Reads a text of jobs, in order. A line is `send SOURCE TARGET USER` or `request SOURCE TARGET USER`. One or more
 /// spaces separate its words; spaces at either end are dropped. Empty lines and lines that begin with `#` are skipped.
-/// The error `Bad` has the number of the first line that is any other, that has more than `LINE_MAX` bytes, or that has
-/// one job more than may be pending.
+/// The error `Bad` has the number of the first line that is anything else, that has more than `LINE_MAX` bytes, or
+/// whose job is one more than `JOBS_MAX`.
 pub fn read_jobs<A: Allocator + Copy>(alloc: A, text: &[u8]) -> Result<Queue<A>, JobsFault>
     ensures exact { IfOk result (λ queue. jobs_of text.now ≡ Ok (pending queue)) }
     // All jobs are still to be offered, and none was done or given up.
     ensures fresh { IfOk result (λ queue. queue ≡ at_start (pending queue) [] []) }
     ensures exact_fault { IfErr result (λ fault. Faults fault (jobs_of text.now)) }
 {
-    // Beside a text of this length there is no memory, and its lines could not all be counted.
+    // A text of this length leaves no memory for anything else, and the count of its lines could overflow.
     if text.len() == usize::MAX {
         return Err(JobsFault::Memory);
     }
@@ -168,8 +168,8 @@ pub(crate) fn add_job_line<A: Allocator>(text: &mut String<A>, job: &Job) -> Res
     }
 }
 
-/// Returns the text of these jobs, one line a job, as `read_jobs` reads it. It leaves out the name of a copy that was
-/// made of a file, which no text of jobs has.
+/// Returns the text of these jobs, one line a job, as `read_jobs` reads it. The name of a job's copy is left out, since
+/// no text of jobs has one.
 pub fn write_jobs<A: Allocator>(alloc: A, jobs: &[Job]) -> Result<String<A>, AllocError>
     ensures { IfOk result (λ text. string_bytes text ≡ jobs_text jobs.now) }
 {

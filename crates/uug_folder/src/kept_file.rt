@@ -6,7 +6,7 @@ use std::alloc::{AllocError, Allocator};
 use std::snapshot::Snapshot;
 use uug_talk::Name;
 
-/// A file that a spool has kept, for clauses alone: its bytes are on a disk, and take no memory here.
+/// A file that a spool has kept, for clauses only: its bytes are on a disk, and take no memory here.
 #[derive(Drop)]
 pub struct KeptFile<A: Allocator> {
     pub name: Name,
@@ -31,7 +31,7 @@ impl<A: Allocator> KeptFile<A> {
     }
 }
 
-/// Adds a file to those that were kept, in reserved room.
+/// Appends a file, for which room was reserved, to those that were kept.
 pub fn push_kept<A: Allocator>(kept: &mut Vec<Snapshot<KeptFile<A>>, A>, file: &KeptFile<A>)
     requires { vec_len kept.old < vec_capacity kept.old }
     ensures { map (λ f. shown_kept f.value) kept.new.items

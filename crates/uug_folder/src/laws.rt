@@ -8,13 +8,13 @@ ghost use Rattle.uug_folder.specs.JobsText.{IsPlainJob, IsQueueOf, jobs_of, jobs
 ghost use Rattle.uug_folder.specs.OpenJobs.{Holds, jobs_left, open_in, times};
 ghost use Rattle.uug_folder.specs.Queueing.{appended};
 
-/// States the limit of the bytes in the line of a number.
+/// States the maximum number of bytes in the line of a number.
 pub fn limits()
     ensures number_line { NUMBER_LINE_MAX ≡ 11 }
 {}
 
-/// States that the text of a list of jobs is read as the list. There may be no more of them than may be pending, and
-/// none may have the name of a copy.
+/// States that the text of a list of jobs is read back as the same list, if there are at most `JOBS_MAX` jobs, and none
+/// has a copy.
 pub fn written_jobs_are_read()
     ensures { (jobs : List Job) → length jobs ≤ JOBS_MAX → All IsPlainJob jobs
         → jobs_of (jobs_text jobs) ≡ Ok jobs }
@@ -26,14 +26,14 @@ pub fn each_job_is_taken_out_once()
         → times job (jobs_left over jobs) ≡ times job jobs - times job over }
 {}
 
-/// States that the file of an end's jobs holds just those that were read from it.
+/// States that the file of an end's jobs holds exactly the jobs that were read from it.
 pub fn the_jobs_that_were_read_stand_there()
     ensures { (text : List ℕ) (queue : Lists) → IsQueueOf text queue
         → Holds (open_in (Some text)) (pending queue) }
 {}
 
-/// States that a text of jobs, with the line of one more job appended, says that job too, after the others. They must
-/// be fewer than may be pending, and the job must have names and not the name of a copy.
+/// States that a text of jobs with the line of one more job appended is read as the same jobs and then that job, if
+/// there were fewer than `JOBS_MAX` jobs, and the job has no copy.
 pub fn what_is_queued_is_read()
     ensures { (text : List ℕ) → (jobs : List Job) → (job : Job) → jobs_of text ≡ Ok jobs
         → length jobs < JOBS_MAX → IsPlainJob job

@@ -14,18 +14,18 @@ use uug_conversation::has_name;
 use uug_session::{FileLimit, FileView, KeepFault, Partials, Spool, Verdict};
 use uug_talk::{FileDigest, Name};
 
-/// The spool over a folder, for another end that names files as real systems do. `~/x` and `/x` are `x` in the folder.
-/// No other path is taken or given, nor a name with a dot in front. A file that is sent to `~/` or `/` goes into the
-/// folder under the last part of its own name. Clauses see the files in the folder, and the names under which those
-/// that were kept came.
+/// A spool over a folder, for a peer that names files as real systems do. `~/x` and `/x` are `x` in the folder. No
+/// other path is taken or given, nor a name with a dot in front. A file that is sent to `~/` or `/` goes into the
+/// folder under the last part of its own name. Clauses see the files in the folder, and the names under which the kept
+/// ones arrived.
 #[derive(Drop)]
 pub struct LocalNames<F: Folder, N: Notebook, A: Allocator> {
     files: FolderSpool<F, A>,
     names: Vec<Name, A>,
     delayed: Vec<Name, A>,
-    /// The files that were cut off, if the end resumes such files.
+    /// The partial files that the end holds, if it resumes files.
     partials: Option<Partials<A>>,
-    /// The notebook for what comes of a file, if the end resumes.
+    /// The notebook in which the bytes of a file are saved as they arrive, if the end resumes files.
     notebook: N,
     lenient: bool,
     digests: bool,
@@ -48,13 +48,13 @@ impl<F: Folder, N: Notebook, A: Allocator> Model for LocalNames<F, N, A> {
       limit = s.limit;
     } };
 
-    // Each file that was kept stands in the folder under the name there of the one under which it came.
+    // Each kept file is in the folder under the local name of the name under which it arrived.
     ghost invariant = { λ s. StandUnder s.names.items s.files.stored };
 }
 
 impl<F: Folder, N: Notebook, A: Allocator + Copy> LocalNames<F, N, A> {
-    /// Returns the spool over a folder that has kept nothing, of an end that is not lenient, announces no digests,
-    /// resumes no file, and gives and takes files within this limit. No file is delayed. It takes no memory.
+    /// Creates a spool over a folder that has kept nothing yet. The end is not lenient, announces no digests, resumes
+    /// no files, and gives and takes files within this limit. No file is delayed. Allocates nothing.
     pub fn new(alloc: A, files: FolderSpool<F, A>, notebook: N, limit: FileLimit) -> Self
         requires { files.stored ≡ [] }
         ensures { result ≡ record {
@@ -79,43 +79,43 @@ impl<F: Folder, N: Notebook, A: Allocator + Copy> LocalNames<F, N, A> {
         }
     }
 
-    /// Sets the names in the folder of the files that can't be given now, but later.
+    /// Sets the names in the folder of the files that can't be given now, but may be later.
     pub fn set_delayed(&mut self, delayed: Vec<Name, A>)
         ensures { self.new ≡ record self.old { delayed = delayed.items } }
     {
         self.delayed = delayed;
     }
 
-    /// Sets what its end holds of files that were cut off. None if it doesn't resume such files.
+    /// Sets the partial files that the end holds, or `None` if it doesn't resume files.
     pub fn set_partials(&mut self, partials: Option<Partials<A>>)
         ensures { self.new ≡ record self.old { partials = partials } }
     {
         self.partials = partials;
     }
 
-    /// Returns what its end holds of files that were cut off.
+    /// Returns the partial files that the end holds, or `None` if it doesn't resume files.
     pub fn partials(&self) -> &Option<Partials<A>>
         ensures { result.now ≡ self.now.partials }
     {
         &self.partials
     }
 
-    /// Sets whether its end refuses what it can't read, and goes on.
+    /// Sets whether the end is lenient: refuses what it can't read, and goes on.
     pub fn set_lenient(&mut self, lenient: bool)
         ensures { self.new ≡ record self.old { lenient = lenient } }
     {
         self.lenient = lenient;
     }
 
-    /// Sets whether its end announces digests of its files, and compares those that it receives.
+    /// Sets whether the end announces digests of its files, and compares those that it receives.
     pub fn set_digests(&mut self, digests: bool)
         ensures { self.new ≡ record self.old { digests = digests } }
     {
         self.digests = digests;
     }
 
-    /// Returns the files, under the names that they have in the folder. Each that was kept is there under the name made
-    /// of the one under which it came.
+    /// Returns the spool of the folder, in which files have their local names. Each kept file is there under the local
+    /// name of the name under which it arrived.
     pub fn files(&self) -> &FolderSpool<F, A>
         ensures files { result.now ≡ self.now.files }
         ensures names { StandUnder self.now.names result.now.stored }
@@ -167,7 +167,7 @@ impl<F: Folder, N: Notebook, A: Allocator + Copy> Spool for LocalNames<F, N, A> 
         if self.files.is_immovable(&local) {
             return Err(KeepFault::Refused);
         }
-        // All memory is taken before the folder is touched.
+        // All memory is allocated before the folder is touched.
         if self.names.reserve(1).is_err() {
             return Err(KeepFault::Memory);
         }
@@ -213,22 +213,22 @@ impl<F: Folder, N: Notebook, A: Allocator + Copy> Spool for LocalNames<F, N, A> 
     ghost limits = { λ s. record { some = s.limit.some; fits = s.limit.fits } };
 }
 
-/// Returns the name in the folder of a file that a real system names, if there is one.
+/// Returns the local name, in the folder, of a file that a real system names, if there is one.
 fn local_name(name: &Name) -> Option<Name>
     ensures { result ≡ local_name name.now }
 {
     Name::new(behind_root(name.as_bytes())).ok()
 }
 
-/// Returns the name in the folder of a file that a real system asks for, if there is one. None leads out of the folder,
-/// and none is hidden there.
+/// Returns the local name of a file that a real system requests, if it has one that doesn't lead out of the folder and
+/// isn't hidden in it.
 pub fn local_source(name: &Name) -> Option<Name>
     ensures { result ≡ local_source name.now }
 {
     Name::new(source_bytes(name)?).ok()
 }
 
-/// Returns the bytes of that name. A file is asked for again for each of its messages; this makes no name of the bytes.
+/// Returns the bytes of that name. It makes no `Name` of them, since a file is fetched again for each of its messages.
 fn source_bytes(name: &Name) -> Option<&[u8]>
     ensures { MatchOption result (local_source name.now ≡ None)
         (λ local. local_source name.now ≡ Some local.now) }
@@ -240,8 +240,8 @@ fn source_bytes(name: &Name) -> Option<&[u8]>
     Some(local)
 }
 
-/// Returns the name under which a file is kept. One that is sent to the public folder itself, or to the root, is kept
-/// under the last part of its own name.
+/// Returns the name under which a file is kept: the target. If that is the public folder itself, or the root, it is the
+/// last part of the source instead, if that is a name.
 fn local_landing(source: &Name, target: &Name) -> Name
     ensures { result ≡ local_landing source.now target.now }
 {
@@ -261,7 +261,7 @@ fn last_part(name: &str) -> &str
     }
 }
 
-/// Returns a name without the prefix of the public folder or of the root of a system.
+/// Returns a name without its prefix `~/`, for the public folder, or `/`, for the root of a system.
 fn behind_root(name: &[u8]) -> &[u8]
     ensures { result.now ≡ behind_root name.now }
 {
@@ -274,7 +274,7 @@ fn behind_root(name: &[u8]) -> &[u8]
     }
 }
 
-/// Adds a name, in reserved room.
+/// Appends a name, for which room was reserved.
 fn push_name<A: Allocator>(names: &mut Vec<Name, A>, name: Name)
     requires room { vec_len names.old < vec_capacity names.old }
     ensures { names.new.items ≡ names.old.items ++ name ∷ [] }

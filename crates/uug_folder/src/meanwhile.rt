@@ -11,9 +11,9 @@ use std::alloc::{AllocError, Allocator};
 use uug_session::{Job, Queue};
 use uug_talk::{Name, split_line};
 
-/// Returns the text that replaces the present one of a file of jobs, when a session is over that began with the text
-/// before. If the file only grew, the appended part stays after the pending jobs. If it was changed otherwise, each job
-/// that was struck or has failed is removed from it once, by a line that says it, and all else stays.
+/// Returns the text that replaces the text `now` of a file of jobs after a session. `before` was the file's text when
+/// the session began. If the file only grew, the pending jobs stay, and after them the appended part. If it was changed
+/// otherwise, one line is removed for each job that was struck or has failed, and all else stays.
 pub fn jobs_after<A: Allocator + Copy, B: Allocator>(
     alloc: A,
     before: &[u8],
@@ -28,7 +28,7 @@ pub fn jobs_after<A: Allocator + Copy, B: Allocator>(
     }
 }
 
-/// Returns the part of the second text after the first one, if it begins with that.
+/// Returns the part of the second text after the first one, if it begins with the first one.
 fn behind<'a>(first: &[u8], text: &'a [u8]) -> Option<&'a [u8]>
     ensures { MatchOption result (behind first.now text.now ≡ None)
         (λ rest. behind first.now text.now ≡ Some rest.now) }
@@ -49,7 +49,7 @@ fn text_with<A: Allocator + Copy>(
     Ok(text)
 }
 
-/// Returns what is left of a text when these jobs were struck, and those have failed.
+/// Returns a text without one line for each of these struck and failed jobs.
 pub(crate) fn text_without<A: Allocator + Copy>(
     alloc: A,
     struck: &[Job],
@@ -65,7 +65,8 @@ pub(crate) fn text_without<A: Allocator + Copy>(
     Ok(text)
 }
 
-/// Appends what is left of these lines when these jobs are over. A job is removed from `over` with its line.
+/// Appends the lines of `now`, except for one line of each job in `over`. A job whose line is left out is removed from
+/// `over`.
 fn add_lines_left<A: Allocator>(
     text: &mut Vec<u8, A>,
     over: &mut Vec<Job, A>,
@@ -82,7 +83,7 @@ fn add_lines_left<A: Allocator>(
     Ok(())
 }
 
-/// Appends a line, unless it says a job that is over. Then that job is removed from `over`.
+/// Appends a line, unless it is a job in `over`: then that job is removed from `over`.
 fn add_line_left<A: Allocator>(
     text: &mut Vec<u8, A>,
     over: &mut Vec<Job, A>,
@@ -98,7 +99,7 @@ fn add_line_left<A: Allocator>(
     text.extend_from_slice(b"\n")
 }
 
-/// Removes the job that a line says from these, if it is among them. Returns whether it was.
+/// Removes the job of a line from these, if it is among them. Returns whether it was.
 fn takes_out<A: Allocator>(jobs: &mut Vec<Job, A>, line: &[u8]) -> bool
     ensures { IsTaken result (without_said (job_said (says_of line.now)) jobs.old.items)
         jobs.old.items jobs.new.items }
@@ -109,7 +110,7 @@ fn takes_out<A: Allocator>(jobs: &mut Vec<Job, A>, line: &[u8]) -> bool
     }
 }
 
-/// Removes the first job that is this one, with the same copy. Returns whether there was one.
+/// Removes the first job with the same words and the same copy as this one. Returns whether there was one.
 pub fn take_first<A: Allocator>(jobs: &mut Vec<Job, A>, job: &Job) -> bool
     ensures { IsTaken result (without_first job.now jobs.old.items)
         jobs.old.items jobs.new.items }
@@ -123,7 +124,7 @@ pub fn take_first<A: Allocator>(jobs: &mut Vec<Job, A>, job: &Job) -> bool
     }
 }
 
-/// Returns the place of the first of these jobs that is this one, if there is one.
+/// Returns the place of the first job with the same words and the same copy as this one, if there is one.
 fn place_of(jobs: &[Job], job: &Job) -> Option<usize>
     ensures within { IfSome result (λ place. place < length jobs.now) }
     ensures first { MatchOption result (without_first job.now jobs.now ≡ None)
@@ -175,7 +176,7 @@ pub(crate) fn is_job(job: &Job, other: &Job) -> bool
     }
 }
 
-/// Returns whether two copies have one name, or there is none.
+/// Returns whether two copies have the same name, or neither job has a copy.
 fn is_copy(temp: &Option<Name>, copy: &Option<Name>) -> bool
     ensures { result ≡ is_copy temp.now copy.now }
 {
@@ -186,7 +187,7 @@ fn is_copy(temp: &Option<Name>, copy: &Option<Name>) -> bool
     }
 }
 
-/// Returns whether these words are those.
+/// Returns whether the words of two jobs are the same.
 fn has_words(
     source: &Name,
     target: &Name,

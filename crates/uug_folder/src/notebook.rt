@@ -1,17 +1,17 @@
 use uug_talk::{FileDigest, Name};
 
-/// A place in which an end writes down what comes of a file, so that it isn't lost if the end is killed. What can't be
-/// written is left out.
+/// A place where an end saves the bytes of a file as they arrive, so that they aren't lost if the end is killed. What
+/// can't be written is skipped.
 pub trait Notebook {
-    /// Notes what has come of a file with this name at its giver and this announced digest: `front` before this session,
-    /// and `bytes` in it.
+    /// Saves what has arrived of a file: `front` before this session, and `bytes` in it. `source` is the file's name at
+    /// the end that gives it, and `told` its announced digest.
     fn note(&mut self, source: &Name, told: &FileDigest, front: &[u8], bytes: &[u8]);
 
-    /// Notes that the file with this announced digest has come whole: what is written down of it is of no more use.
+    /// Notes that the file with this announced digest has arrived complete: what was saved of it is no longer needed.
     fn let_go(&mut self, told: &FileDigest);
 }
 
-/// A notebook that writes nothing down.
+/// A notebook that saves nothing.
 #[derive(Clone, Copy)]
 pub struct NoNotebook;
 

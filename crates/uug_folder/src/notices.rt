@@ -13,7 +13,7 @@ use uug_talk::Name;
 /// The reason for which an end has given up a job, as far as it knows.
 #[derive(Clone, Copy, Debug, PartialEq, Eq)]
 pub enum WhyFailed {
-    /// It has no file of the name to send, or that is too large.
+    /// It has no file of this name to send, or the file is too large.
     NoFile,
     /// The other end never takes a file of this name, or can't put it in its place.
     Refused,

@@ -48,8 +48,8 @@ fn written_line(number: u32) -> ArrayVec<u8, NUMBER_LINE_MAX>
     line
 }
 
-/// Returns the number that an end keeps, if any, from the text in its folder. Without a text it keeps none, unless it
-/// is told to keep one: then it begins at 0. A text that is not a number is an error.
+/// Returns the number that an end keeps, if any, from the text in its folder. Without a text it keeps none, unless
+/// `is_told` asks it to: then it begins at 0. A text that is not a number is an error.
 pub fn number_at_start(text: Option<&[u8]>, is_told: bool) -> Result<Option<u32>, BadNumber>
     ensures { MatchOption text.entry (result ≡ begins_with is_told)
         (λ text. result ≡ goes_on_with (number_in text.now)) }
@@ -64,9 +64,9 @@ pub fn number_at_start(text: Option<&[u8]>, is_told: bool) -> Result<Option<u32>
     }
 }
 
-/// Returns the number with which a called end begins a session, from its own number and the one that the caller said.
-/// It is the end's own, unless the caller said the one before. Then it is that one: the caller has not read that its
-/// last call was let in.
+/// Returns the number with which a called end begins a session, from its own number and the one that the caller sent.
+/// It is the end's own, unless the caller sent the number before that. Then it is the caller's: the caller has not read
+/// that its last call was let in.
 pub fn number_beside(own: Option<u32>, said: Option<u32>) -> Option<u32>
     ensures { result ≡ number_beside own said }
 {

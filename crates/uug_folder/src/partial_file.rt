@@ -1,4 +1,4 @@
-//! The file in which an end holds the first bytes of a file that was cut off, as a text.
+//! The text in which an end holds a partial file.
 ghost use Rattle.std.specs.List.{position};
 ghost use Rattle.std.specs.Prelude.{◌≡◌, ◌≤◌, ◌∷◌, ◌++◌, [], ℕ, List, Some, length};
 ghost use Rattle.uug_conversation.specs.PartialView.{key_of, shown_partial};
@@ -10,10 +10,11 @@ use std::alloc::Allocator;
 use uug_session::PartialFile;
 use uug_talk::{NamedDigest, TELLING_MAX};
 
-/// The longest line of such a text, in bytes, with its end.
+/// The maximum number of bytes of the first line of such a text, with its line feed.
 pub const HELD_LINE_MAX: usize = TELLING_MAX + 1;
 
-/// Returns the line of that file: the name, size and digest of the whole file. The bytes that have come follow it.
+/// Returns the first line of such a text: the name, size and digest of the whole file. The bytes that have arrived
+/// follow it.
 pub fn held_line(named: &NamedDigest) -> ArrayVec<u8, HELD_LINE_MAX>
     ensures text { (bytes : List ℕ) → result.items ++ bytes
         ≡ partial_text (record { key = key_of named.now.name named.now.told; bytes = bytes }) }
@@ -26,7 +27,7 @@ pub fn held_line(named: &NamedDigest) -> ArrayVec<u8, HELD_LINE_MAX>
     line
 }
 
-/// Adds a line and its end.
+/// Appends a line and its line feed.
 fn add_line(text: &mut ArrayVec<u8, HELD_LINE_MAX>, line: &[u8])
     requires empty { text.old.items ≡ [] }
     requires fits { length line.now ≤ TELLING_MAX }
@@ -38,7 +39,7 @@ fn add_line(text: &mut ArrayVec<u8, HELD_LINE_MAX>, line: &[u8])
     text.push(b'\n');
 }
 
-/// Returns what such a text holds of a file. Returns `None` if it is no such text.
+/// Returns the partial file in such a text, or `None` if the text is not of this form.
 pub fn into_partial<A: Allocator>(mut text: Vec<u8, A>) -> Option<PartialFile<A>>
     ensures { shown_partial result ≡ partial_in text.items }
 {

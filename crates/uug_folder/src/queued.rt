@@ -1,5 +1,4 @@
-//! The parts of queueing: the job of an order, the name of a copy in `send`, and the line appended to the text of the
-//! jobs.
+//! Queueing: the job of an order, the name of its copy in `send`, and the line to append to the text of the jobs.
 ghost use Rattle.std.specs.Prelude.{◌≡◌, [], IfOk, None, Some, string_bytes};
 ghost use Rattle.uug_folder.specs.JobsText.{job_said, says_of};
 ghost use Rattle.uug_folder.specs.OpenJobs.{jobs_in, with_said};
@@ -78,9 +77,9 @@ fn user_of(user: Option<&[u8]>, default: Name) -> Option<Name>
     }
 }
 
-/// Returns the job that this word orders. The source of one that sends is the name of the file at this path, under
-/// which it is not in `send` yet. If no target is given, it is the name of the file; if no user is given, it is the
-/// default one.
+/// Returns the job of an order, by its word: `send` or `request`. The source of a Send job is the name of the file at
+/// `path`; the copy in `send` may get another name. The source of a Request job is `path` itself. The target defaults
+/// to the name of the file, and the user to `default`.
 pub fn ordered_job(
     word: &[u8],
     path: &[u8],
@@ -102,7 +101,7 @@ pub fn ordered_job(
     }
 }
 
-/// Returns the job that sends a file, or the error for the first word that is missing.
+/// Returns the job that sends a file, or the error for the first name that is missing.
 fn send_job(
     source: Option<Name>,
     target: Option<Name>,
@@ -127,7 +126,7 @@ fn send_job(
     })
 }
 
-/// Returns the job that requests a file, or the error for the first word that is missing.
+/// Returns the job that requests a file, or the error for the first name that is missing.
 fn request_job(
     source: Option<Name>,
     target: Option<Name>,
@@ -167,15 +166,15 @@ pub fn default_user(user: Option<&[u8]>, login: Option<&[u8]>) -> Name
     name
 }
 
-/// Returns the name that a text is, if there is one and it is a name.
+/// Returns the text as a name, if there is a text and it is a name.
 fn name_of(text: Option<&[u8]>) -> Option<Name>
     ensures { result ≡ name_in (shown_text text.entry) }
 {
     Name::new(text?).ok()
 }
 
-/// Returns a name for a copy in `send`: for 0 the name itself, and otherwise the name, a dot and this number. `None` if
-/// that is no name.
+/// Returns the name to try for a copy in `send`: for 0 the base itself, otherwise the base, a dot and the number.
+/// Returns `None` if that is not a name.
 pub fn nth_name<A: Allocator>(alloc: A, base: &Name, n: u32) -> Result<Option<Name>, AllocError>
     ensures { IfOk result (λ name. name ≡ nth_name base.now n) }
 {
@@ -226,7 +225,7 @@ pub fn is_given_by(jobs: &[Job], name: &Name) -> bool
     false
 }
 
-/// Returns whether a line of this text says a job that sends the file of this name.
+/// Returns whether a line of this text is a job that sends the file of this name.
 pub fn is_given_in(text: &[u8], name: &Name) -> bool
     ensures { result ≡ is_given_by name.now (jobs_in (lines text.now)) }
 {
@@ -240,7 +239,7 @@ pub fn is_given_in(text: &[u8], name: &Name) -> bool
     false
 }
 
-/// Returns whether a line says a job that sends the file of this name.
+/// Returns whether a line is a job that sends the file of this name.
 fn says_giving(line: &[u8], name: &Name) -> bool
     ensures { result ≡ is_given_by name.now (with_said (job_said (says_of line.now)) []) }
 {
@@ -260,14 +259,15 @@ fn gives(job: &Job, name: &Name) -> bool
     }
 }
 
-/// Returns whether a text is empty, or its last line has its line feed.
+/// Returns whether a text is empty or ends with a line feed.
 fn is_whole(text: &[u8]) -> bool
     ensures { result ≡ is_whole text.now }
 {
     text.is_empty() || text.ends_with(b"\n")
 }
 
-/// Returns the text to append to a text of jobs for one more. If the last line has no line feed, it gets one.
+/// Returns the text to append to a text of jobs for one more job. It begins with a line feed if the last line lacks
+/// one.
 pub fn appended_job<A: Allocator>(alloc: A, text: &[u8], job: &Job) -> Result<String<A>, AllocError>
     ensures { IfOk result (λ added. string_bytes added ≡ appended text.now job.now) }
 {
@@ -288,7 +288,7 @@ pub fn queued_line<A: Allocator>(alloc: A, job: &Job) -> Result<String<A>, Alloc
     Ok(line)
 }
 
-/// Returns whether one of these jobs sends a file, and so `send` is needed.
+/// Returns whether one of these jobs sends a file, so that `send` is needed.
 pub fn sends_any(jobs: &[Job]) -> bool
     ensures { result ≡ sends_any jobs.now }
 {

@@ -1,5 +1,5 @@
-//! The lines that `pair` prints for an end: the phase of its session, the numbers of its jobs, and those that were
-//! given up.
+//! The lines of the report of an end: the phase of its session, the numbers of its jobs, and the jobs that were given
+//! up.
 ghost use Rattle.std.specs.Prelude.{◌≡◌, ◌++◌, OnOk, OnErr, IfOk, string_bytes};
 ghost use Rattle.uug_folder.specs.EndReport.{state_line, failed_line, failed_lines};
 

@@ -6,9 +6,9 @@ use crate::folder::FolderFailed;
 use std::alloc::Allocator;
 use uug_stream::ToolFault;
 
-/// A file of an end whose text is replaced as a whole: that of its jobs, or that of its number.
+/// A file of an end whose text is replaced as a whole: the file of its jobs, or that of its number.
 pub trait TextFile {
-    /// The text in the file, if it reports it.
+    /// The text in the file, if the file exposes it.
     ghost text: { Self → Option (List ℕ) };
 
     /// The number of faults of its device.
@@ -22,8 +22,8 @@ pub trait TextFile {
         ensures fault { IfErr result (λ fault.
             IsReadFault fault (fault_count self.old) (fault_count self.new)) };
 
-    /// Replaces the text of the file. After a fault the file is as before, or has this text, which may be lost again
-    /// with the power.
+    /// Replaces the text of the file. After a fault the file has the old text or this one, and a power cut may undo the
+    /// change.
     fn replace(&mut self, bytes: &[u8]) -> Result<(), FolderFailed>
         ensures ok { OnOk result (text self.new ≡ holding bytes.now (text self.old)) }
         ensures stands { OnOk result (fault_count self.new ≡ fault_count self.old) }
@@ -32,7 +32,7 @@ pub trait TextFile {
             (HasFailed u64.MAX (fault_count self.old) (fault_count self.new)) }
         ensures grows { fault_count self.old ≤ fault_count self.new };
 
-    /// Returns the number of faults of the device, up to the greatest number that fits.
+    /// Returns the number of faults of the device. The count saturates.
     fn faults(&self) -> u64
         ensures { result ≡ fault_count self.now };
 }

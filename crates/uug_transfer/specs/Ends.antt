@@ -1,4 +1,4 @@
--- How an end stands, and what is said of it when its session is over (this project's profile).
+-- The state of an end, and its report when its session is over (this project's profile).
 use Rattle.std.specs.Prelude.{◌++◌, ◌&&◌, ℕ, Bool, List, Option, length, if◌then◌else◌}
 use Rattle.uug_conversation.specs.declared.side.Side.{Side}
 use Rattle.uug_conversation.specs.declared.side.Side.TheVariants.{Caller, Called}
@@ -18,7 +18,7 @@ phase_of_end n = phase_at n.engine.stage n.engine.link.phase
 abbrev pub number_of_end : NodeState → Option ℕ
 number_of_end n = n.engine.number
 
--- what an observer is told
+-- the status that a line or an observer gets
 abbrev pub status_of : (is_over : Bool) → NodeState → SessionStatus
 status_of is_over n = record {
   phase = phase_of_end n;
@@ -31,11 +31,11 @@ status_of is_over n = record {
 
 -- ---- what is printed
 
--- of one end: how it stands, and then the jobs that it has given up
+-- the report of one end: its state, then the jobs that it has given up
 abbrev pub report_of : Side → NodeState → List ℕ
 report_of side end = state_line side (phase_of_end end) (jobs_of_end end) ++ failed_lines side (jobs_of_end end).failed
 
--- of two: how both stand, and then the jobs that each has given up, the caller's first
+-- the report of two ends: the state of each, then the jobs that each has given up, the caller first
 abbrev pub report_of_both : (caller called : NodeState) → List ℕ
 report_of_both caller called =
     state_line Caller (phase_of_end caller) (jobs_of_end caller)
@@ -45,10 +45,10 @@ report_of_both caller called =
 
 -- ---- the status
 
--- 0 where the session is done, and 1 where it is not
+-- 0 if the session is done, else 1
 abbrev pub status_of_phase : Phase → ℕ
 status_of_phase phase = if is_done phase then 0 else 1
 
--- 0 where both sessions are done, and 1 where one is not
+-- 0 if both sessions are done, else 1
 abbrev pub status_of_phases : (caller called : Phase) → ℕ
 status_of_phases caller called = if is_done caller && is_done called then 0 else 1

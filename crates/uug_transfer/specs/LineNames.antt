@@ -1,4 +1,4 @@
--- What a line is called (this project's profile).
+-- The names of lines (this project's profile).
 use Rattle.std.specs.Prelude.{ℕ, List, [], ◌∷◌, drop, length, codes, nat_eq, Option, Some, None, unwrap_or, if◌then◌else◌}
 use Rattle.std.specs.List.{starts_with}
 use Rattle.std.specs.Option.{option_map}
@@ -16,21 +16,21 @@ pub data LineShown : Type 0 where
   tcp : (host : List ℕ) (port : ℕ) → LineShown
   device : (path : List ℕ) → LineShown
 
--- what a name of a line shows of it
+-- the data of a `LineName`
 abbrev pub shown : LineName → LineShown
 shown lines.Standard = standard
 shown (lines.Unix path) = unix path.now
 shown (lines.Tcp host port) = tcp host.now port
 shown (lines.Device path) = device path.now
 
--- this machine, which others can't reach by this name
+-- this machine, at an address that no other machine can reach
 abbrev pub loopback : List ℕ
 loopback = codes "127.0.0.1"
 
 abbrev pub colon : ℕ
 colon = 58
 
--- what stands behind this word, where the text begins with it
+-- the text after this word, if the text begins with the word
 abbrev pub behind : (word text : List ℕ) → Option (List ℕ)
 behind word text = if starts_with nat_eq text word then Some (drop (length word) text) else None
 
@@ -39,11 +39,11 @@ abbrev pub not_empty : List ℕ → Option (List ℕ)
 not_empty [] = None
 not_empty (c ∷ text) = Some (c ∷ text)
 
--- a port has decimal digits, in front of which a plus may stand
+-- a port is decimal digits, with an optional plus in front, and at most 65,535
 abbrev pub port_of : List ℕ → Option ℕ
 port_of text = number_of 65535 (without_leading_plus text)
 
--- The last colon of an address stands between its host and its port. Where it has none, it is a port of this machine.
+-- The last colon of an address separates its host from its port. An address without a colon is a port of this machine.
 abbrev pub host_and_port : List ℕ → List ℕ × List ℕ
 host_and_port address = unwrap_or (rsplit_once colon address) (loopback, address)
 
@@ -54,7 +54,7 @@ tcp_at _ _ = None
 abbrev pub tcp_of : List ℕ × List ℕ → Option LineShown
 tcp_of parts = tcp_at (not_empty parts.0) (port_of parts.1)
 
--- where the name doesn't begin with `unix:`, and behind its `tcp:`, if it begins with that
+-- the line of a name that doesn't begin with `unix:`; `address` is the text after `tcp:`, if it begins with that
 abbrev pub tcp_or_device : (name : List ℕ) → (address : Option (List ℕ)) → Option LineShown
 tcp_or_device name None = option_map device (not_empty name)
 tcp_or_device name (Some address) = tcp_of (host_and_port address)

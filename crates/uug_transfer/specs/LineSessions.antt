@@ -1,4 +1,4 @@
--- Says what the session of an end at its line comes to, by what it ended with (this project's profile).
+-- What the session of an end at its line has done, by its result (this project's profile).
 use Rattle.std.specs.Prelude.{◌≡◌, ℕ, [], OnOk, Result, Ok, Err}
 use Rattle.uug_session.specs.Engine.{HasFailed, IsEnded, faults_max}
 use Rattle.uug_session.specs.NumberStanding.{KeepsNumber}
@@ -17,8 +17,9 @@ use Rattle.uug_transfer.specs.declared.read_budget.TheConstants.{SILENCES_MAX, S
 use Rattle.uug_transfer.specs.declared.session_fault.SessionFault.{SessionFault}
 use Rattle.uug_transfer.specs.declared.session_fault.SessionFault.TheVariants as faults
 
--- The line: what it brought led the end, and nothing else did. It took the first bytes of what there was to write: what was to be
--- written before, and then what goes out of what the end emitted. It was read, and waited for, no longer than it may be.
+-- The line. What it brought led the end, and nothing else did. It took the first bytes of what there was to write: the
+-- bytes that were to be written before, then those that go out of what the end emitted. Both are left open if memory
+-- ran out. At most `most` bytes were read, and silent reads and writes in a row stayed within their limits.
 pub record UsesLine {T : Type 0} (most : ℕ) (result : Result T SessionFault) (old new : EndNow) (first : Unsent)
     (line line_after : LineNow) : Type 0 where
   pub heard : UnlessRefused result (HearsLine old.holdings old.kept new.kept line.received line_after.received old.node new.node)
@@ -27,8 +28,8 @@ pub record UsesLine {T : Type 0} (most : ℕ) (result : Result T SessionFault) (
   pub reads : ReadsWithin most SILENCES_MAX line.received line_after.received
   pub writes : WritesWithin STALLS_MAX line.writes line_after.writes
 
--- The jobs: those that are over are taken out of their store, and nothing else is. No pending job is lost from it, whatever
--- happens. Of each that has failed it is told why.
+-- The jobs. Those that are over are removed from their store, and no others, and each failed one gets a notice with the
+-- reason, unless the store has failed or memory ran out. Whatever happens, no pending job is lost from the store.
 pub record SettlesJobs {T : Type 0} (result : Result T SessionFault) (old new : EndNow) (disk disk_after : DiskNow) : Type 0 where
   pub stays : UnlessUnsettled result (StaysInStore disk.jobs disk_after.jobs old.node new.node)
   pub none_lost : LosesNoJob disk.jobs disk_after.jobs old.node new.node
@@ -36,8 +37,8 @@ pub record SettlesJobs {T : Type 0} (result : Result T SessionFault) (old new : 
   pub calm : UnlessUnsettled result (disk_after.job_faults ≡ disk.job_faults)
   pub fault : result ≡ Err faults.Jobs → HasFailed faults_max disk.job_faults disk_after.job_faults
 
--- The number: it has risen once at most, and its file has the one that the end keeps, if it keeps one. Whatever happens, the
--- file is as it was or has the line of a number as a whole.
+-- The number. It has risen once at most, and its file has the number that the end keeps, if it keeps one. Whatever
+-- happens, the file is unchanged or has the complete line of a number.
 pub record WritesNumber {T : Type 0} (result : Result T SessionFault) (old new : EndNow) (disk disk_after : DiskNow) : Type 0 where
   pub stands : UnlessRefused result (KeepsNumber old.node.engine new.node.engine)
   pub is_now : OnOk result (IsNumberNow (number_of_end old.node) (number_of_end new.node) disk.number disk_after.number)
@@ -45,7 +46,7 @@ pub record WritesNumber {T : Type 0} (result : Result T SessionFault) (old new :
   pub calm : UnlessRefused result (UnlessNumber result (disk_after.number_faults ≡ disk.number_faults))
   pub fault : result ≡ Err faults.Number → HasFailed faults_max disk.number_faults disk_after.number_faults
 
--- what became of an end by its turns at its line, and with what they ended
+-- what an end's turns at its line have done, by their result
 pub record IsSession {T : Type 0} (most : ℕ) (result : Result T SessionFault) (old new : EndNow) (first : Unsent)
     (line line_after : LineNow) (disk disk_after : DiskNow) : Type 0 where
   pub led : IsLed old new
@@ -55,8 +56,9 @@ pub record IsSession {T : Type 0} (most : ℕ) (result : Result T SessionFault) 
 
 -- ---- with its report
 
--- Answers a session that ended so: with the status, or with what became of the report where that failed. Where something
--- could not be put on the disk, that is the answer; want of memory always is.
+-- The program's result, from those of the session and of printing the report. It is the status if both succeeded, and
+-- the report's fault if only the report failed. If results could not be stored on the disk, it is `Device`. If memory
+-- ran out in either, it is `Memory`.
 abbrev pub answer_to : {T U : Type 0} → (ended : Result T SessionFault) → (status : ℕ) → (printed : Result U ToolFault)
     → Result ℕ ToolFault
 answer_to (Ok done) status (Ok told) = Ok status
@@ -65,7 +67,7 @@ answer_to (Err faults.Jobs) status printed = Err (fault_behind_line printed)
 answer_to (Err faults.Number) status printed = Err (fault_behind_line printed)
 answer_to (Err faults.Memory) status printed = Err tool_faults.Memory
 
--- an end has had its session, which is over, and has told of it
+-- an end has run its session to its end; `answer` follows from the session's result and that of printing the report
 pub record IsCall (most : ℕ) (answer : Result ℕ ToolFault) (old new : EndNow) (first : Unsent) (line line_after : LineNow)
     (disk disk_after : DiskNow) : Type 0 where
   pub ended : Result (Unit {0}) SessionFault

@@ -1,4 +1,5 @@
--- An end, its line and its disk at a moment, as far as each of them tells; and that events led an end on (this project's profile).
+-- An end, its line and its disk at a moment, as far as each of them exposes its state; and that events led an end on
+-- (this project's profile).
 use Rattle.std.specs.Prelude.{◌≡◌, ℕ, List, Option}
 use Rattle.uug_conversation.specs.Holdings.{Holdings, Kept}
 use Rattle.uug_conversation.specs.OwnRequests.{KeepsWhatItAskedFor}
@@ -19,7 +20,7 @@ use Rattle.uug_transfer.specs.declared.transfer_end.TransferEnd.{TransferEnd}
 
 pub record EndNow : Type 0 where
   pub node : NodeState
-  -- what its files give and accept, and what they have kept
+  -- what its spool gives and accepts, and what it has kept
   pub holdings : Holdings
   pub kept : List Kept
 
@@ -33,16 +34,16 @@ end_now holdings kept buffered = record {
 abbrev pub node_now : {S A : Type 0} → (holdings : S → Holdings) (kept : S → List Kept) → Node S A → EndNow
 node_now holdings kept node = record { node = node_of node; holdings = holdings node.spool; kept = kept node.spool }
 
--- Whatever happened: events led the end on, beside files that give and accept what they did. Its three lists have the same jobs
--- together, each as often. What it had kept and what it had struck stays in front; and each Request job that it struck since
--- has an entry of its own in what it kept since.
+-- This holds whatever happened. Events led the end on, and its spool gives and accepts the same as before. Together its
+-- three lists have the same jobs, each as often. Kept files and struck jobs were only added, at the end of their lists.
+-- Each Request job that was struck since has its own entry among the files kept since.
 pub record IsLed (old new : EndNow) : Type 0 where
   pub stays : new.holdings ≡ old.holdings
   pub events : IsLedByEvents old.holdings old.kept new.kept old.node new.node
   pub jobs : HaveSameJobs (jobs_of_end old.node) (jobs_of_end new.node)
   pub requests : KeepsWhatItAskedFor old.holdings (struck_jobs old.node) (struck_jobs new.node) old.kept new.kept
 
--- the bytes that are still to be written for it, and what is done to the packets that it emits
+-- the bytes that an end has still to write, and the injector of the packets that it emits
 pub record Unsent : Type 0 where
   pub bytes : List ℕ
   pub injector : FaultInjector
@@ -52,7 +53,7 @@ unsent buffered = record { bytes = to_write buffered; injector = injector_in buf
 
 -- ---- its line
 
--- what its reads brought, which bytes it took, and how many each of its writes took
+-- the results of its reads, the bytes that it took, and the number of bytes that each write took
 pub record LineNow : Type 0 where
   pub received : Option (List Received)
   pub taken : Option (List ℕ)
@@ -63,8 +64,8 @@ line_now received taken writes line = record { received = received line; taken =
 
 -- ---- its disk
 
--- which jobs are open in their store, what is told of those that have failed, the text of its number's file, and how often
--- the devices of both have failed
+-- the open jobs in their store, the notices of failed jobs, the text of the number's file, and the numbers of faults of
+-- both devices
 pub record DiskNow : Type 0 where
   pub jobs : Option (List Job)
   pub told : Option (List ℕ)
@@ -82,7 +83,7 @@ disk_now jobs told job_faults number number_faults store file = record {
   number_faults = number_faults file;
 }
 
--- that of an end with a file of jobs
+-- the disk of an end whose jobs are in a file
 abbrev pub disk_of : {S J N A : Type 0} → (text told : J → Option (List ℕ)) (job_faults : J → ℕ) → (number : N → Option (List ℕ))
     (number_faults : N → ℕ) → TransferEnd S J N A → DiskNow
 disk_of text told job_faults number number_faults end = record {

@@ -1,4 +1,4 @@
--- Says what is printed of an end that has run its session, and what the program answers (this project's profile).
+-- The report of an end that has run its session, and the program's status (this project's profile).
 use Rattle.std.specs.Prelude.{◌≡◌, ℕ, Bool, List, Option, if◌then◌else◌}
 use Rattle.uug_conversation.specs.Holdings.{Holdings, Kept}
 use Rattle.uug_conversation.specs.declared.side.Side.{Side}
@@ -9,20 +9,20 @@ use Rattle.uug_session.specs.Node.{NodeState}
 use Rattle.uug_stream.specs.Streams.{Appends}
 use Rattle.uug_transfer.specs.Ends.{phase_of_end, report_of, status_of_phase}
 
--- 1 where jobs were put off or given up, where that counts, else that of the session
+-- 1 if jobs were put off (`is_left`), else the status of the session
 abbrev pub status_with : (is_left : Bool) (status : ℕ) → ℕ
 status_with is_left status = if is_left then 1 else status
 
--- The end came soundly to its session, with files that give and accept this, and has run it up to here, where they have
--- kept that.
+-- The end began its session soundly, with a spool that gives and accepts `h`. It has run the session up to this state,
+-- in which the spool has kept `kept`.
 pub record HasRunSoundly (side : Side) (h : Holdings) (kept : List Kept) (end : NodeState) : Type 0 where
   pub beginning : EndBeginning
   pub holdings : beginning.holdings ≡ h
   pub sound : IsSoundBeginning beginning
   pub ran : HasRun side beginning kept end
 
--- The report of an end on this side is printed, which has run its session to its end. The status is that of the session, 0 where
--- it is done, and 1 where it is not or where jobs were put off.
+-- An end on this side has run its session to its end, and its report is printed. The status is 0 if the session is done
+-- and no jobs were put off (`is_left`), else 1.
 pub record IsReported (side : Side) (status : ℕ) (written written_after : Option (List ℕ)) : Type 0 where
   pub end : NodeState
   pub holdings : Holdings

@@ -1,5 +1,6 @@
--- What an end leaves out of what an event had it emit, before that is written: as if a line had lost it (this project's profile).
--- In the loop of a session all that was emitted before is written when an event comes, so only what this one had it emit waits.
+-- The packets that an end leaves out before writing, of those that one event made it emit, as if a line had lost them
+-- (this project's profile). The loop of a session writes all that was emitted before it handles the next event, so only
+-- the entries of one event wait.
 use Rattle.std.specs.Prelude.{◌≡◌, ℕ, ◌==◌, nat_lt, Bool, true, false, not, ◌&&◌, ◌||◌, ◌%◌, List, [], ◌∷◌, ◌++◌, length, drop, slice_index, Result, Ok, Err}
 use Rattle.std.specs.List.{list_any, list_all}
 use Rattle.std.specs.Str.{bytes_eq}
@@ -21,12 +22,12 @@ abbrev pub is_read_as_rr : Result (PacketValue × ℕ) NoPacket → Bool
 is_read_as_rr (Ok found) = says_rr found.0
 is_read_as_rr (Err refusal) = false
 
--- an RR is a header alone that is read as one
+-- an RR is a header alone, and is decoded as an RR
 abbrev pub is_rr : EntryValue → Bool
 is_rr (text bytes) = false
 is_rr (packet bytes first) = (length bytes == HEADER_SIZE) && is_read_as_rr (decoded bytes)
 
--- a data packet has a field behind its header
+-- a data packet has a field after its header
 abbrev pub is_data : EntryValue → Bool
 is_data (text bytes) = false
 is_data (packet bytes first) = nat_lt HEADER_SIZE (length bytes)
@@ -36,19 +37,19 @@ abbrev pub is_packet : List ℕ → EntryValue → Bool
 is_packet bytes (text other) = false
 is_packet bytes (packet other first) = bytes_eq other bytes
 
--- one that was sent before
+-- a packet of these bytes that is sent again
 abbrev pub is_sent_again : List ℕ → EntryValue → Bool
 is_sent_again bytes (text other) = false
 is_sent_again bytes (packet other first) = not first && bytes_eq other bytes
 
 -- ---- what is left out
 
--- a data packet, where the same goes out again behind it: so what remains is in the order in which it was sent last
+-- a data packet that goes out again later; so what remains is in the order in which each was sent last
 abbrev pub is_repeated : EntryValue → (behind : List EntryValue) → Bool
 is_repeated (text bytes) behind = false
 is_repeated (packet bytes first) behind = nat_lt HEADER_SIZE (length bytes) && list_any (is_sent_again bytes) behind
 
--- the number that a packet acknowledges is in the low bits of its fifth byte
+-- the number that a packet acknowledges is in the three low bits of its fifth byte
 abbrev pub acknowledged : List ℕ → ℕ
 acknowledged bytes = slice_index bytes 4 % 8
 
@@ -62,8 +63,9 @@ abbrev pub is_said_by : EntryValue → (carrier : EntryValue) → Bool
 is_said_by (text bytes) carrier = false
 is_said_by (packet bytes first) carrier = (length bytes == HEADER_SIZE) && acknowledges bytes carrier
 
--- An RR, where those right behind it say as much: a new data packet, which is sent again until it is acknowledged; or two more
--- RRs, or one and such a packet, of which one may get lost on its way.
+-- An RR that the entries directly after it make superfluous. They are a new data packet that acknowledges the same, and
+-- is sent again until it is acknowledged; or two entries, of which one may get lost: two more RRs, or one more RR and a
+-- new data packet that acknowledges the same as that RR.
 abbrev pub is_covered : EntryValue → (behind : List EntryValue) → Bool
 is_covered entry [] = false
 is_covered entry (next ∷ []) = is_rr entry && is_said_by entry next
@@ -79,24 +81,24 @@ abbrev pub unless_left_out : (left_out : Bool) → EntryValue → List EntryValu
 unless_left_out true entry behind = behind
 unless_left_out false entry behind = entry ∷ behind
 
--- what remains of all that an event had an end emit
+-- the entries that remain of those that an event made an end emit
 abbrev pub thinned : Thinning → List EntryValue → List EntryValue
 thinned thinning [] = []
 thinned thinning (entry ∷ behind) = unless_left_out (is_left_out thinning entry behind) entry (thinned thinning behind)
 
--- ---- what that comes to
+-- ---- what remains
 
--- the entries that a line lets through which loses these
+-- the entries that a line lets through, if it loses those for which `lost` says so
 abbrev pub let_through : (lost : List Bool) → List EntryValue → List EntryValue
 let_through [] entries = entries
 let_through (gone ∷ lost) [] = []
 let_through (gone ∷ lost) (entry ∷ entries) = unless_left_out gone entry (let_through lost entries)
 
--- it is what some line lets through
+-- some line lets exactly these entries through
 abbrev pub IsLetThrough : (entries remaining : List EntryValue) → Type 0
 IsLetThrough entries remaining = (lost : List Bool) × (let_through lost entries ≡ remaining)
 
--- the next of these entries that remains is an RR, and only RRs stand in front of it
+-- the first of these entries that remains is an RR, and only RRs precede it
 pub record RemainsRr (thinning : Thinning) (entries : List EntryValue) : Type 0 where
   pub passed : List EntryValue
   pub last : EntryValue
@@ -107,8 +109,8 @@ pub record RemainsRr (thinning : Thinning) (entries : List EntryValue) : Type 0 
   pub is : is_rr last ≡ true
   pub remains : thinned thinning entries ≡ last ∷ remaining
 
--- Behind this RR only RRs stand, and then a new data packet that acknowledges the same as the last of them: it remains, or an
--- equal one behind it.
+-- After this RR and perhaps more RRs there is a new data packet that acknowledges the same as the last RR. It remains,
+-- or an equal packet after it does.
 pub record RemainsData (thinning : Thinning) (entry : EntryValue) (behind : List EntryValue) : Type 0 where
   pub passed : List EntryValue
   pub last : EntryValue
@@ -120,7 +122,7 @@ pub record RemainsData (thinning : Thinning) (entry : EntryValue) (behind : List
   pub says : is_said_by last carrier ≡ true
   pub remains : (bytes : List ℕ) → is_packet bytes carrier ≡ true → list_any (is_packet bytes) (thinned thinning (carrier ∷ rest)) ≡ true
 
--- ---- how the program finds it: by the entries from a place on
+-- ---- how the program computes it: from the entries at a place and after it
 
 abbrev pub is_repeated_of : List EntryValue → Bool
 is_repeated_of [] = false

@@ -5,11 +5,11 @@ use Rattle.uug_transfer.specs.declared.turn_fault.TurnFault.{TurnFault}
 use Rattle.uug_transfer.specs.declared.turn_fault.TurnFault.TheVariants as faults
 use Rattle.uug_transfer.specs.declared.line.TheConstants.{UNREAD_MAX}
 
--- no more is on its way to either end than may be
+-- at most `UNREAD_MAX` bytes are on their way to either end
 pub record HasRoom (unread : Side → ℕ) : Type 0 where
   pub within : (side : Side) → unread side ≤ UNREAD_MAX
 
--- nothing is on its way, and neither end has something to write
+-- nothing is on its way, and neither end has anything to write
 pub record IsQuiet (unread : Side → ℕ) (from_caller from_called : List ℕ) : Type 0 where
   pub read : (side : Side) → unread side ≡ 0
   pub caller_wrote : from_caller ≡ []

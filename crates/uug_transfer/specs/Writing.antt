@@ -1,4 +1,4 @@
--- What an end has written at its line, and that it is what the end had to write, from the front (this project's profile).
+-- The bytes that an end has written to its line: the first of those that it had to write (this project's profile).
 use Rattle.std.specs.Prelude.{◌≡◌, ◌++◌, ℕ, List, [], ◌∷◌, Option, Some, None, map, ⊤}
 use Rattle.uug_conversation.specs.Holdings.{Holdings, Kept}
 use Rattle.uug_link.specs.Entries.{EntryValue}
@@ -12,27 +12,27 @@ use Rattle.uug_transfer.specs.Thinning.{thinned}
 use Rattle.uug_transfer.specs.declared.fault_injector.FaultInjector.{FaultInjector}
 use Rattle.uug_transfer.specs.declared.thinning.Thinning.{Thinning}
 
--- where a line tells which bytes it has taken, these came last
+-- the bytes that the line took with these added at the end, if the line exposes them
 abbrev pub also_taken : List ℕ → Option (List ℕ) → Option (List ℕ)
 also_taken bytes None = None
 also_taken bytes (Some before) = Some (before ++ bytes)
 
--- where a line tells which bytes it has taken: the first of these, which may be none or all
+-- if the line exposes the bytes that it took: it took the first of these, which may be none or all
 abbrev pub TakesFront : List ℕ → (before after : Option (List ℕ)) → Type 0
 TakesFront bytes None after = ⊤
 TakesFront bytes (Some before) after = (front rest : List ℕ) × (bytes ≡ front ++ rest) × (after ≡ Some (before ++ front))
 
--- what remains of what each event had an end emit
+-- the entries that remain of those that each event made an end emit, joined
 abbrev pub all_thinned : Thinning → (says : List (List Emitted)) → List EntryValue
 all_thinned thinning [] = []
 all_thinned thinning (said ∷ more) = thinned thinning (map entry_of said) ++ all_thinned thinning more
 
--- what goes out of it
+-- the bytes that go out of them
 abbrev pub goes_out : FaultInjector → (says : List (List Emitted)) → List ℕ
 goes_out injector says = outgoing_from injector.drop_every injector.flip_every injector.count (all_thinned injector.thinning says)
 
--- Of the bytes that were to be written, and those that go out of what the end has emitted since by each thing that its line
--- brought, the line has taken the first, in order.
+-- The line has taken the first of the bytes that the end had to write, in order: those that were to be written before,
+-- then those that go out of what the end has emitted since at each event of its line.
 pub record TalksAtLine (h : Holdings) (kept kept_after : List Kept) (received received_after : Option (List Received))
     (injector : FaultInjector) (bytes : List ℕ) (taken taken_after : Option (List ℕ)) (before after : NodeState) : Type 0 where
   pub says : List (List Emitted)

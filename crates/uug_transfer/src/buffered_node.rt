@@ -26,8 +26,8 @@ pub struct BufferedNode<S: Spool, A: Allocator> {
 }
 
 impl<S: Spool + Drop, A: Allocator + Copy> BufferedNode<S, A> {
-    /// Creates a buffer for what this node emits, through this injector. What the node has emitted already is queued
-    /// for writing.
+    /// Creates a buffer for what this node emits, through this injector. It takes over what the node has already
+    /// emitted.
     pub fn new(alloc: A, node: Node<S, A>, injector: FaultInjector) -> Result<Self, AllocError>
         ensures led { IfOk result (λ buffered.
             IsLed (node_now S.holdings S.kept node) (end_now S.holdings S.kept buffered)) }
@@ -161,7 +161,7 @@ impl<S: Spool + Drop, A: Allocator + Copy> BufferedNode<S, A> {
         self.node.spool()
     }
 
-    /// Returns how far the session is. `is_over` says whether the end has left its line.
+    /// Returns the status of the session. `is_over` says whether the end has left its line.
     pub fn status(&self, is_over: bool) -> SessionStatus
         ensures { result ≡ status_of is_over (node_in self.now) }
     {

@@ -20,12 +20,13 @@ use uug_folder::{JobTexts, TextFile};
 use uug_session::{Node, Phase, Side, Spool};
 use uug_stream::{Output, ToolFault, write_all};
 
-/// Runs an end at its line until its session is over. It reads at most `most` bytes, and its patience is `limits`.
-/// Results go to its disk during the session: a finished job is removed from the file of jobs, and a failed one gets a
-/// notice. An end that keeps a number writes it to its own file. All this precedes anything that the end writes about
-/// it. When the session is over the report is written to the output, even if a file has failed. Returns the program's
-/// status: 0 if the session is done, and 1 if not. Returns the first of several faults. No fault prevents the report
-/// from being printed, except running out of memory.
+/// Runs an end at its line until its session is over, as `run_session` does. Results go to its disk during the session,
+/// before the end writes about them: a job that is done or has failed is removed from the file of jobs, a failed one
+/// gets a notice, and the number goes to its own file, if the end keeps one. Then writes the report to the output, even
+/// if a file has failed. Returns the program's status: 0 if the session is done, else 1.
+///
+/// Returns the first of several faults, except that running out of memory after a file has failed is `Memory`. No fault
+/// prevents the report from being printed, except running out of memory.
 pub fn call_over<S, L, J, N, O, A>(
     alloc: A,
     side: Side,
@@ -103,8 +104,8 @@ fn print_report<S: Spool, O: Output, A: Allocator + Copy>(
     write_all(output, report.as_bytes())
 }
 
-/// Returns the fault to report after a device has failed, given the result of the remaining work. It is the device's
-/// fault, which came first, unless memory ran out.
+/// Returns the fault to report after a device has failed, given the result of the remaining work: the device's fault,
+/// which came first, unless memory ran out.
 pub(crate) fn fault_behind_line(left: Result<(), ToolFault>) -> ToolFault
     ensures { result ≡ fault_behind_line left }
 {

@@ -1,4 +1,4 @@
-//! The name of a caller, in the text that it says first.
+//! The name of a caller, in the first text that it sends.
 ghost use Rattle.std.specs.Prelude.{◌≡◌, ◌≤◌, length};
 ghost use Rattle.std.specs.List.{position_or_len};
 ghost use Rattle.uug_session.specs.Greeting.{name_in_caller_text};
@@ -7,7 +7,7 @@ ghost use Rattle.uug_transfer.specs.Callers.{caller_in};
 
 use uug_talk::Name;
 
-/// Returns the name that a caller gives in this text.
+/// Returns the name that a caller gives in this text, if it gives a valid one.
 pub fn caller_in(text: &[u8]) -> Option<Name>
     ensures { result ≡ caller_in text.now }
 {

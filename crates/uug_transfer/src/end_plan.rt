@@ -21,7 +21,7 @@ pub(crate) struct EndPlan<A: Allocator> {
 }
 
 impl<A: Allocator + Copy> EndPlan<A> {
-    /// Reads the file of jobs again, if it has to be written, and plans what to write for this end.
+    /// Reads the file of jobs again, and plans what to write for this end.
     pub(crate) fn new<S: Spool + Drop, J: TextFile, N: TextFile>(
         alloc: A,
         end: &mut TransferEnd<S, J, N, A>,
@@ -79,7 +79,7 @@ impl<A: Allocator> EndPlan<A> {
         number_written
     }
 
-    /// Returns the fault to report if memory is refused before anything was written: the device's fault, if it came
+    /// Returns the fault to report if memory runs out before anything was written: the device's fault, if it came
     /// before.
     pub(crate) fn fault_without_memory(&self) -> ToolFault
         ensures { result ≡ fault_without_memory self.now.jobs }

@@ -11,9 +11,9 @@ pub const EVERY_MIN: u32 = 2;
 /// The greatest N for losing or changing every Nth packet.
 pub const EVERY_MAX: u32 = 1_000_000;
 
-/// The changes made to packets before they are written. Some packets that need not go are left out, and some of the
-/// rest are lost or changed. Packets that are not left out, lost ones included, are counted from 1 in the order in
-/// which they are emitted, over both directions.
+/// The changes made to packets before they are written. Packets that need not go out are left out, and some of the rest
+/// are lost or changed. Packets that are not left out, lost ones included, are counted from 1 in the order in which
+/// they are emitted, over both directions.
 #[derive(Drop)]
 pub struct FaultInjector {
     /// The packets to leave out.
@@ -29,8 +29,8 @@ pub struct FaultInjector {
 }
 
 impl FaultInjector {
-    /// Creates an injector that loses every Nth packet, and changes every Nth, with an N of its own each. Returns
-    /// `None` if an N is less than `EVERY_MIN` or more than `EVERY_MAX`.
+    /// Creates an injector that loses every Nth packet, with N `drop_every`, and changes every Nth, with N
+    /// `flip_every`. Returns `None` if an N is less than `EVERY_MIN` or more than `EVERY_MAX`.
     pub fn new(drop_every: Option<u32>, flip_every: Option<u32>) -> Option<Self>
         ensures some { is_some result ≡ (is_in_range drop_every && is_in_range flip_every) }
         ensures drop_every { IfSome result (λ injector. injector.drop_every ≡ drop_every) }

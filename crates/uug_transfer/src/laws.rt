@@ -17,8 +17,8 @@ ghost use Rattle.uug_transfer.specs.declared.thinning.Thinning.{Thinning};
 ghost use Rattle.uug_transfer.specs.declared.timer.TheConstants.{SPEED_MAX, SPEED_MIN};
 
 /// States the value of each limit: bytes on their way to an end of a pair, and bytes per read of a call; bytes of a
-/// session, and silences in a row at reads and at writes; seconds of the greeting, and reads without progress; the N of
-/// every Nth packet; and the speed of a line in bits a second.
+/// session, and silent reads and writes in a row; seconds and timers of the greeting, and timers without progress; the
+/// N of every Nth packet; and the speed of a line in bits a second.
 pub fn limits()
     ensures unread { UNREAD_MAX ≡ 4096 }
     ensures read { READ_MAX ≡ 8192 }
@@ -30,25 +30,23 @@ pub fn limits()
     ensures speed { (SPEED_MIN ≡ 300) × (SPEED_MAX ≡ 10000000) }
 {}
 
-/// States that an injector that loses and changes nothing, like that of an end at a real line, lets out all that was
-/// emitted.
+/// States that all that was emitted goes out if the injector loses and changes nothing, as at a real line.
 pub fn all_goes_out_without_faults()
     ensures { (count : ℕ) (entries : List EntryValue) →
         outgoing_from None None count entries ≡ emitted_bytes entries }
 {}
 
-/// States that all that was emitted remains if nothing is to be left out, for one event and for several.
+/// States that everything emitted remains if nothing is to be left out, for one event and for several.
 pub fn all_remains_without_thinning()
     ensures event { (entries : List EntryValue) → thinned Thinning.Nothing entries ≡ entries }
     ensures events { (says : List (List Emitted)) →
         all_thinned Thinning.Nothing says ≡ map entry_of (all_said says) }
 {}
 
-/// States what remains of all that an event had an end emit: what a line that loses the rest lets through. Each data
-/// packet remains, or an equal one does, and each text remains. A data packet that is left out is sent again after its
-/// place. If an RR is left out, one of two things follows it. Either the next that remains is an RR, with only RRs in
-/// between. Or only RRs follow, then a new data packet that acknowledges the same as the last of them, and of which an
-/// equal one remains.
+/// States that thinning is like a line that loses what is left out. Each text remains. Each data packet remains, or an
+/// equal one does, and one that is left out is sent again later. If an RR is left out, one of two things holds. Either
+/// the next entry that remains is an RR, with only RRs in between. Or this RR, and perhaps more after it, are followed
+/// by a new data packet that acknowledges the same as the last of them, and that packet or an equal one remains.
 pub fn what_is_left_out_need_not_go()
     ensures lost { (thinning : Thinning) (entries : List EntryValue) →
         IsLetThrough entries (thinned thinning entries) }

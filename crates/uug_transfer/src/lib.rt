@@ -1,5 +1,5 @@
-//! One end at a line, and two ends in turn: their reads and writes until a session is over, and what is then written
-//! about their jobs. Nothing here calls the system: lines, files and outputs are traits.
+//! Runs one end at its line, or two ends in turns, until their sessions are over. Writes the results of their jobs and
+//! the report. Nothing here calls the system: lines, files and outputs are traits.
 #![tactic(auto)]
 
 mod buffered_node;

@@ -24,7 +24,7 @@ pub trait Line {
     /// The number of times that the line has failed.
     ghost fault_count: { Self → ℕ };
 
-    /// Writes the first bytes of a piece, at least one, for the end on this side, and returns how many.
+    /// Writes the first bytes of a piece, at least one, to the end on this side, and returns how many.
     fn write(&mut self, to: Side, piece: &[u8]) -> Result<usize, LineFailed>
         requires some { 0 < length piece.now }
         requires room { unread self.old to + length piece.now ≤ UNREAD_MAX }
@@ -49,7 +49,7 @@ pub trait Line {
             (HasFailed u64.MAX (fault_count self.old) (fault_count self.new)) }
         ensures grows { fault_count self.old ≤ fault_count self.new };
 
-    /// Notes how far the caller's session is. A line that only carries bytes ignores it.
+    /// Receives the status of the caller's session. A line that only carries bytes ignores it.
     fn note(&mut self, _status: SessionStatus)
         ensures unread { (side : Side) → unread self.new side ≡ unread self.old side }
         ensures calm { fault_count self.new ≡ fault_count self.old }

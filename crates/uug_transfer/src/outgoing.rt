@@ -11,8 +11,8 @@ use crate::waiting::is_left_out;
 use std::alloc::{AllocError, Allocator};
 use uug_link::{Entry, Outbox};
 
-/// Appends what goes out of an outbox's entries, except those that the injector's thinning leaves out. Packets that go
-/// out are counted, texts are not.
+/// Appends the bytes that go out of an outbox, except for the entries that the injector's thinning leaves out. Packets
+/// that are not left out are counted, texts are not.
 pub(crate) fn add_outgoing<A: Allocator>(
     outgoing: &mut Vec<u8, A>,
     outbox: &Outbox<A>,
@@ -33,7 +33,7 @@ pub(crate) fn add_outgoing<A: Allocator>(
     }
 }
 
-/// Appends what goes out of the entries that remain.
+/// Appends the bytes that go out of the entries that are not left out.
 fn add_thinned<A: Allocator>(
     outgoing: &mut Vec<u8, A>,
     outbox: &Outbox<A>,
@@ -57,7 +57,7 @@ fn add_thinned<A: Allocator>(
     Ok(())
 }
 
-/// Appends what goes out of all entries.
+/// Appends the bytes that go out of all entries.
 fn add_all<A: Allocator>(
     outgoing: &mut Vec<u8, A>,
     outbox: &Outbox<A>,
@@ -78,7 +78,7 @@ fn add_all<A: Allocator>(
     Ok(())
 }
 
-/// Appends what goes out of an entry.
+/// Appends the bytes that go out of an entry.
 fn add_entry<A: Allocator>(
     outgoing: &mut Vec<u8, A>,
     entry: Entry<'_>,
@@ -98,7 +98,7 @@ fn add_entry<A: Allocator>(
     }
 }
 
-/// Appends what goes out of a packet.
+/// Appends the bytes that go out of a packet.
 fn add_packet<A: Allocator>(
     outgoing: &mut Vec<u8, A>,
     packet: &[u8],
@@ -113,7 +113,7 @@ fn add_packet<A: Allocator>(
     }
 }
 
-/// Appends a packet with the lowest bit of its last byte turned over.
+/// Appends a packet with the lowest bit of its last byte flipped.
 fn add_flipped<A: Allocator>(outgoing: &mut Vec<u8, A>, packet: &[u8]) -> Result<(), AllocError>
     ensures { OnOk result (outgoing.new.items ≡ outgoing.old.items ++ flipped packet.now) }
 {

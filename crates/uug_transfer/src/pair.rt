@@ -20,11 +20,13 @@ use uug_folder::TextFile;
 use uug_session::{Phase, Spool};
 use uug_stream::{Output, ToolFault};
 
-/// Runs two ends for at most `limit` turns at a line. Then each file of jobs is read again, and what stays is written:
-/// the pending jobs, and what was added meanwhile. An end that keeps a number writes it to its own file. The report is
-/// written to the output, even if the line has failed. Returns the program's status: 0 if both sessions are done, and 1
-/// if one is not. Returns the first of several faults. No fault prevents the steps after it, except running out of
-/// memory before the first write.
+/// Runs two ends for at most `limit` turns at a line. Then reads each file of jobs again and writes what stays of it:
+/// the pending jobs, and the lines that were added meanwhile. Writes the number of each end that keeps one to its own
+/// file, and the report to the output, even if the line has failed. Returns the program's status: 0 if both sessions
+/// are done, else 1.
+///
+/// Returns the first of several faults, except that running out of memory after the line has failed is `Memory`. No
+/// fault prevents the steps after it, except running out of memory before the first write.
 pub fn pair_over<S, L, J, N, O, A>(
     alloc: A,
     caller: &mut TransferEnd<S, J, N, A>,
@@ -60,7 +62,7 @@ where
     ensures called_ok { OnOk result (J.text called.new.jobs.file
         ≡ settled called.old.jobs.before.items
         (jobs_of_end (node_in called.new.buffered)) (J.text called.old.jobs.file)) }
-    // Whatever the result, all files are written, unless their devices fail, or none is, because memory ran out.
+    // Whatever the result, each file is written unless its device fails, or none is, because memory ran out.
     ensures files { LeaveBoth result caller.old.jobs.before.items called.old.jobs.before.items
         (node_in caller.new.buffered) (node_in called.new.buffered)
         (files_of J.text J.fault_count N.text N.fault_count caller.old)
@@ -78,7 +80,8 @@ where
     ensures status { IfOk result (λ status. status
         ≡ status_of_phases (phase_of_end (node_in caller.new.buffered))
         (phase_of_end (node_in called.new.buffered))) }
-    // If the line or a file has failed, that is the fault returned, whatever fails later but memory.
+    // If the line or a file of jobs has failed, that is the fault returned, unless memory ran out after the line
+    // failed.
     ensures line_calm { IfWritten result (L.fault_count line.new ≡ L.fault_count line.old) }
     ensures caller_calm { UnlessDevice result (J.fault_count caller.new.jobs.file
         ≡ J.fault_count caller.old.jobs.file) }
@@ -110,8 +113,8 @@ where
     }
 }
 
-/// Writes what stays of each end's jobs to its file, its number to its own file if it keeps one, and the report to the
-/// output.
+/// Writes what stays of each end's jobs to its file of jobs, its number to the number's file if it keeps one, and the
+/// report to the output.
 fn leave<S, J, N, O, A>(
     alloc: A,
     caller: &mut TransferEnd<S, J, N, A>,
@@ -139,7 +142,7 @@ where
     ensures called_ok { OnOk result (J.text called.new.jobs.file
         ≡ settled called.old.jobs.before.items
         (jobs_of_end (node_in called.old.buffered)) (J.text called.old.jobs.file)) }
-    // Whatever the result, all files are written, unless their devices fail, or none is, because memory ran out.
+    // Whatever the result, each file is written unless its device fails, or none is, because memory ran out.
     ensures files { LeaveBoth result caller.old.jobs.before.items called.old.jobs.before.items
         (node_in caller.old.buffered) (node_in called.old.buffered)
         (files_of J.text J.fault_count N.text N.fault_count caller.old)

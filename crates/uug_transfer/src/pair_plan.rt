@@ -146,7 +146,7 @@ impl<A: Allocator> PairPlan<A> {
         printed
     }
 
-    /// Prints the report, after each file of jobs is as planned, or writing it has failed.
+    /// Prints the report. Each file of jobs must be as planned, unless writing the files of its end has failed.
     fn print<J: TextFile, O: Output>(
         &self,
         _caller: &J,
@@ -168,7 +168,7 @@ impl<A: Allocator> PairPlan<A> {
     }
 }
 
-/// Returns the fault to report if memory is refused after both plans: the device's fault, if it came before.
+/// Returns the fault to report if memory runs out after both plans: the device's fault, if it came before.
 fn first_fault<A: Allocator>(caller: &EndPlan<A>, called: &EndPlan<A>) -> ToolFault
     ensures { result ≡ first_fault caller.now.jobs called.now.jobs }
 {

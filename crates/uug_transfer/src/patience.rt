@@ -17,10 +17,10 @@ pub const GREETING_TIMERS: u64 = 6;
 /// The limit of a session without progress, as a number of timers.
 pub const SESSION_TIMERS: u64 = 20;
 
-/// The limits on seconds without progress while bytes come.
+/// The limits on the seconds without progress while bytes come.
 #[derive(Clone, Copy, Debug, PartialEq, Eq)]
 pub struct PatienceLimits {
-    /// The limit in the greeting, which is one step.
+    /// The limit of the whole greeting: no step of it counts as progress.
     pub greeting: u64,
     /// The limit after the greeting.
     pub session: u64,
@@ -40,8 +40,8 @@ impl PatienceLimits {
     }
 }
 
-/// The state of a session that counts for progress: a change of it is progress. The two numbers are counted modulo
-/// eight. The bytes of one read move each by at most seven, unless the other end sends more than it may.
+/// The part of a session's state whose changes are progress. Both numbers are modulo eight. The bytes of one read move
+/// each by at most seven, unless the other end sends more than it may.
 #[derive(Clone, Copy, Debug, PartialEq, Eq)]
 pub(crate) struct Standing {
     pub(crate) phase: Phase,
@@ -99,8 +99,8 @@ impl Patience {
         }
     }
 
-    /// Notes a read's outcome, and the standing of the session after it in this second. A silence changes nothing here:
-    /// it has a limit of its own.
+    /// Notes a read's outcome, and the standing of the session after it, in this second. A silence changes nothing
+    /// here: silences have a separate limit.
     pub(crate) fn note(&mut self, outcome: ReadOutcome, standing: Standing, second: u64)
         ensures { Notes outcome standing second self.old self.new }
     {

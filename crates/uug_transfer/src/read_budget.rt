@@ -5,7 +5,7 @@ ghost use Rattle.uug_transfer.specs.declared.read_budget.TheConstants.{SILENCES_
 use crate::read_outcome::ReadOutcome;
 use uug_link::TIMEOUTS_MAX;
 
-/// The maximum number of bytes per read: a window of seven packets of 1,024 bytes at once.
+/// The maximum number of bytes per read. A window of seven packets of 1,024 bytes fits.
 pub const READ_MAX: usize = 8192;
 
 /// The maximum number of bytes that a session reads.

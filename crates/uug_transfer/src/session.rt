@@ -27,13 +27,16 @@ use std::alloc::{AllocError, Allocator};
 use uug_folder::{JobStore, TextFile};
 use uug_session::Spool;
 
-/// Lets an end write and read at its line until its session is over. It writes all that it has, then reads once: it
-/// gets the bytes, or a timeout for a silence. The end is hung up at the line's end, or if memory runs
-/// out. The same happens after `most` bytes were read, `SILENCES_MAX` reads in a row were silent, or `STALLS_MAX`
-/// writes in a row took nothing. It also happens if bytes come without progress for longer than `limits`. The line is
-/// notified each time how far the session is. Results are on the end's disk before it writes about them. A finished job
-/// is removed from `jobs`, which gets a notice of each failed one, and `number` holds the number that the end keeps. If
-/// that fails the end hangs up, and nothing more is written.
+/// Runs an end at its line until its session is over. In each turn the end writes all that it has, then reads once: it
+/// gets the bytes, or a timeout for a silence. The line then gets the status of the session.
+///
+/// The end hangs up at the line's end, or if memory runs out. It also hangs up after `most` bytes were read, after
+/// `SILENCES_MAX` silent reads in a row, after `STALLS_MAX` writes in a row that took nothing, and if bytes come
+/// without progress for longer than `limits`.
+///
+/// Results are on the end's disk before it writes about them. A job that is done or has failed is removed from `jobs`,
+/// which gets a notice of each failed one. `number` holds the number that the end keeps. If storing a result fails, the
+/// end hangs up, and nothing more is written to the line.
 pub fn run_session<S, J, N, L, A>(
     alloc: A,
     buffered: &mut BufferedNode<S, A>,
@@ -138,7 +141,7 @@ fn may_write(left: u8, bytes: &[u8]) -> bool
 }
 
 /// Writes all that there is to write. The end's results must be on its disk. Returns false if the line took nothing for
-/// `STALLS_MAX` writes in a row: the rest is left then.
+/// `STALLS_MAX` writes in a row: the rest is then not written.
 fn write_all<S: Spool + Drop, N: TextFile, L: EndLine, A: Allocator + Copy>(
     buffered: &mut BufferedNode<S, A>,
     line: &mut L,
@@ -167,8 +170,9 @@ fn write_all<S: Spool + Drop, N: TextFile, L: EndLine, A: Allocator + Copy>(
     buffered.outgoing().is_empty()
 }
 
-/// Passes a read's outcome to an end whose session goes on, then puts the results on its disk. Nothing that it emitted
-/// in reply is written to its line before that. Struck jobs are put there even if memory ran out.
+/// Passes a read's outcome to an end whose session goes on, then stores the results on its disk. Nothing that the end
+/// emitted in reply is written to its line before that. It tries to store them even if handling the outcome ran out of
+/// memory: jobs may have been struck by then.
 fn take_and_settle<S, J, N, A>(
     alloc: A,
     buffered: &mut BufferedNode<S, A>,

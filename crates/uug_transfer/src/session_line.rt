@@ -18,16 +18,17 @@ const GREETING_READS_MAX: u32 = 1024;
 /// The maximum number of silences in a row while waiting for the caller's text.
 const GREETING_SILENCES_MAX: u32 = 3;
 
-/// The line of an end in a session, and an observer of what it carries. It keeps the first text that comes, in which a
-/// caller gives its name. It may have carried the first words of both ends before the session: what the end has said is
-/// taken as written when it says it again, and what was heard is read again. It does not expose what it carries.
+/// The line of an end in a session, with an observer of what it carries. It keeps the first text that arrives, in which
+/// a caller gives its name. Before the session it may have exchanged the first words of both ends (`meet`). When the
+/// end then writes its words again, they count as written; what was read is read again. The line does not expose what
+/// it carries.
 #[derive(Drop)]
 pub struct SessionLine<L, O, A: Allocator> {
     line: L,
     observer: O,
-    /// The first text that comes.
+    /// The first text that arrives.
     hail: Hail,
-    /// The number of bytes that were written, and that the end will say again.
+    /// The number of bytes already written that the end will write again.
     said: usize,
     heard: Vec<u8, A>,
     /// The number of bytes of `heard` that were read again.
@@ -56,7 +57,7 @@ impl<L, O, A: Allocator> SessionLine<L, O, A> {
         &self.line
     }
 
-    /// Returns the name of the caller, once its text has come.
+    /// Returns the name of the caller, once its text is complete.
     pub fn caller(&self) -> Option<Name>
         ensures { result ≡ caller_heard self.now.hail }
     {
@@ -67,8 +68,8 @@ impl<L, O, A: Allocator> SessionLine<L, O, A> {
         }
     }
 
-    /// Takes bytes that came. After a complete text nothing more is heard. A text that is too long counts as none: then
-    /// it returns false.
+    /// Adds bytes that arrived to the first text. Bytes after a complete text are ignored. Returns false if the text is
+    /// too long: it then counts as none.
     fn hear(&mut self, piece: &[u8]) -> bool
         ensures heard { self.new.hail ≡ heard_then self.old.hail piece.now }
     {
@@ -146,7 +147,7 @@ impl<L: EndLine, O: SessionObserver, A: Allocator> SessionLine<L, O, A> {
         count
     }
 
-    /// Reads from the line below. Returns the outcome, and false if a text in it was too long.
+    /// Reads from the line below. Returns the outcome, and false if the first text is too long.
     fn read_through(&mut self, buffer: &mut [u8]) -> (ReadOutcome, bool)
         requires room { 0 < length buffer.old }
         ensures size { length buffer.new ≡ length buffer.old }

@@ -1,16 +1,16 @@
 use crate::read_outcome::ReadOutcome;
 use crate::status::SessionStatus;
 
-/// Watches an end at its line. It sees things and returns nothing, and changes nothing of the session: what is promised
-/// of a session holds with every observer.
+/// An observer of an end at its line. It returns nothing and can't change the session, so the promises about a session
+/// hold with every observer.
 pub trait SessionObserver {
-    /// Notes bytes that the end has written.
+    /// Receives bytes that the end has written.
     fn wrote(&mut self, piece: &[u8]);
 
-    /// Notes the outcome of a read, and its bytes.
+    /// Receives the outcome of a read, and its bytes.
     fn read(&mut self, outcome: ReadOutcome, piece: &[u8]);
 
-    /// Notes how far the session is.
+    /// Receives the status of the session.
     fn note(&mut self, status: SessionStatus);
 }
 

@@ -1,4 +1,4 @@
-//! Storing an end's results on its disk.
+//! Stores an end's results on its disk.
 ghost use Rattle.std.specs.Prelude.{◌≡◌, ◌≢◌, ◌≤◌, drop, length, IfErr, IfOk, OnErr, OnOk};
 ghost use Rattle.uug_session.specs.Engine.{HasFailed};
 ghost use Rattle.uug_folder.specs.NumberText.{HoldsNumber, IsNumberKept, holding_number};
@@ -18,16 +18,16 @@ use uug_stream::ToolFault;
 /// The part of an end's results that is on its disk.
 #[derive(Clone, Copy)]
 pub(crate) struct Settled {
-    /// The number of struck jobs that are removed from their store, the first ones.
+    /// The number of struck jobs, from the first, that are already removed from their store.
     pub(crate) struck: usize,
-    /// The number of failed jobs that are removed from their store, the first ones.
+    /// The number of failed jobs, from the first, that are already removed from their store.
     pub(crate) failed: usize,
     /// The number in its file, if the end keeps one.
     pub(crate) number: Option<u32>,
 }
 
 impl Settled {
-    /// Starts with nothing to remove from a store, as the session begins. Writes the number, if the end keeps one.
+    /// Starts a session, with no job to remove from the store yet. Writes the end's number, if it keeps one.
     pub(crate) fn begin<N: TextFile, A: Allocator>(
         queue: &Queue<A>,
         number: Option<u32>,
@@ -52,8 +52,8 @@ impl Settled {
         })
     }
 
-    /// Removes the jobs that were struck or have failed since from their store. Writes the end's number, if it keeps
-    /// one and it has changed.
+    /// Removes the jobs that were struck or have failed since the last call from their store. Each failed one gets a
+    /// notice. Writes the end's number, if it keeps one and the number has changed.
     pub(crate) fn put_on_disk<S: Spool, J: JobStore, N: TextFile, A: Allocator + Copy>(
         &mut self,
         alloc: A,
@@ -94,7 +94,8 @@ impl Settled {
         self.keep_number(node.number(), number)
     }
 
-    /// Removes the jobs that were struck or have failed since from their store. Each failed one gets a notice.
+    /// Removes the jobs that were struck or have failed since the last call from their store. Each failed one gets a
+    /// notice.
     fn settle_jobs<S: Spool, J: JobStore, A: Allocator + Copy, B: Allocator>(
         &mut self,
         alloc: A,
@@ -137,7 +138,7 @@ impl Settled {
         Ok(())
     }
 
-    /// Writes an end's number, if it keeps one and it has changed.
+    /// Writes an end's number, if it keeps one and the number has changed.
     fn keep_number<N: TextFile>(
         &mut self,
         number: Option<u32>,

@@ -3,10 +3,11 @@
 pub enum Thinning {
     /// None.
     Nothing,
-    /// Data packets that go out again later. Each goes out once, in the order in which the packets were sent last.
+    /// Data packets that go out again later. Each goes out once, in the order in which each was sent last.
     Repeats,
-    /// Those packets, and each RR that is directly followed by two more, or by a new data packet that acknowledges the
-    /// same. Two RRs then acknowledge what came at once, and one of them may get lost. None does if a data packet
-    /// acknowledges it.
+    /// Those packets, and each RR that the entries directly after it make superfluous: a new data packet that
+    /// acknowledges the same, or two more RRs, or one more RR and a new data packet that acknowledges the same as that
+    /// RR. Two RRs then acknowledge packets that arrived together, and one of the two may get lost. None does if a data
+    /// packet acknowledges them.
     RepeatsAndAcks,
 }

@@ -27,9 +27,9 @@ pub fn packets(count: u8, size: u16) -> u32
     u32::from(count) * (u32::from(size) + HEADER)
 }
 
-/// Returns the seconds in which a byte has to come, before there is a silence. They are those of the timeout. If the
-/// speed of the line is given, in bits a second, those are added that the bytes take which may be on the way: `ours` of
-/// this end, which are not acknowledged, and `theirs` of the other one.
+/// Returns the seconds without a byte that make a silence: the timeout. If the speed of the line is given, in bits a
+/// second, the time is added that the bytes on the way may take: `ours`, unacknowledged from this end, and `theirs`,
+/// from the other end.
 #[tactic(auto, using(crate::proofs::TimerLemmas::ceil_fits))]
 fn timer(timeout: u32, speed: Option<u32>, ours: u32, theirs: u32) -> u64
     requires { IfSome speed IsSpeed }
@@ -64,14 +64,15 @@ impl Pace {
     ghost use Rattle.uug_talk.specs.declared.chunks.TheConstants.{MESSAGE_MAX};
     ghost use Rattle.uug_transfer.specs.Timers.{IsSpeed, packets_of, timer};
 
-    /// Returns how long the line waits while `ours` bytes of its own end are not acknowledged.
+    /// Returns how long the line waits while `ours` bytes of this end are not acknowledged.
     pub fn time(&self, ours: u32) -> Duration
         ensures { as_nanos result ≡ timer self.now.timeout self.now.speed (ours + self.now.theirs) * 1000000000 }
     {
         Duration::from_secs(timer(self.timeout, self.speed, ours, self.theirs))
     }
 
-    /// Returns the maximum seconds that the line waits: when as much as possible is on the way.
+    /// Returns the longest time that the line waits, in seconds: with as many bytes on the way as possible. It
+    /// saturates.
     pub fn longest(&self) -> u32
         ensures { timer self.now.timeout self.now.speed
             (packets_of WINDOW_MAX MESSAGE_MAX + self.now.theirs) ≤ u32.MAX

@@ -8,8 +8,8 @@ use uug_session::Spool;
 pub struct TransferEnd<S: Spool, J, N, A: Allocator> {
     /// The end at the line.
     pub buffered: BufferedNode<S, A>,
-    /// The jobs as they were read, and the file to which they are written when the session is over.
+    /// The file of its jobs, with the text that was read from it.
     pub jobs: JobsFile<J, A>,
-    /// The file to which its number is then written, if it keeps one.
+    /// The file for the number of its conversations, if it keeps one.
     pub number: N,
 }

@@ -11,10 +11,10 @@ use crate::turn_fault::TurnFault;
 use std::alloc::{AllocError, Allocator};
 use uug_session::{Side, Spool};
 
-/// Lets two ends take turns at a line until both sessions are over, or for `limit` turns. In a turn the caller, and
-/// then the called end, writes what it has to write, as far as there is room, and takes all that is unread for it. If
-/// nothing is unread and nothing is to be written, a turn is a timeout at each end. What both emit goes through the
-/// caller's injector. After the last turn the line is gone for both, also if it failed or memory ran out.
+/// Runs two ends in turns at a line until both sessions are over, or for `limit` turns. In each turn the caller, then
+/// the called end, writes as much as there is room for, and takes all that is unread for it. If nothing is unread and
+/// nothing is to be written, the turn is a timeout at each end. What both ends emit goes through the caller's injector.
+/// After the last turn both ends hang up, also if the line failed or memory ran out.
 pub fn run_turns<S: Spool + Drop, T: Spool + Drop, L: Line, A: Allocator + Copy>(
     caller: &mut BufferedNode<S, A>,
     called: &mut BufferedNode<T, A>,
@@ -116,7 +116,7 @@ fn time_out_with<S: Spool + Drop, T: Spool + Drop, A: Allocator + Copy>(
     late
 }
 
-/// Moves an end while it has the injector of another.
+/// Runs an end's part of a turn, as `move_end` does, while it has the injector of another.
 fn move_end_with<S: Spool + Drop, T: Spool + Drop, L: Line, A: Allocator + Copy>(
     owner: &mut BufferedNode<S, A>,
     buffered: &mut BufferedNode<T, A>,
@@ -152,7 +152,7 @@ fn is_quiet<L: Line>(from_caller: &[u8], from_called: &[u8], line: &L) -> bool
         && line.unread(Side::Called) == 0
 }
 
-/// Lets an end write what it may, and take what is unread for it.
+/// Writes as much of an end's bytes as there is room for, and passes it all that is unread for it.
 fn move_end<S: Spool + Drop, L: Line, A: Allocator + Copy>(
     buffered: &mut BufferedNode<S, A>,
     line: &mut L,

@@ -50,7 +50,7 @@ fn goes_out_again<A: Allocator>(outbox: &Outbox<A>, i: usize, packet: &[u8]) -> 
     false
 }
 
-/// Returns whether the entry at a place is an RR, and those directly after it say as much.
+/// Returns whether the entry at a place is an RR that the entries directly after it make superfluous.
 fn is_covered<A: Allocator>(outbox: &Outbox<A>, i: usize) -> bool
     requires { i < length outbox.now.entries }
     ensures { result ≡ is_covered_of (drop i outbox.now.entries) }
@@ -65,7 +65,7 @@ fn is_covered<A: Allocator>(outbox: &Outbox<A>, i: usize) -> bool
     is_said_by_two(outbox.entry(i), outbox.entry(i + 1), outbox.entry(i + 2))
 }
 
-/// Returns whether an entry is an RR, and the next one says as much.
+/// Returns whether an entry is an RR that the next one makes superfluous.
 fn is_said_by_one(entry: Entry<'_>, next: Entry<'_>) -> bool
     ensures { result ≡ (is_rr (shown_entry entry.entry)
         && is_said_by (shown_entry entry.entry) (shown_entry next.entry)) }
@@ -73,7 +73,7 @@ fn is_said_by_one(entry: Entry<'_>, next: Entry<'_>) -> bool
     is_rr(entry) && is_said_by(entry, next)
 }
 
-/// Returns whether an entry is an RR, and the next two say as much.
+/// Returns whether an entry is an RR that the next two make superfluous.
 fn is_said_by_two(entry: Entry<'_>, next: Entry<'_>, last: Entry<'_>) -> bool
     ensures { result ≡ (is_rr (shown_entry entry.entry)
         && (is_said_by (shown_entry entry.entry) (shown_entry next.entry)

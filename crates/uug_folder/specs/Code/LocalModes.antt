@@ -1,4 +1,4 @@
--- The modes of the files that are given are in range where those in the folder are.
+-- The modes of the files that are given are in range if those of the files in the folder are.
 use Rattle.std.specs.Prelude.{◌≡◌, ℕ, ◌≤◌, Bool, List, Option, Some, None, ⊤}
 use Rattle.std.proofs.Common.{refl, subst}
 use Rattle.uug_talk.specs.declared.mode.TheConstants.{MODE_MAX}
