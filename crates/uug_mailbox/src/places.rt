@@ -1,26 +1,28 @@
 //! The place of a file that another system sends, by what is in the public folder when the session begins.
 ghost use Rattle.std.specs.Path.{rsplit_once, slash};
-ghost use Rattle.std.specs.Prelude.{◌≡◌, ◌++◌, MatchOption, None, Some, codes};
+ghost use Rattle.std.specs.Prelude.{◌≡◌, ◌++◌, MatchOption, None, Some, codes, true};
 ghost use Rattle.uug_mailbox.specs.FolderRules.{without_slash};
-ghost use Rattle.uug_mailbox.specs.Places.{deep_by, deep_place, front_of, is_public_last, is_public_name, is_public_path, is_spooled, is_taken, landing, last_part, place_in, placed, shown_public, takes, temp_name, top_place};
+ghost use Rattle.uug_mailbox.specs.Places.{deep_by, deep_place, front_of, is_blocked, is_folder_path, is_path_from, is_public_last, is_public_name, is_public_path, is_spooled, is_taken, landing, last_part, may_begin, may_hold, place_in, placed, shown_public, takes, temp_name, top_place};
 ghost use Rattle.uug_spool.specs.SpoolNames.{local_name, spot_of};
 ghost use Rattle.uug_talk.specs.Name.{name_of};
 
-use crate::folder_rules::is_allowed;
+use crate::folder_rules::{is_allowed, is_in};
 use arrayvec::ArrayVec;
 use std::alloc::Allocator;
 use uug_conversation::has_name;
 use uug_spool::{Barred, Room, Spot, local_name, spot_of};
 use uug_talk::{NAME_MAX, Name};
 
-/// The most bytes of a path below the public folder: two names, a tilde and two slashes.
+/// The most bytes of a name in a folder below the public folder, with a tilde and two slashes.
 const PATH_MAX: usize = NAME_MAX + 3;
 
 /// The contents of the public folder when a session begins.
 #[derive(Drop)]
 pub struct PublicFolder<A: Allocator> {
-    /// The names of its folders.
+    /// The paths of the folders below it.
     pub folders: Vec<Name, A>,
+    /// The paths of what else is below it.
+    pub others: Vec<Name, A>,
     /// The names under which nothing can be put there.
     pub barred: Vec<Name, A>,
     /// True if nothing can be put there at all.
@@ -65,8 +67,8 @@ fn is_public_name(name: &Name) -> bool
 }
 
 impl<A: Allocator> PublicFolder<A> {
-    /// Returns the place of a file that arrives under this name, if it has one. A folder there takes the files whose
-    /// names begin with its own and a slash. No name with a further slash is taken.
+    /// Returns the place of a file that arrives under this name, if it has one. It may be in a folder below the public
+    /// folder, and in one that is missing there, if nothing else is in the way.
     pub fn place_in(&self, name: &Name) -> Option<Spot>
         ensures { result ≡ place_in (shown_public self.now) name.now }
     {
@@ -136,6 +138,24 @@ impl<A: Allocator> PublicFolder<A> {
         }
     }
 
+    /// Returns whether there is a folder of this path, or one can be created.
+    fn may_hold(&self, folder: &[u8]) -> bool
+        ensures { result ≡ may_hold (shown_public self.now) folder.now }
+    {
+        is_path(folder)
+            && (has_name(self.folders.as_slice(), folder)
+                || !(self.is_closed || self.is_blocked(folder)))
+    }
+
+    /// Returns whether something that is no folder has this path, or one in front of it.
+    fn is_blocked(&self, folder: &[u8]) -> bool
+        ensures { result ≡ is_blocked (shown_public self.now) folder.now }
+    {
+        self.others
+            .iter()
+            .any(|other| is_in(other.as_bytes(), folder))
+    }
+
     /// Returns the place of this name in a folder there.
     fn deep_by(&self, name: &Name) -> Option<Spot>
         ensures { result ≡ deep_by (shown_public self.now) name.now (rsplit_once slash name.now) }
@@ -143,11 +163,9 @@ impl<A: Allocator> PublicFolder<A> {
         let Some((folder, last)) = split_last(name.as_str()) else {
             return None;
         };
-        let is_there = has_name(self.folders.as_slice(), folder.as_bytes());
-        if is_there
-            && is_public_last(last.as_bytes())
-            && !has_name(self.barred.as_slice(), name.as_bytes())
-        {
+        let is_taken = has_name(self.folders.as_slice(), name.as_bytes())
+            || has_name(self.barred.as_slice(), name.as_bytes());
+        if self.may_hold(folder.as_bytes()) && is_public_last(last.as_bytes()) && !is_taken {
             Some(Spot {
                 room: Room::Public,
                 name: *name,
@@ -160,21 +178,28 @@ impl<A: Allocator> PublicFolder<A> {
 
 impl<A: Allocator> PublicFolder<A> {
     /// Returns the name under which a file called `source` is kept that is sent to `target`. If the target is the
-    /// public folder, or a folder there, the file is kept in it under the last part of its own name.
+    /// public folder, a folder below it, or ends in a slash, the file is kept in it under the last part of its own name.
     pub fn landing(&self, source: &Name, target: &Name) -> Name
         ensures { result ≡ landing (shown_public self.now) source.now target.now }
     {
         if is_spooled(target) {
             return *target;
         }
-        let folder = without_slash(local_name(target.as_bytes()));
-        if !folder.is_empty() && !has_name(self.folders.as_slice(), folder) {
+        let path = local_name(target.as_bytes());
+        if !self.is_folder_path(path) {
             return *target;
         }
-        match below_home(folder, last_part(source)) {
+        match below_home(without_slash(path), last_part(source)) {
             Some(name) => name,
             None => *target,
         }
+    }
+
+    /// Returns whether a path below the public folder is that of a folder: one that is there, or it ends in a slash.
+    fn is_folder_path(&self, path: &[u8]) -> bool
+        ensures { result ≡ is_folder_path (shown_public self.now) path.now }
+    {
+        path.ends_with(b"/") || path.is_empty() || has_name(self.folders.as_slice(), path)
     }
 }
 
@@ -221,16 +246,39 @@ pub fn below_home(folder: &[u8], last: &[u8]) -> Option<Name>
     Name::new(path.as_slice()).ok()
 }
 
-/// Returns whether a path below the public folder is one under which a file may be given: a name there, or that of a
-/// folder there, a slash and such a name.
+/// Returns whether a path below the public folder is one under which a file may be given: a name there, or the path of a
+/// folder, a slash and such a name.
 pub fn is_public_path(path: &Name) -> bool
     ensures { result ≡ is_public_path path.now }
 {
     match split_last(path.as_str()) {
-        Some((folder, last)) => is_public_last(folder.as_bytes())
-            && is_public_last(last.as_bytes()),
+        Some((folder, last)) => is_path(folder.as_bytes()) && is_public_last(last.as_bytes()),
         None => is_public_name(path),
     }
+}
+
+/// Returns whether these bytes are names with a slash between them, of which none begins with a dot, a slash or a tilde.
+fn is_path(bytes: &[u8]) -> bool
+    ensures { result ≡ is_path_from true bytes.now }
+{
+    let mut at_start = true;
+    let mut rest = bytes;
+    while !rest.is_empty() {
+        let byte = rest[0];
+        if at_start && !may_begin(byte) {
+            return false;
+        }
+        at_start = byte == b'/';
+        rest = &rest[1..];
+    }
+    !at_start
+}
+
+/// Returns whether a name of a path below the public folder may begin with this byte.
+fn may_begin(byte: u8) -> bool
+    ensures { result ≡ may_begin byte }
+{
+    !matches!(byte, b'.' | b'/' | b'~')
 }
 
 /// Returns whether these bytes are a name that is in the public folder by itself.
