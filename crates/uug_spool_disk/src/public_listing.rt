@@ -14,7 +14,7 @@ use std::{fs, io};
 use uug_failure::{Resource, RunFault};
 use uug_talk::Name;
 
-/// The most entries below the public folder's own that are looked at.
+/// The most folders below the public folder that are listed, and the most entries that they have together.
 const BELOW_MAX: usize = 4096;
 
 /// The paths below the public folder that a session can say.
@@ -179,7 +179,7 @@ pub fn list_public<A: Allocator + Copy, R: Files + Alloc + Clone + Drop>(
     }
 }
 
-/// Lists the public folder at this path, then the folders below it, until they have `BELOW_MAX` entries.
+/// Lists the public folder at this path, then at most `BELOW_MAX` folders below it, which have as many entries at most.
 fn read_listing<A: Allocator + Copy, R: Files + Alloc + Clone + Drop>(
     alloc: A,
     rt: &R,
@@ -195,11 +195,11 @@ fn read_listing<A: Allocator + Copy, R: Files + Alloc + Clone + Drop>(
     listing.is_closed = is_closed(top.access, top.me);
     listing.add_all(alloc, fs::read_dir(rt, public)?, &top)?;
     let most = listing.len().saturating_add(BELOW_MAX);
-    let mut count = 0;
-    while count < listing.folders.len() && listing.len() < most {
-        let folder = listing.folders[count];
+    for count in 0..BELOW_MAX {
+        let Some(folder) = listing.folders.get(count).copied() else {
+            break;
+        };
         add_below(&mut listing, alloc, rt, public, &folder, top.me, most)?;
-        count += 1;
     }
     Ok(listing)
 }

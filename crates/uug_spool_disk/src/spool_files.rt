@@ -134,13 +134,7 @@ fn open_below<R: Files + Alloc + Clone + Drop>(
 
 /// Returns the number of slashes in a name.
 pub(crate) fn slashes_in(name: &[u8]) -> usize {
-    let mut count = 0;
-    for byte in name {
-        if *byte == b'/' {
-            count += 1;
-        }
-    }
-    count
+    name.iter().filter(|byte| **byte == b'/').count()
 }
 
 /// Returns the entries of a folder that everybody may search. Returns `None` for any other. A missing folder is an
