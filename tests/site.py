@@ -609,6 +609,51 @@ def scene_folders(scene: Scene, who: str, role: str) -> None:
         scene.row(f"{name}: the other hears of each that is refused: {denied}", denied == 2 * (3 - len(are_open)))
 
 
+def scene_places(scene: Scene, who: str) -> None:
+    """A file goes to the path that its job names below the public folder, and missing folders are created."""
+    command = " ".join(scene.beta.words(who, "-q"))
+    scene.alpha.knows("beta", "time any", "protocol g", 'chat ""', "port type pipe", f"port command {command}")
+    scene.beta.knows("alpha", "protocol g")
+    empty_public(scene.alpha)
+    empty_public(scene.beta, "in", "in/deep", "in/private", "in/private/below")
+    (scene.beta.folder / "pub/in/private").chmod(0o700)
+    (scene.alpha.folder / "pub/f").write_text("text\n")
+    for name in ("plain", "in/deep/asked", "in/private/below/asked"):
+        (scene.beta.folder / "pub" / name).write_text("there\n")
+    (scene.beta.folder / "pub/link").symlink_to(scene.beta.folder)
+    wanted = {
+        "new/x": "new/x",
+        "new/more/y": "new/more/y",
+        "slash/": "slash/f",
+        "in/deep": "in/deep/f",
+        "in/deep/z": "in/deep/z",
+        "plain/x": None,
+    }
+    for target in wanted:
+        as_uucp(["uucp", "-I", str(scene.alpha.config), "-r", f"{scene.alpha.folder}/pub/f", f"beta!~/{target}"]).wait()
+    as_uucp(["uucp", "-I", str(scene.alpha.config), "-r", "beta!~/in/deep/asked", "~/got/below/asked"]).wait()
+    status = scene.alpha.run("ours" if who == "taylor" else "taylor", "-q", "-S", "beta")
+    wait_until(lambda: not scene.beta.locks(), 5)
+    for target, path in wanted.items():
+        if path:
+            scene.row(f"{who}: {target} is {path}", text_of(scene.beta.folder / "pub" / path) == "text\n")
+    scene.row(f"{who}: the call is done", status == 0)
+    scene.row(f"{who}: nothing is in a file's place", text_of(scene.beta.folder / "pub/plain") == "there\n")
+    scene.row(f"{who}: what is asked for there comes", text_of(scene.alpha.folder / "pub/got/below/asked") == "there\n")
+    scene.row(f"{who}: nothing is queued", not scene.alpha.queued("beta"))
+    if who == "ours":
+        for target in ("link/x", "in/.hidden/x", "in//x"):
+            as_uucp(["uucp", "-I", str(scene.alpha.config), "-r", f"{scene.alpha.folder}/pub/f", f"beta!~/{target}"]).wait()
+        as_uucp(["uucp", "-I", str(scene.alpha.config), "-r", "beta!~/in/private/below/asked", "~/secret"]).wait()
+        status = scene.alpha.run("taylor", "-q", "-S", "beta")
+        wait_until(lambda: not scene.beta.locks(), 5)
+        scene.row("the call with what is refused is done", status == 0)
+        scene.row("nothing is put behind a link", not (scene.beta.folder / "x").exists())
+        scene.row("nor in a hidden folder", not (scene.beta.folder / "pub/in/.hidden").exists())
+        scene.row("what is below a private folder is not given", not (scene.alpha.folder / "pub/secret").exists())
+        scene.row("nothing of it is queued", not scene.alpha.queued("beta"))
+
+
 def scene_requests(scene: Scene, who: str, role: str) -> None:
     """`send-request`, `receive-request`: what the other system may ask for, and send; what is asked for here comes always."""
     ours, other = (scene.alpha, scene.beta) if role == "calls" else (scene.beta, scene.alpha)
@@ -1541,6 +1586,7 @@ PARTS = {
     "called_chat": PEERS,
     "work_of_grades": PEERS,
     "folders": (("ours", "calls"), ("ours", "answers"), ("taylor", "calls"), ("taylor", "answers")),
+    "places": (("ours",), ("taylor",)),
     "requests": (("ours", "calls"), ("ours", "answers"), ("taylor", "calls"), ("taylor", "answers")),
     "unknown": (("ours",), ("taylor",)),
 }

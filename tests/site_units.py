@@ -623,7 +623,7 @@ def rows_of_folders(folder: Path) -> Iterator[Row]:
         ("~/x", "~/x", True),
         ("~/x/", "~/x", True),
         ("/srv/pub/x", "~/x", True),
-        ("~/x/y", "~/x/y", False),
+        ("~/x/y", "~/x/y", True),
         ("!~/x", "!~/x", True),
         ("!/srv/pub/x", "!~/x", True),
         ("!~/x/y", "!~/x/y", True),
@@ -1083,8 +1083,8 @@ def rows_of_check(folder: Path) -> Iterator[Row]:
     lists = site_of(folder / "lists", sys="system far\ntime any\nremote-send ~ !~/x ~/y\nremote-receive /srv ~ /home/ftp ~/a/b\n")
     said = [(row.verdict, row.note.split(":")[0]) for row in check.rows_of(lists) if row.text.startswith("remote-")]
     yield "lists of folders", said, [
-        ("honoured", "the public folder, and folders right in it"),
-        ("ignored", "/srv /home/ftp ~/a/b"),
+        ("honoured", "the public folder, and folders below it"),
+        ("ignored", "/srv /home/ftp"),
     ]
     yield "a keyword that is there often", [
         check.place_of(often, name, obstacles.Obstacle("protocol", "", "")).rpartition("/")[2] for name in ("far", "near")

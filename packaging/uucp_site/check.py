@@ -13,7 +13,7 @@ HONOURED, IGNORED, STOPS = "honoured", "ignored", "stops the call"
 SECRET = ("call-password",)
 UUXQT = "uuxqt does it"
 FOLDERS = ("remote-send", "remote-receive")
-ELSEWHERE = "what is neither in the public folder nor right in a folder of it is refused: `pubdir` names another"
+ELSEWHERE = "what is not below the public folder is refused: `pubdir` names another"
 # What is done with each keyword; where nothing is said, as with `time`, it is honoured. What stops a call is in `obstacles`.
 KEYWORDS = {
     "sys": {
@@ -36,7 +36,7 @@ KEYWORDS = {
         "max-file-time": (IGNORED, "g sends one file at a time"),
         "local-send": (HONOURED, "uucp does it"),
         "local-receive": (IGNORED, "what is asked for goes to the public folder, and a job for elsewhere is given up"),
-        **dict.fromkeys(FOLDERS, (HONOURED, "the public folder, and folders right in it")),
+        **dict.fromkeys(FOLDERS, (HONOURED, "the public folder, and folders below it")),
     },
     "port": {
         **dict.fromkeys(

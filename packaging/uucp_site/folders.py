@@ -2,7 +2,6 @@
 from __future__ import annotations
 
 import os
-import re
 from collections.abc import Iterable
 
 from .configuration import Alternate
@@ -28,9 +27,9 @@ def folder_words(alternate: Alternate, public: str) -> list[str]:
 
 
 def is_honoured(word: str, publics: Iterable[str]) -> bool:
-    """Returns whether a session opens just what this word of a list names: the public folder, or one right in it. One that is barred
+    """Returns whether a session opens just what this word of a list names: the public folder, or one below it. One that is barred
     is never open."""
     folders = {os.path.normpath(public) for public in publics}
     rules = [rule_of(word, public) or "" for public in folders]
     whole = os.path.normpath(word) in {"~", *folders}
-    return word.startswith("!") or whole or any(re.fullmatch("~/[^/]+", rule) for rule in rules)
+    return word.startswith("!") or whole or any(rule.startswith("~/") for rule in rules)

@@ -155,7 +155,11 @@ names_nothing = refl
 -- ---- places
 
 abbrev public : Public
-public = record { folders = codes "in" ∷ codes "shut" ∷ []; barred = codes "theirs" ∷ codes "in/theirs" ∷ []; is_closed = false; delayed = codes "late" ∷ codes "~/in/late" ∷ []; is_unknown = false; taken = codes "~ !~/shut" }
+public = record { folders = codes "in" ∷ codes "shut" ∷ codes "in/deep" ∷ []; others = codes "theirs" ∷ codes "in/theirs" ∷ codes "in/f" ∷ []; barred = codes "theirs" ∷ codes "in/theirs" ∷ []; is_closed = false; delayed = codes "late" ∷ codes "~/in/late" ∷ []; is_unknown = false; taken = codes "~ !~/shut" }
+
+-- one in which this program may create nothing
+abbrev closed_public : Public
+closed_public = record public { is_closed = true }
 
 record AreLanded : Type 0 where
   home : landing public (codes "/srv/f") (codes "~/") ≡ codes "~/f"
@@ -163,7 +167,9 @@ record AreLanded : Type 0 where
   folder : landing public (codes "/srv/f") (codes "~/in") ≡ codes "~/in/f"
   folder_slash : landing public (codes "f") (codes "~/in/") ≡ codes "~/in/f"
   file : landing public (codes "/srv/f") (codes "~/x") ≡ codes "~/x"
-  no_folder : landing public (codes "/srv/f") (codes "~/out/") ≡ codes "~/out/"
+  deeper : landing public (codes "/srv/f") (codes "~/in/deep") ≡ codes "~/in/deep/f"
+  new_folder : landing public (codes "/srv/f") (codes "~/out/") ≡ codes "~/out/f"
+  no_folder : landing public (codes "/srv/f") (codes "~/out") ≡ codes "~/out"
   mail : landing public (codes "D.0001") (codes "D.alphaN0001") ≡ codes "D.alphaN0001"
   upwards : place_in public (landing public (codes "/srv/..") (codes "~/")) ≡ None
   hidden : place_in public (landing public (codes "/srv/.f") (codes "~/in")) ≡ None
@@ -176,6 +182,8 @@ are_landed = record {
   folder = refl;
   folder_slash = refl;
   file = refl;
+  deeper = refl;
+  new_folder = refl;
   no_folder = refl;
   mail = refl;
   upwards = refl;
@@ -191,8 +199,17 @@ record ArePlaced : Type 0 where
   taken : place_in public (codes "~/theirs") ≡ None
   below : place_in public (codes "~/in/x") ≡ Some (spot rooms.Public (codes "in/x"))
   taken_below : place_in public (codes "~/in/theirs") ≡ None
-  other_folder : place_in public (codes "~/out/x") ≡ None
-  deeper : place_in public (codes "~/in/deep/x") ≡ None
+  new_folder : place_in public (codes "~/out/x") ≡ Some (spot rooms.Public (codes "out/x"))
+  new_below : place_in public (codes "~/out/more/x") ≡ Some (spot rooms.Public (codes "out/more/x"))
+  deeper : place_in public (codes "~/in/deep/x") ≡ Some (spot rooms.Public (codes "in/deep/x"))
+  a_deep_folder : place_in public (codes "~/in/deep") ≡ None
+  in_a_file : place_in public (codes "~/theirs/x") ≡ None
+  below_a_file : place_in public (codes "~/in/theirs/more/x") ≡ None
+  in_no_file : place_in public (codes "~/theirs2/x") ≡ Some (spot rooms.Public (codes "theirs2/x"))
+  closed : place_in closed_public (codes "~/out/x") ≡ None
+  closed_above : place_in closed_public (codes "~/in/x") ≡ Some (spot rooms.Public (codes "in/x"))
+  two_slashes : place_in public (codes "~/in//x") ≡ None
+  hidden_folder : place_in public (codes "~/.in/x") ≡ None
   upwards : place_in public (codes "~/in/../x") ≡ None
   hidden : place_in public (codes "~/in/.x") ≡ None
   no_name : place_in public (codes "~/in/") ≡ None
@@ -209,8 +226,17 @@ are_placed = record {
   taken = refl;
   below = refl;
   taken_below = refl;
-  other_folder = refl;
+  new_folder = refl;
+  new_below = refl;
   deeper = refl;
+  a_deep_folder = refl;
+  in_a_file = refl;
+  below_a_file = refl;
+  in_no_file = refl;
+  closed = refl;
+  closed_above = refl;
+  two_slashes = refl;
+  hidden_folder = refl;
   upwards = refl;
   hidden = refl;
   no_name = refl;
@@ -221,12 +247,14 @@ record AreTaken : Type 0 where
   top : takes public (codes "~/x") ≡ true
   below : takes public (codes "~/in/x") ≡ true
   shut : takes public (codes "~/shut/x") ≡ false
-  no_place : takes public (codes "~/out/x") ≡ false
+  shut_below : takes public (codes "~/shut/more/x") ≡ false
+  new_folder : takes public (codes "~/out/x") ≡ true
+  no_place : takes public (codes "~/theirs/x") ≡ false
   mail : takes public (codes "D.alphaN0001") ≡ true
 
 are_taken : AreTaken
 unfolding rsplit_once
-are_taken = record { top = refl; below = refl; shut = refl; no_place = refl; mail = refl }
+are_taken = record { top = refl; below = refl; shut = refl; shut_below = refl; new_folder = refl; no_place = refl; mail = refl }
 
 record ArePaths : Type 0 where
   top : is_public_path (codes "x") ≡ true
@@ -234,7 +262,9 @@ record ArePaths : Type 0 where
   hidden : is_public_path (codes ".x") ≡ false
   hidden_below : is_public_path (codes "in/.x") ≡ false
   hidden_folder : is_public_path (codes ".in/x") ≡ false
-  deeper : is_public_path (codes "in/deep/x") ≡ false
+  deeper : is_public_path (codes "in/deep/x") ≡ true
+  hidden_between : is_public_path (codes "in/.deep/x") ≡ false
+  two_slashes : is_public_path (codes "in//x") ≡ false
   upwards : is_public_path (codes "../x") ≡ false
   mail : is_public_path (codes "D.alphaN0001") ≡ false
   late : delayed_in public (codes "~/late") (Some (codes "late")) ≡ true
@@ -250,6 +280,8 @@ are_paths = record {
   hidden_below = refl;
   hidden_folder = refl;
   deeper = refl;
+  hidden_between = refl;
+  two_slashes = refl;
   upwards = refl;
   mail = refl;
   late = refl;

@@ -1,9 +1,10 @@
 -- Where a file that another system sends is stored, given the contents of the public folder when the session begins
--- (that a folder takes a file under the last part of its source's name is what Taylor UUCP 1.07 does; which places are
--- barred is this project's profile).
+-- (that a folder takes a file under the last part of its source's name, and that missing folders are created, is what
+-- Taylor UUCP 1.07 does; which places are barred is this project's profile).
+use Rattle.std.specs.List.{ends_with, list_any}
 use Rattle.std.specs.Option.{option_map, unwrap_or}
 use Rattle.std.specs.Path.{rsplit_once, slash}
-use Rattle.std.specs.Prelude.{◌==◌, ◌&&◌, ◌||◌, not, ℕ, Bool, true, false, List, [], ◌++◌, length, codes, is_none, string_bytes, Option, Some, None, Result, Ok, Err, if◌then◌else◌}
+use Rattle.std.specs.Prelude.{◌==◌, ◌&&◌, ◌||◌, not, ℕ, Bool, true, false, List, [], ◌∷◌, ◌++◌, length, codes, is_none, nat_eq, string_bytes, Option, Some, None, Result, Ok, Err, if◌then◌else◌}
 use Rattle.uug_conversation.specs.MemoryHoldings.{has_name}
 use Rattle.uug_talk.specs.Name.{name_of}
 use Rattle.uug_spool.specs.SpoolNames.{local_name, spot, spot_of}
@@ -11,14 +12,16 @@ use Rattle.uug_spool.specs.declared.spool_names.Barred.{Barred}
 use Rattle.uug_spool.specs.declared.spool_names.Room.{Room}
 use Rattle.uug_spool.specs.declared.spool_names.Room.TheVariants as rooms
 use Rattle.uug_spool.specs.declared.spool_names.Spot.{Spot}
-use Rattle.uug_mailbox.specs.FolderRules.{is_allowed, without_slash}
+use Rattle.uug_mailbox.specs.FolderRules.{is_allowed, is_in, without_slash}
 use Rattle.uug_mailbox.specs.declared.places.PublicFolder.{PublicFolder}
 
 -- the public folder, as it is when the session begins
 pub record Public : Type 0 where
-  -- the folders in it
+  -- the paths of the folders below it
   pub folders : List (List ℕ)
-  -- the names under which no file can be stored there
+  -- the paths of everything else below it: files, links
+  pub others : List (List ℕ)
+  -- the paths under which no file can be stored there
   pub barred : List (List ℕ)
   -- no file can be stored there at all
   pub is_closed : Bool
@@ -30,7 +33,7 @@ pub record Public : Type 0 where
   pub taken : List ℕ
 
 abbrev pub shown_public : {A : Type 0} → PublicFolder A → Public
-shown_public p = record { folders = p.folders.items; barred = p.barred.items; is_closed = p.is_closed; delayed = p.delayed.items; is_unknown = p.is_unknown; taken = string_bytes p.taken }
+shown_public p = record { folders = p.folders.items; others = p.others.items; barred = p.barred.items; is_closed = p.is_closed; delayed = p.delayed.items; is_unknown = p.is_unknown; taken = string_bytes p.taken }
 
 -- ---- names
 
@@ -65,21 +68,39 @@ abbrev pub is_public_last : Option (List ℕ) → Bool
 is_public_last None = false
 is_public_last (Some name) = is_public_name name
 
+-- A path below the public folder is a list of names, separated by slashes. None begins with a dot, a slash or a tilde.
+abbrev pub may_begin : (byte : ℕ) → Bool
+may_begin byte = not (byte == 46 || (byte == 47 || byte == 126))
+
+abbrev pub is_path_from : (at_start : Bool) → List ℕ → Bool
+is_path_from at_start [] = not at_start
+is_path_from at_start (byte ∷ bytes) = (not at_start || may_begin byte) && is_path_from (byte == 47) bytes
+
 abbrev pub is_path_by : (path : List ℕ) → Option (List ℕ × List ℕ) → Bool
 is_path_by path None = is_public_name path
-is_path_by path (Some parts) = is_public_last (name_of parts.0) && is_public_last (name_of parts.1)
+is_path_by path (Some parts) = is_path_from true parts.0 && is_public_last (name_of parts.1)
 
--- a file may be given under this path below the public folder: it is a file's name, or a folder's name, a slash and a
+-- a file may be given under this path below the public folder: it is a file's name, or a folder's path, a slash and a
 -- file's name
 abbrev pub is_public_path : (path : List ℕ) → Bool
 is_public_path path = is_path_by path (rsplit_once slash path)
 
--- in a folder of the public folder
+-- something that is not a folder has this path, or one above it
+abbrev pub is_blocked : Public → (folder : List ℕ) → Bool
+is_blocked public folder = list_any (λ other. is_in other folder) public.others
+
+-- the folder exists, or can be created
+abbrev pub may_hold : Public → (folder : List ℕ) → Bool
+may_hold public folder =
+    is_path_from true folder && (has_name public.folders folder || not (public.is_closed || is_blocked public folder))
+
+-- in a folder below the public folder
 abbrev pub deep_by : Public → (name : List ℕ) → Option (List ℕ × List ℕ) → Option Spot
 deep_by public name None = None
 deep_by public name (Some parts) =
-    if has_name public.folders parts.0 && (is_public_last (name_of parts.1) && not (has_name public.barred name)) then Some (spot rooms.Public name)
-    else None
+    if may_hold public parts.0
+    && (is_public_last (name_of parts.1) && not (has_name public.folders name || has_name public.barred name))
+    then Some (spot rooms.Public name) else None
 
 abbrev pub deep_place : Public → (name : Option (List ℕ)) → Option Spot
 deep_place public None = None
@@ -116,17 +137,20 @@ is_spooled (Err why) = false
 abbrev pub front_of : (folder : List ℕ) → List ℕ
 front_of folder = if length folder == 0 then [] else folder ++ codes "/"
 
-abbrev pub front_in : Public → (folder : List ℕ) → Option (List ℕ)
-front_in public folder =
-    if length folder == 0 || has_name public.folders folder then Some (front_of folder) else None
+abbrev pub is_folder_path : Public → (path : List ℕ) → Bool
+is_folder_path public path =
+    ends_with nat_eq path (codes "/") || (length path == 0 || has_name public.folders path)
+
+abbrev pub front_in : Public → (path : List ℕ) → Option (List ℕ)
+front_in public path = if is_folder_path public path then Some (front_of (without_slash path)) else None
 
 abbrev pub landing_by : (source target : List ℕ) → (front : Option (List ℕ)) → List ℕ
 landing_by source target None = target
 landing_by source target (Some front) = unwrap_or (name_of (codes "~/" ++ front ++ last_part source)) target
 
--- A file sent to the public folder, or to a folder in it, is stored there under the last part of its source's name. Any
--- other target stays as it is, and so does one whose path would be too long.
+-- A file sent to the public folder, to a folder below it, or to a path that ends in a slash, is stored there under the
+-- last part of its source's name. Any other target stays as it is, and so does one whose path would be too long.
 abbrev pub landing : Public → (source target : List ℕ) → List ℕ
 landing public source target =
     if is_spooled (spot_of target) then target
-    else landing_by source target (front_in public (without_slash (local_name target)))
+    else landing_by source target (front_in public (local_name target))

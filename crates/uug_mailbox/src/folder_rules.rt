@@ -43,7 +43,7 @@ fn holds(folder: &[u8], path: &[u8]) -> bool
 }
 
 /// Returns whether a path is this folder, or is in it.
-fn is_in(folder: &[u8], path: &[u8]) -> bool
+pub(crate) fn is_in(folder: &[u8], path: &[u8]) -> bool
     ensures { result ≡ is_in folder.now path.now }
 {
     if !path.starts_with(folder) {

@@ -1,28 +1,29 @@
 //! The place of a file that another system sends, given the contents of the public folder when the session begins.
 ghost use Rattle.std.specs.Path.{rsplit_once, slash};
-ghost use Rattle.std.specs.Prelude.{◌≡◌, ◌++◌, MatchOption, None, Some, codes};
+ghost use Rattle.std.specs.Prelude.{◌≡◌, ◌++◌, MatchOption, None, Some, codes, true};
 ghost use Rattle.uug_mailbox.specs.FolderRules.{without_slash};
-ghost use Rattle.uug_mailbox.specs.Places.{deep_by, deep_place, front_of, is_public_last, is_public_name, is_public_path, is_spooled, is_taken, landing, last_part, place_in, placed, shown_public, takes, temp_name, top_place};
+ghost use Rattle.uug_mailbox.specs.Places.{deep_by, deep_place, front_of, is_blocked, is_folder_path, is_path_from, is_public_last, is_public_name, is_public_path, is_spooled, is_taken, landing, last_part, may_begin, may_hold, place_in, placed, shown_public, takes, temp_name, top_place};
 ghost use Rattle.uug_spool.specs.SpoolNames.{local_name, spot_of};
 ghost use Rattle.uug_talk.specs.Name.{name_of};
 
-use crate::folder_rules::is_allowed;
+use crate::folder_rules::{is_allowed, is_in};
 use arrayvec::ArrayVec;
 use std::alloc::Allocator;
 use uug_conversation::has_name;
 use uug_spool::{Barred, Room, Spot, local_name, spot_of};
 use uug_talk::{NAME_MAX, Name};
 
-/// The maximum size of a path below the public folder, in bytes: two names of `NAME_MAX` bytes in all, a tilde and two
-/// slashes.
+/// The maximum size of a path below the public folder, in bytes: a name of `NAME_MAX` bytes, a tilde and two slashes.
 const PATH_MAX: usize = NAME_MAX + 3;
 
 /// The contents of the public folder when a session begins.
 #[derive(Drop)]
 pub struct PublicFolder<A: Allocator> {
-    /// The names of its folders.
+    /// The paths of the folders below it.
     pub folders: Vec<Name, A>,
-    /// The names under which no file can be stored there.
+    /// The paths of everything else below it: files, links.
+    pub others: Vec<Name, A>,
+    /// The paths under which no file can be stored there.
     pub barred: Vec<Name, A>,
     /// Set if no file can be stored there at all.
     pub is_closed: bool,
@@ -66,8 +67,8 @@ fn is_public_name(name: &Name) -> bool
 }
 
 impl<A: Allocator> PublicFolder<A> {
-    /// Returns the place of a file that arrives under this name, or `None` if it has none. A file whose name begins
-    /// with that of a folder there and a slash goes into this folder. A name with a further slash has no place.
+    /// Returns the place of a file that arrives under this name, or `None` if it has none. The place may be in a folder
+    /// below the public folder. A missing folder is no obstacle, but a file or a link on the path is.
     pub fn place_in(&self, name: &Name) -> Option<Spot>
         ensures { result ≡ place_in (shown_public self.now) name.now }
     {
@@ -137,18 +138,34 @@ impl<A: Allocator> PublicFolder<A> {
         }
     }
 
-    /// Returns the place of this name in a folder of the public folder.
+    /// Returns whether the folder of this path exists, or can be created.
+    fn may_hold(&self, folder: &[u8]) -> bool
+        ensures { result ≡ may_hold (shown_public self.now) folder.now }
+    {
+        is_path(folder)
+            && (has_name(self.folders.as_slice(), folder)
+                || !(self.is_closed || self.is_blocked(folder)))
+    }
+
+    /// Returns whether something that is not a folder has this path, or one above it.
+    fn is_blocked(&self, folder: &[u8]) -> bool
+        ensures { result ≡ is_blocked (shown_public self.now) folder.now }
+    {
+        self.others
+            .iter()
+            .any(|other| is_in(other.as_bytes(), folder))
+    }
+
+    /// Returns the place of this name in a folder below the public folder.
     fn deep_by(&self, name: &Name) -> Option<Spot>
         ensures { result ≡ deep_by (shown_public self.now) name.now (rsplit_once slash name.now) }
     {
         let Some((folder, last)) = split_last(name.as_str()) else {
             return None;
         };
-        let is_there = has_name(self.folders.as_slice(), folder.as_bytes());
-        if is_there
-            && is_public_last(last.as_bytes())
-            && !has_name(self.barred.as_slice(), name.as_bytes())
-        {
+        let is_taken = has_name(self.folders.as_slice(), name.as_bytes())
+            || has_name(self.barred.as_slice(), name.as_bytes());
+        if self.may_hold(folder.as_bytes()) && is_public_last(last.as_bytes()) && !is_taken {
             Some(Spot {
                 room: Room::Public,
                 name: *name,
@@ -161,22 +178,29 @@ impl<A: Allocator> PublicFolder<A> {
 
 impl<A: Allocator> PublicFolder<A> {
     /// Returns the name under which a file called `source` and sent to `target` is stored. If `target` is the public
-    /// folder or a folder in it, the file is stored there under the last part of `source`. Any other target stays as it
-    /// is, and so does one whose path would be too long.
+    /// folder, a folder below it, or ends in a slash, the file is stored there under the last part of `source`. Any
+    /// other target stays as it is, and so does one whose path would be too long.
     pub fn landing(&self, source: &Name, target: &Name) -> Name
         ensures { result ≡ landing (shown_public self.now) source.now target.now }
     {
         if is_spooled(target) {
             return *target;
         }
-        let folder = without_slash(local_name(target.as_bytes()));
-        if !folder.is_empty() && !has_name(self.folders.as_slice(), folder) {
+        let path = local_name(target.as_bytes());
+        if !self.is_folder_path(path) {
             return *target;
         }
-        match below_home(folder, last_part(source)) {
+        match below_home(without_slash(path), last_part(source)) {
             Some(name) => name,
             None => *target,
         }
+    }
+
+    /// Returns whether a path below the public folder means a folder: that folder exists, or the path ends in a slash.
+    fn is_folder_path(&self, path: &[u8]) -> bool
+        ensures { result ≡ is_folder_path (shown_public self.now) path.now }
+    {
+        path.ends_with(b"/") || path.is_empty() || has_name(self.folders.as_slice(), path)
     }
 }
 
@@ -223,15 +247,38 @@ pub fn below_home(folder: &[u8], last: &[u8]) -> Option<Name>
 }
 
 /// Returns whether a file may be given under this path below the public folder. The path must be a file's name, or a
-/// folder's name, a slash and a file's name.
+/// folder's path, a slash and a file's name.
 pub fn is_public_path(path: &Name) -> bool
     ensures { result ≡ is_public_path path.now }
 {
     match split_last(path.as_str()) {
-        Some((folder, last)) => is_public_last(folder.as_bytes())
-            && is_public_last(last.as_bytes()),
+        Some((folder, last)) => is_path(folder.as_bytes()) && is_public_last(last.as_bytes()),
         None => is_public_name(path),
     }
+}
+
+/// Returns whether these bytes are names, separated by slashes, and none begins with a dot, a slash or a tilde.
+fn is_path(bytes: &[u8]) -> bool
+    ensures { result ≡ is_path_from true bytes.now }
+{
+    let mut at_start = true;
+    let mut rest = bytes;
+    while !rest.is_empty() {
+        let byte = rest[0];
+        if at_start && !may_begin(byte) {
+            return false;
+        }
+        at_start = byte == b'/';
+        rest = &rest[1..];
+    }
+    !at_start
+}
+
+/// Returns whether a name in a path below the public folder may begin with this byte.
+fn may_begin(byte: u8) -> bool
+    ensures { result ≡ may_begin byte }
+{
+    !matches!(byte, b'.' | b'/' | b'~')
 }
 
 /// Returns whether these bytes can be the name of a file directly in the public folder.

@@ -66,20 +66,19 @@ impl<'a, A: Allocator, R> Giver<'a, A, R> {
     }
 }
 
-/// Adds what an end gives of the public folder to its files: the files of these names there, and those in its folders.
-/// If the system fails to list one of these, that is noted, and each file may be given later.
+/// Adds what an end gives of the public folder to its files: the files right there, and those in folders below it. If the
+/// system fails to list one of these, that is noted, and each file may be given later.
 pub(crate) fn add_given<A: Allocator + Copy, R: Files<File = File> + Alloc + Clone + Drop>(
     files: &mut Vec<Stored<A>, A>,
     ungiven: &mut Vec<Unread, A>,
     public: &mut PublicFolder<A>,
     giver: &Giver<'_, A, R>,
-    names: Vec<Name, A>,
 ) -> Result<(), RunFault>
     ensures adds { OnOk result
         (AddsPublic giver.now.folders.now files.old.items files.new.items) }
     ensures no_other { IfErr result IsFolderFault }
 {
-    let mut names = names;
+    let mut names = top_names(giver.alloc, public.others.as_slice())?;
     let before = ungiven.len();
     add_names_below(&mut names, ungiven, giver, public.folders.as_slice())?;
     if ungiven.len() != before {
@@ -88,7 +87,18 @@ pub(crate) fn add_given<A: Allocator + Copy, R: Files<File = File> + Alloc + Clo
     add_public(files, ungiven, giver, names.as_slice())
 }
 
-/// Adds the names of the files in these folders of the public folder, each with `~/`, the folder's name and a slash in
+/// Returns the first names of the public folder itself, as many as are looked at.
+fn top_names<A: Allocator>(alloc: A, others: &[Name]) -> Result<Vec<Name, A>, AllocError> {
+    let mut names = Vec::new(alloc);
+    for name in others.iter().take(PUBLIC_NAMES_MAX) {
+        if !name.as_bytes().contains(&b'/') {
+            names.push(*name)?;
+        }
+    }
+    Ok(names)
+}
+
+/// Adds the names of the files in these folders below the public folder, each with `~/`, the folder's path and a slash in
 /// front. A folder that is barred, or can't be listed, adds none.
 fn add_names_below<A: Allocator + Copy, R: Files + Alloc + Clone + Drop>(
     names: &mut Vec<Name, A>,
@@ -109,7 +119,7 @@ fn add_names_below<A: Allocator + Copy, R: Files + Alloc + Clone + Drop>(
     Ok(())
 }
 
-/// Adds the names of the files in this folder of the public folder. Notes the folder if the system fails to list it.
+/// Adds the names of the files in this folder below the public folder. Notes the folder if the system fails to list it.
 fn add_names_in<A: Allocator + Copy, R: Files + Alloc + Clone + Drop>(
     names: &mut Vec<Name, A>,
     ungiven: &mut Vec<Unread, A>,
@@ -127,7 +137,7 @@ fn add_names_in<A: Allocator + Copy, R: Files + Alloc + Clone + Drop>(
     }
 }
 
-/// Adds the name of each of these files in this folder of the public folder.
+/// Adds the name of each of these files in this folder below the public folder.
 fn add_paths<A: Allocator>(
     names: &mut Vec<Name, A>,
     folder: &Name,

@@ -167,14 +167,15 @@ where
     let mut ungiven = Vec::new(alloc);
     let listing = look_at_public(&mut ungiven, alloc, rt, paths)?;
     let PublicListing {
-        files,
         folders,
+        others,
         anothers,
         is_closed,
         is_unknown,
     } = listing;
     let mut public = PublicFolder {
         folders,
+        others,
         barred: anothers,
         is_closed,
         delayed: Vec::new(alloc),
@@ -191,7 +192,7 @@ where
     // A caller that the spool does not know is given nothing.
     if call.side == Side::Caller || is_known(alloc, rt, paths)? {
         let giver = Giver::new(alloc, rt, paths, call);
-        add_given(&mut work.files, &mut ungiven, &mut public, &giver, files)?;
+        add_given(&mut work.files, &mut ungiven, &mut public, &giver)?;
     }
     public.delayed = names_of(alloc, ungiven.as_slice())?;
     work.ungiven = ungiven;

@@ -9,6 +9,7 @@ abbrev pub is_no_place : ErrorKind → Bool
 is_no_place kinds.IsADirectory = true
 is_no_place kinds.NotADirectory = true
 is_no_place kinds.DirectoryNotEmpty = true
+is_no_place kinds.AlreadyExists = true
 is_no_place kinds.PermissionDenied = true
 is_no_place kinds.ReadOnlyFilesystem = true
 is_no_place kinds.CrossesDevices = true

@@ -1,11 +1,12 @@
-//! The contents of the public folder.
+//! The paths below the public folder.
 ghost use Rattle.std.specs.Prelude.{◌≡◌, IfErr};
 ghost use Rattle.uug_failure.specs.Faults.{IsFolderFault};
 ghost use Rattle.uug_spool_disk.specs.Access.{is_anothers, is_closed};
 
+use crate::spool_files::within_reach;
 use crate::spool_paths::SpoolPaths;
-use std::alloc::Allocator;
-use std::fs::{DirEntry, Metadata};
+use std::alloc::{AllocError, Allocator};
+use std::fs::{DirEntry, Metadata, ReadDir};
 use std::io::ErrorKind;
 use std::os::unix::fs::MetadataExt;
 use std::rt::Files;
@@ -13,19 +14,53 @@ use std::{fs, io};
 use uug_failure::{Resource, RunFault};
 use uug_talk::Name;
 
-/// The names in the public folder that are valid in a session.
+/// The maximum number of folders below the public folder that are listed, and of their entries in all.
+const BELOW_MAX: usize = 4096;
+
+/// The paths below the public folder that are valid in a session.
 #[derive(Drop)]
 pub struct PublicListing<A: Allocator> {
-    /// The names of its files.
-    pub files: Vec<Name, A>,
-    /// The names of its folders.
+    /// The paths of the folders.
     pub folders: Vec<Name, A>,
-    /// The names of files that this program can't replace.
+    /// The paths of everything else: files, links. Those directly in the public folder come first.
+    pub others: Vec<Name, A>,
+    /// The paths of files that this program can't replace.
     pub anothers: Vec<Name, A>,
-    /// Set if this program can't store anything there.
+    /// Set if this program can't store anything directly in the public folder.
     pub is_closed: bool,
     /// Set if the system failed to list it.
     pub is_unknown: bool,
+}
+
+/// A folder to list.
+#[derive(Clone, Copy)]
+struct Listed<'a> {
+    /// Its path below the public folder, or `None` for the public folder itself.
+    path: Option<&'a Name>,
+    access: Access,
+    /// The user as whom this program runs.
+    me: u32,
+    /// The size of the listing at which it is complete.
+    most: usize,
+}
+
+impl Listed<'_> {
+    /// Returns the path of an entry of this folder, if it is valid in a session.
+    fn path_of<A: Allocator + Copy>(
+        &self,
+        alloc: A,
+        entry: &[u8],
+    ) -> Result<Option<Name>, AllocError> {
+        let Ok(name) = Name::new(entry) else {
+            return Ok(None);
+        };
+        let Some(folder) = self.path else {
+            return Ok(Some(name));
+        };
+        let (folder, name) = (folder.as_str(), name.as_str());
+        let path = format!(in alloc; "{folder}/{name}")?;
+        Ok(Name::new(path.as_bytes()).ok())
+    }
 }
 
 /// The owner and the mode of a file.
@@ -65,8 +100,8 @@ impl<A: Allocator + Copy> PublicListing<A> {
     /// Returns the listing of an empty folder.
     pub fn empty(alloc: A) -> Self {
         PublicListing {
-            files: Vec::new(alloc),
             folders: Vec::new(alloc),
+            others: Vec::new(alloc),
             anothers: Vec::new(alloc),
             is_closed: false,
             is_unknown: false,
@@ -80,23 +115,48 @@ impl<A: Allocator + Copy> PublicListing<A> {
         listing
     }
 
-    /// Adds the name of an entry, if it is valid in a session. A file that has vanished is skipped.
+    /// Returns the number of its entries.
+    fn len(&self) -> usize {
+        self.folders.len().saturating_add(self.others.len())
+    }
+
+    /// Adds the entries of a folder, until the listing is complete.
+    fn add_all<R: Files + Alloc + Clone + Drop>(
+        &mut self,
+        alloc: A,
+        entries: ReadDir<R, R::A>,
+        folder: &Listed<'_>,
+    ) -> io::Result<()> {
+        for entry in entries {
+            if self.len() >= folder.most {
+                return Ok(());
+            }
+            match entry {
+                Ok(entry) => self.add(alloc, &entry, folder)?,
+                Err(error) if error.kind() == ErrorKind::InvalidFilename => (),
+                Err(error) => return Err(error),
+            }
+        }
+        Ok(())
+    }
+
+    /// Adds an entry, if its path is valid in a session. A file that has vanished is skipped.
     fn add<R: Files + Alloc + Clone + Drop>(
         &mut self,
+        alloc: A,
         entry: &DirEntry<R, R::A>,
-        folder: Access,
-        me: u32,
+        folder: &Listed<'_>,
     ) -> io::Result<()> {
-        let Ok(name) = Name::new(entry.file_name().as_bytes()) else {
+        let Some(path) = folder.path_of(alloc, entry.file_name().as_bytes())? else {
             return Ok(());
         };
         match entry.metadata() {
-            Ok(seen) if seen.is_dir() => self.folders.push(name)?,
+            Ok(seen) if seen.is_dir() => self.folders.push(path)?,
             Ok(seen) => {
-                if is_anothers(folder, seen.uid(), me) {
-                    self.anothers.push(name)?;
+                if is_anothers(folder.access, seen.uid(), folder.me) {
+                    self.anothers.push(path)?;
                 }
-                self.files.push(name)?;
+                self.others.push(path)?;
             }
             Err(error) if error.kind() == ErrorKind::NotFound => (),
             Err(error) => return Err(error),
@@ -120,28 +180,70 @@ pub fn list_public<A: Allocator + Copy, R: Files + Alloc + Clone + Drop>(
     }
 }
 
-/// Lists the folder at this path.
+/// Lists the public folder at this path, then at most `BELOW_MAX` folders below it, which have as many entries at most.
 fn read_listing<A: Allocator + Copy, R: Files + Alloc + Clone + Drop>(
     alloc: A,
     rt: &R,
-    path: &str,
+    public: &str,
 ) -> io::Result<PublicListing<A>> {
-    let folder = Access::of(&fs::metadata(rt, path)?);
-    let me = user_of(rt);
+    let top = Listed {
+        path: None,
+        access: Access::of(&fs::metadata(rt, public)?),
+        me: user_of(rt),
+        most: usize::MAX,
+    };
     let mut listing = PublicListing::empty(alloc);
-    listing.is_closed = is_closed(folder, me);
-    for entry in fs::read_dir(rt, path)? {
-        match entry {
-            Ok(entry) => listing.add(&entry, folder, me)?,
-            Err(error) if error.kind() == ErrorKind::InvalidFilename => (),
-            Err(error) => return Err(error),
-        }
+    listing.is_closed = is_closed(top.access, top.me);
+    listing.add_all(alloc, fs::read_dir(rt, public)?, &top)?;
+    let most = listing.len().saturating_add(BELOW_MAX);
+    for count in 0..BELOW_MAX {
+        let Some(folder) = listing.folders.get(count).copied() else {
+            break;
+        };
+        add_below(&mut listing, alloc, rt, public, &folder, top.me, most)?;
     }
     Ok(listing)
 }
 
-/// Returns the user that this program runs as. Returns root if the system does not report it: then nothing is ruled out
-/// before it is tried.
+/// Adds the entries of the folder of this path below the public folder. One that this program can't read adds none.
+fn add_below<A: Allocator + Copy, R: Files + Alloc + Clone + Drop>(
+    listing: &mut PublicListing<A>,
+    alloc: A,
+    rt: &R,
+    public: &str,
+    folder: &Name,
+    me: u32,
+    most: usize,
+) -> io::Result<()> {
+    let name = folder.as_str();
+    let path = format!(in alloc; "{public}/{name}")?;
+    match within_reach(open_folder(rt, path.as_str()))? {
+        Some((access, entries)) => {
+            let folder = Listed {
+                path: Some(folder),
+                access,
+                me,
+                most,
+            };
+            listing.add_all(alloc, entries, &folder)
+        }
+        None => Ok(()),
+    }
+}
+
+/// Opens the folder at this path to list it. Anything else is out of reach.
+fn open_folder<R: Files + Alloc + Clone + Drop>(
+    rt: &R,
+    path: &str,
+) -> io::Result<Option<(Access, ReadDir<R, R::A>)>> {
+    let seen = fs::symlink_metadata(rt, path)?;
+    if !seen.is_dir() {
+        return Ok(None);
+    }
+    Ok(Some((Access::of(&seen), fs::read_dir(rt, path)?)))
+}
+
+/// Returns the user as whom this program runs, or root if the system does not report it: then it is tried.
 fn user_of<R: Files>(rt: &R) -> u32 {
     match fs::metadata(rt, "/proc/self") {
         Ok(process) => process.uid(),

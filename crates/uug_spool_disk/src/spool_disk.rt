@@ -8,7 +8,7 @@ ghost use Rattle.uug_spool.specs.Operations.{HasFault};
 ghost use Rattle.uug_spool_disk.specs.Reach.{is_absent};
 
 use crate::call_files::is_named_pipe;
-use crate::spool_files::is_found;
+use crate::spool_files::{is_found, slashes_in};
 use crate::spool_paths::SpoolPaths;
 use std::alloc::Allocator;
 use std::fs::{File, OpenFile, OpenOptions};
@@ -294,7 +294,7 @@ fn see_file<A: Allocator + Copy, R: Files>(
     File::open(rt, path.as_str())?.sync_all()
 }
 
-/// Moves a file to another place. A missing folder there is created. A C. file only replaces one that still exists:
+/// Moves a file to another place. Missing folders there are created. A C. file only replaces one that still exists:
 /// `uustat` may have removed the old one meanwhile, and with it the job. The new file is then removed.
 fn move_file<A: Allocator + Copy, R: Files>(
     alloc: A,
@@ -311,7 +311,7 @@ fn move_file<A: Allocator + Copy, R: Files>(
             return drop_late(rt, source.as_str(), to.room, is_there);
         }
     }
-    move_path(alloc, rt, paths, to.room, source.as_str(), target.as_str())?;
+    move_path(rt, source.as_str(), target.as_str())?;
     see_below(rt, to, target.as_str())
 }
 
@@ -330,34 +330,32 @@ fn drop_late<R: Files>(rt: &R, source: &str, room: Room, is_there: bool) -> io::
     fs::remove_file(rt, source)
 }
 
-/// Renames the file at a path to another path, in this room. A missing folder is created.
-fn move_path<A: Allocator + Copy, R: Files>(
-    alloc: A,
-    rt: &R,
-    paths: &SpoolPaths<A>,
-    room: Room,
-    source: &str,
-    target: &str,
-) -> io::Result<()> {
+/// Renames the file at a path to another path. Missing folders there are created.
+fn move_path<R: Files>(rt: &R, source: &str, target: &str) -> io::Result<()> {
     match fs::rename(rt, source, target) {
         Err(error) if error.kind() == ErrorKind::NotFound => {
             fs::symlink_metadata(rt, source)?;
-            make_room(alloc, rt, paths, room)?;
+            let Some((folder, _)) = target.rsplit_once('/') else {
+                return Err(error);
+            };
+            fs::create_dir_all(rt, folder)?;
             fs::rename(rt, source, target)
         }
         moved => moved,
     }
 }
 
-/// Syncs the folder of a name that is in a folder of its room. The room itself is synced separately.
+/// Syncs the folders on the path of a file below its room, which may be new. The room itself is synced separately.
 fn see_below<R: Files>(rt: &R, spot: &Spot, path: &str) -> io::Result<()> {
-    if !spot.name.as_bytes().contains(&b'/') {
-        return Ok(());
+    let mut below = path;
+    for _ in 0..slashes_in(spot.name.as_bytes()) {
+        let Some((folder, _)) = below.rsplit_once('/') else {
+            return Ok(());
+        };
+        File::open(rt, folder)?.sync_all()?;
+        below = folder;
     }
-    match path.rsplit_once('/') {
-        Some((folder, _)) => File::open(rt, folder)?.sync_all(),
-        None => Ok(()),
-    }
+    Ok(())
 }
 
 /// Moves a file to a free path: this one, or the first one with a number after it. Returns the path.
@@ -371,7 +369,7 @@ fn preserve_file<A: Allocator + Copy, R: Files>(
     let source = paths.file(alloc, from)?;
     let first = paths.file(alloc, to)?;
     let target = free_path(alloc, rt, first)?;
-    move_path(alloc, rt, paths, to.room, source.as_str(), target.as_str())?;
+    move_path(rt, source.as_str(), target.as_str())?;
     Ok(target)
 }
 

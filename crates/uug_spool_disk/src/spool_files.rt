@@ -88,8 +88,8 @@ fn add_entry<A: Allocator, R: Files + Alloc + Clone + Drop>(
     Ok(())
 }
 
-/// Returns the names in a folder of the public folder that are valid in a session. A folder that can't be reached, or
-/// that not everybody may search, has none.
+/// Returns the names in a folder below the public folder that are valid in a session. A folder that can't be reached, or
+/// that not everybody may search, has none. Nor has a folder below such a folder.
 pub fn list_below<A: Allocator + Copy, R: Files + Alloc + Clone + Drop>(
     alloc: A,
     rt: &R,
@@ -104,12 +104,37 @@ pub fn list_below<A: Allocator + Copy, R: Files + Alloc + Clone + Drop>(
     };
     let path = paths.file(alloc, &spot)?;
     let mut names = Vec::new(alloc);
-    match within_reach(open_to_all(rt, path.as_str())) {
+    match within_reach(open_below(rt, path.as_str(), folder)) {
         Ok(Some(entries)) => add_entries(&mut names, paths, entries)?,
         Ok(None) => (),
         Err(error) => return Err(RunFault::of(&error, paths.end_dir(), Resource::Dir)),
     }
     Ok(names)
+}
+
+/// Returns the entries of the folder at `path`, which ends in its path below the public folder, if everybody may search
+/// it and each folder between. Returns `None` for any other. A missing folder is an error.
+fn open_below<R: Files + Alloc + Clone + Drop>(
+    rt: &R,
+    path: &str,
+    folder: &Name,
+) -> io::Result<Option<ReadDir<R, R::A>>> {
+    let mut above = path;
+    for _ in 0..slashes_in(folder.as_bytes()) {
+        let Some((front, _)) = above.rsplit_once('/') else {
+            return Ok(None);
+        };
+        if !is_searchable_by_all(&fs::symlink_metadata(rt, front)?) {
+            return Ok(None);
+        }
+        above = front;
+    }
+    open_to_all(rt, path)
+}
+
+/// Returns the number of slashes in a name.
+pub(crate) fn slashes_in(name: &[u8]) -> usize {
+    name.iter().filter(|byte| **byte == b'/').count()
 }
 
 /// Returns the entries of a folder that everybody may search. Returns `None` for any other. A missing folder is an
@@ -258,7 +283,7 @@ pub fn read_source<A: Allocator + Copy, R: Files>(
 }
 
 /// Returns the result of a read. It is `None` if there is no file that this program may read.
-fn within_reach<T>(read: io::Result<Option<T>>) -> io::Result<Option<T>>
+pub(crate) fn within_reach<T>(read: io::Result<Option<T>>) -> io::Result<Option<T>>
     ensures found { IfOk read (λ found. result ≡ Ok found) }
     ensures gone { IfErr read (λ error. is_out_of_reach (error_kind error) ≡ true → result ≡ Ok None) }
     ensures failed { IfErr read (λ error. is_out_of_reach (error_kind error) ≡ false → IsErr result) }
@@ -279,6 +304,7 @@ pub fn is_no_place(kind: ErrorKind) -> bool
         ErrorKind::IsADirectory
             | ErrorKind::NotADirectory
             | ErrorKind::DirectoryNotEmpty
+            | ErrorKind::AlreadyExists
             | ErrorKind::PermissionDenied
             | ErrorKind::ReadOnlyFilesystem
             | ErrorKind::CrossesDevices

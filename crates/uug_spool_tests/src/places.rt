@@ -9,14 +9,21 @@ use uug_session::{FileLimit, KeepFault, Partials, Spool};
 use uug_spool::MemoryDisk;
 
 /// A source, a target, and the name of the file's place in the public folder.
-const ROWS: [(&str, &str, Option<&str>); 9] = [
+const ROWS: [(&str, &str, Option<&str>); 16] = [
     ("/srv/f", "~/x", Some("x")),
     ("/srv/f", "~/", Some("f")),
     ("/srv/f", "~/in", Some("in/f")),
     ("/srv/f", "~/in/", Some("in/f")),
     ("/srv/f", "~/in/x", Some("in/x")),
     ("/srv/f", "~/theirs", None),
-    ("/srv/f", "~/out/", None),
+    ("/srv/f", "~/out/", Some("out/f")),
+    ("/srv/f", "~/out/x", Some("out/x")),
+    ("/srv/f", "~/out/more/x", Some("out/more/x")),
+    ("/srv/f", "~/in/deep", Some("in/deep/f")),
+    ("/srv/f", "~/in/deep/x", Some("in/deep/x")),
+    ("/srv/f", "~/in/../x", None),
+    ("/srv/f", "~/in//x", None),
+    ("/srv/f", "~/theirs/x", None),
     ("/srv/.f", "~/", None),
     ("/srv/theirs", "~/", None),
 ];
@@ -25,10 +32,14 @@ fn public(rt: &impl Abort, alloc: Global) -> PublicFolder<Global> {
     let mut folders = Vec::new(alloc);
     folders.push(name(rt, "in")).expect(rt, "memory");
     folders.push(name(rt, "shut")).expect(rt, "memory");
+    folders.push(name(rt, "in/deep")).expect(rt, "memory");
+    let mut others = Vec::new(alloc);
+    others.push(name(rt, "theirs")).expect(rt, "memory");
     let mut barred = Vec::new(alloc);
     barred.push(name(rt, "theirs")).expect(rt, "memory");
     PublicFolder {
         folders,
+        others,
         barred,
         is_closed: false,
         delayed: Vec::new(alloc),
@@ -82,11 +93,13 @@ fn a_folder_takes_a_file_under_its_own_name(rt: HostRuntime) {
 }
 
 /// A target, and whether a file that comes there unasked is taken.
-const TAKEN: [(&str, bool); 5] = [
+const TAKEN: [(&str, bool); 7] = [
     ("~/x", true),
     ("~/in/x", true),
     ("~/shut/x", false),
-    ("~/out/x", false),
+    ("~/shut/more/x", false),
+    ("~/out/x", true),
+    ("~/theirs/x", false),
     ("D.alphaN0001", true),
 ];
 
