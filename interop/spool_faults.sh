@@ -104,7 +104,7 @@ well_ended() {
 targets() {
     local name
     new_nodes
-    give alpha f g deeper above hid .hidden barred through
+    give alpha f g deeper outside above hid .hidden barred through
     offer alpha wanted
     mkdir -p "$work/beta/pub"/{dir,incoming/barred} "$work/elsewhere"
     ln -sfn "$work/elsewhere" "$work/beta/pub/link"
@@ -116,6 +116,7 @@ targets() {
     program_of alpha uucp -r -C "$work/alpha/src/g" 'beta!~/x'
     program_of alpha uucp -r -c "$work/alpha/src/g" 'beta!~/incoming'
     program_of alpha uucp -r -C "$work/alpha/src/deeper" 'beta!~/a/b/c'
+    program_of alpha uucp -r -C "$work/alpha/src/outside" 'beta!/etc/uucpair/c'
     program_of alpha uucp -r -C "$work/alpha/src/above" 'beta!~/dir/..'
     program_of alpha uucp -r -C "$work/alpha/src/hid" 'beta!~/.hid'
     program_of alpha uucp -r -C "$work/alpha/src/.hidden" 'beta!~/'
@@ -139,11 +140,12 @@ targets() {
     for name in dir/wanted incoming/wanted wanted; do
         is "pub/$name, which beta asked for, is whole" same "$work/alpha/src/wanted" "$work/beta/pub/$name"
     done
-    for name in deeper above hid .hidden barred; do
+    is "pub/a/b/c is whole" same "$work/alpha/src/deeper" "$work/beta/pub/a/b/c"
+    for name in outside above hid .hidden barred; do
         is "alpha hears that $name is not taken" told "$name"
         is "alpha keeps $name" kept alpha "$work/alpha/src/$name"
     done
-    is "no other folder is made" [ ! -e "$work/beta/pub/a" ]
+    is "no other folder is made" [ ! -e "$work/beta/pub/etc" ]
     is "nothing hidden came" [ -z "$(find "$work/beta" -name '.hid*')" ]
     is "nothing went through the link" [ -z "$(ls -A "$work/elsewhere")" ]
     judge "targets, $1"

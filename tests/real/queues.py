@@ -55,8 +55,8 @@ def what_queue_says(one):
     one.row("the jobs", text_of(ends.at("alpha", "jobs")),
             "send x x me\nsend x.1 y me\nrequest ~/q q me\nrequest q r me\nsend most most me\n")
     write(ends.at("alpha", "jobs"), "send z z me")
-    one.row("behind a line without its line feed", queue(one, "send", "files/x", "--user", "me").out, "queued send x x me\n")
-    one.row("which gets one", text_of(ends.at("alpha", "jobs")), "send z z me\nsend x x me\n")
+    one.row("behind a line without its line feed", queue(one, "send", "files/x", "--user", "me").out, "queued send x.2 x me\n")
+    one.row("which gets one", text_of(ends.at("alpha", "jobs")), "send z z me\nsend x.2 x me\n")
 
 
 @scene()
@@ -97,12 +97,14 @@ def copies_go_where_their_jobs_go(one):
     queue(one, "send", "files/done", "--user", "me")
     one.row("copies that wait, and another's file", {name: text_of(ends.at("alpha", f"send/{name}")) for name in names(ends,
             "send") if name != "mine"},
-            {"waits.1": "waits\n", ".copy.waits.1": "waits\n", "done": "done\n", ".copy.done": "done\n", "theirs": "another's\n"})
+            {"waits.1": "waits\n", ".copy.waits.1": "waits\n", "done": "done\n", ".copy.done": "done\n", "theirs": "another's\n",
+            # a copy whose line somebody has taken out stays
+            "failed.1": "failed\n", ".copy.failed.1": "failed\n"})
     # nothing goes while somebody replaces the file of jobs, or where it can't be seen which have failed
     os.rename(ends.at("alpha", "jobs"), one.path("aside"))
     ends.talk()
     one.row("without a file of jobs nothing goes", names(ends, "send"),
-            [".copy.done", ".copy.waits.1", "done", "mine", "theirs", "waits.1"])
+            [".copy.done", ".copy.failed.1", ".copy.waits.1", "done", "failed.1", "mine", "theirs", "waits.1"])
     os.rename(one.path("aside"), ends.at("alpha", "jobs"))
     ends.jobs("alpha", "send none none me")
     os.rename(ends.at("alpha", "failed"), one.path("told"))
@@ -242,6 +244,58 @@ def more_than_a_session_offers(one):
 
 
 @scene()
+def a_job_that_is_held_back(one):
+    """A job whose line is a comment, or is missing while somebody writes `jobs` anew, keeps its copy."""
+    ends = Ends(one)
+    for name in ("kept", "other", "third"):
+        write(one.path(name), f"{name}\n")
+    queue(one, "send", "kept", "--user", "me")
+    held_back = "# send kept kept me\n"
+    for what, jobs in (("as a comment", held_back), ("while jobs is empty", "")):
+        write(ends.at("alpha", "jobs"), jobs)
+        ends.talk()
+        queue(one, "send", "other", "--user", "me")
+        queue(one, "send", "third", "--user", "me")
+        one.run(["queue", "alpha", "--cancel", "2"])
+        one.row(f"{what}: its copy stays", [name for name in names(ends, "send") if "kept" in name], [".copy.kept", "kept"])
+        ends.talk()
+        one.row(f"{what}: the others are gone", names(ends, "send"), [".copy.kept", "kept"])
+    write(ends.at("alpha", "jobs"), "send kept kept me\n")
+    caller, called = ends.talk()
+    one.row("then it is sent", (caller.out, text_of(ends.at("beta", "got/kept"))), (report("caller", struck=1), "kept\n"))
+    one.row("and its copy goes", names(ends, "send"), [])
+
+
+@scene()
+def jobs_that_are_edited_under_their_lock(one):
+    """A session waits for the lock of `jobs`, and takes its jobs out of what somebody has made of the file meanwhile."""
+    ends = Ends(one)
+    mine = ends.at("alpha", "jobs")
+    for how in ("by another file", "in place"):
+        name = how.split()[0]
+        ends.give("alpha", **{f"{name}.1": "first\n", f"{name}.2": "more\n"})
+        ends.jobs("alpha", f"send {name}.1 {name}.1 me")
+        added = f"# mine\nsend {name}.2 {name}.2 me\n"
+        talked = []
+        talking = threading.Thread(target=lambda: talked.extend(ends.talk()))
+        with open(mine, "rb") as held:
+            fcntl.flock(held, fcntl.LOCK_EX)
+            talking.start()
+            wait_until(lambda: text_of(ends.at("beta", f"got/{name}.1")) == "first\n", 20)
+            text = added + text_of(mine)
+            if name == "by":
+                write(f"{mine}.new", text)
+                os.rename(f"{mine}.new", mine)
+            else:
+                write(mine, text)
+        talking.join()
+        one.row(f"{how}: the session", [ended.status for ended in talked], [0, 0])
+        one.row(f"{how}: what is left", text_of(mine), added)
+        ends.talk()
+        one.row(f"{how}: the added job", text_of(ends.at("beta", f"got/{name}.2")), "more\n")
+
+
+@scene()
 def many_who_queue(one):
     """Four processes queue ten jobs each while sessions run over the folder: each comes once."""
     ends = Ends(one)
@@ -287,7 +341,7 @@ def a_copy_that_cant_be_removed_once(one):
         caller = ends.call(one.line, front=refused)
         called.end()
         one.row("the job is done", (caller.status, caller.out, text_of(ends.at("alpha", "jobs")), names(ends, "send")),
-                (0, report("caller", struck=1), "", [".copy.x", "x"]))
+                (0, report("caller", struck=1), "", [".spare.x", "x"]))
         then()
         one.row(f"the next {what} removes them", [name for name in names(ends, "send") if name.endswith("x")], [])
 

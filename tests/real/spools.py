@@ -507,12 +507,13 @@ def files_that_are_asked_for(one):
 
 @scene()
 def folders_that_are_open(one):
-    """The last folder of a list that holds a file decides. Nothing is given that is hidden or deeper, through a link, or of a folder
-    that not everybody may search."""
-    paths = ["x", "in/x", "shut/x", "in/.x", "in/deep/x", "closed/x", ".hidden/x", "in/private"]
+    """The last folder of a list that holds a file decides. Nothing is given that is hidden, through a link, or of a folder that not
+    everybody may search, or below one."""
+    paths = ["x", "in/x", "shut/x", "in/.x", "in/deep/x", "closed/x", ".hidden/x", "in/private", "closed/open/x"]
     places = ["", "in/", "shut/"]
+    deep = paths.index("in/deep/x")
     for number, (folders, are_open) in enumerate(((None, ["", "in/", "shut/"]), ("~ !~/shut", ["", "in/"]), ("!~/shut ~", ["", "in/", "shut/"]),
-            ("~/in", ["in/"]), ("  ~/in/   ~/shut ", ["in/", "shut/"]), ("~ !~", []), ("", []), ("none ~/i ~/in/deep", []))):
+            ("~/in", ["in/"]), ("  ~/in/   ~/shut ", ["in/", "shut/"]), ("~ !~", []), ("", []), ("none ~/i", []))):
         nodes = Nodes(one, (f"alpha{number}", f"beta{number}"))
         caller, called = nodes.names
         nodes.known(called, caller)
@@ -531,10 +532,13 @@ def folders_that_are_open(one):
                     *(f"S {src}/f ~/{place}new u -c D.0 0644 " for place in places))
         said = [] if folders is None else ["--give", folders, "--take", folders]
         talked, _ = nodes.talk(answer=said)
-        failed = [f"request ~/{path} ~/got{at} u" for at, path in enumerate(asked) if at > 2 or places[at] not in are_open]
+        failed = [f"request ~/{path} ~/got{at} u" for at, path in enumerate(asked)
+                  if (at > 2 or places[at] not in are_open) and not (at == deep and "in/" in are_open)]
         failed += [f"send {src}/f ~/{place}new u" for place in places if place not in are_open]
-        one.row(f"{folders}: call", talked.all(), (0, report("caller", struck=2 * len(are_open), failed=failed), ""))
-        one.row(f"{folders}: what was given", nodes.pub(caller), {f"got{at}": f"{place}x\n" for at, place in enumerate(places) if place in are_open})
+        one.row(f"{folders}: call", talked.all(), (0, report("caller", struck=2 * len(are_open) + ("in/" in are_open), failed=failed), ""))
+        given = {f"got{at}": f"{place}x\n" for at, place in enumerate(places) if place in are_open}
+        given |= {f"got{deep}": "in/deep/x\n"} if "in/" in are_open else {}
+        one.row(f"{folders}: what was given", nodes.pub(caller), given)
         one.row(f"{folders}: what was taken", [place for place in places if f"{place}new" in nodes.pub(called)], are_open)
 
 
@@ -637,21 +641,24 @@ def a_caller_without_a_folder(one):
 
 @scene()
 def places_in_the_public_folder(one):
-    """Targets that are folders, and those that are refused: deeper, hidden, outside, of the spool's own data, through a link."""
+    """Targets that are folders, also new ones, and those that are refused: hidden, outside, of the spool's own data, through a link,
+    through a file."""
     nodes = Nodes(one)
     src, pub = nodes.at("alpha", "src"), nodes.at("beta", "pub")
     write(f"{src}/f", "f\n")
-    os.makedirs(f"{pub}/dir")
+    os.makedirs(f"{pub}/dir/deep")
+    write(f"{pub}/plain", "plain\n")
     os.makedirs(nodes.at("beta", "elsewhere"))
     os.symlink("../elsewhere", f"{pub}/link")
-    taken = {"~/": "f", "~/dir": "dir/f", "~/dir/": "dir/f", "~/dir/g": "dir/g", "/h": "h", "~/x": "x"}
-    refused = ["~/no/x", "~/.x", "~/dir/.x", "~/../x", "/etc/x", "D.0001", "~/link/x", "~/dir/deep/x", "../x"]
+    taken = {"~/": "f", "~/dir": "dir/f", "~/dir/": "dir/f", "~/dir/g": "dir/g", "/h": "h", "~/x": "x",
+            "~/dir/deep": "dir/deep/f", "~/dir/deep/x": "dir/deep/x", "/dir/x": "dir/x", "~/no/x": "no/x", "~/new/more/": "new/more/f"}
+    refused = ["~/.x", "~/dir/.x", "~/../x", "/etc/x", "/etc/", "D.0001", "~/link/x", "~/plain/x", "~/dir//x", "../x"]
     for number, target in enumerate([*taken, *refused]):
         nodes.queue("alpha", f"C.N{number:02}", f"S {src}/f {target} u -c D.0 0644 ")
     caller, called = nodes.talk()
     one.row("call", caller.all(), (0, report("caller", struck=len(taken),
             failed=[f"send {src}/f {target} u" for target in refused]), ""))
-    one.row("what has come", nodes.pub("beta"), {name: "f\n" for name in taken.values()})
+    one.row("what has come", nodes.pub("beta"), {name: "f\n" for name in taken.values()} | {"plain": "plain\n"})
     one.row("nothing is elsewhere", (names_in(nodes.at("beta", "elsewhere")), names_in(nodes.at("beta")), nodes.there("beta")),
             ([], ["Log", "Stats", "elsewhere", "lock", "pub", "spool", "src"], {}))
 

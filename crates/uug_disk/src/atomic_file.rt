@@ -3,6 +3,7 @@ ghost use Rattle.std.specs.Prelude.{◌≡◌, IfOk};
 ghost use Rattle.uug_disk.specs.Parts.{written_bytes};
 
 use crate::part_path::PartPath;
+use crate::queued_line::is_at;
 use crate::written::{Written, write_once, write_text};
 use std::alloc::Allocator;
 use std::fs::{File, OpenFile, OpenOptions, Permissions};
@@ -70,8 +71,8 @@ fn replace_with<'b, R: Files>(
 
 /// Does the same as `replace_file` while other processes append to the file at `path`. Copies the bytes of the old file
 /// after the first `read_len` to the end of the new one. The new file gets the old one's mode and owner, as far as the
-/// system permits. The old file is locked meanwhile: a process that holds its lock appends to a file that stays in
-/// place. A process that has opened the old file may still append to it without the lock. This run looks for those
+/// system permits. The old file, which may be given open and locked, is locked meanwhile: a process that holds its lock
+/// appends to a file that stays in place. A process that has opened the old file may still append to it without the lock. This run looks for those
 /// bytes once the new file is in place, and again once the folder is synced, and copies them.
 pub(crate) fn replace_appended<'b, R: Files<File = File>, A: Allocator>(
     rt: &R,
@@ -79,12 +80,17 @@ pub(crate) fn replace_appended<'b, R: Files<File = File>, A: Allocator>(
     dir: &str,
     path: &str,
     bytes: &'b [u8],
+    locked: Option<File>,
     read_len: u64,
 ) -> io::Result<Written<'b>>
     ensures { IfOk result (λ written. written_bytes written ≡ bytes.now) }
 {
+    let old = match locked {
+        Some(old) => old,
+        None => open_or_make(rt, path)?,
+    };
     let mut file = part.create(rt)?;
-    match place_appended(rt, &mut file, part.as_str(), path, bytes, read_len) {
+    match place_appended(rt, &mut file, part.as_str(), path, bytes, old, read_len) {
         Ok((old, written)) => {
             see_folder_between(rt, old, dir, path)?;
             Ok(written)
@@ -194,20 +200,24 @@ fn place_file<'b, R: Files>(
     Ok(written)
 }
 
-/// Does the same, and copies the bytes of the old file at `path` after the first `len` to the end of the new one.
-/// Returns the old file, locked and read to its end.
+/// Does the same, and copies the bytes of the old file after the first `len` to the end of the new one. Returns the old
+/// file, locked and read to its end. Fails if somebody else has replaced the old file.
 fn place_appended<'b, R: Files<File = File>>(
     rt: &R,
     file: &mut File,
     part: &str,
     path: &str,
     bytes: &'b [u8],
+    old: File,
     len: u64,
 ) -> io::Result<(File, Written<'b>)>
     ensures { IfOk result (λ placed. written_bytes placed.1 ≡ bytes.now) }
 {
-    let mut old = open_or_make(rt, path)?;
+    let mut old = old;
     old.lock()?;
+    if !is_at(rt, &old, path) {
+        return Err(io::Error::from(ErrorKind::WouldBlock));
+    }
     old.seek(SeekFrom::Start(len))?;
     let written = write_text(file, bytes)?;
     io::copy(&mut old, file)?;

@@ -15,7 +15,7 @@ pub(crate) enum CopyPlace {
     InSend,
     /// With the files of failed jobs: a failed job sends it, and no pending one.
     WithFailed,
-    /// Nowhere: neither a pending nor a failed job sends it.
+    /// Nowhere: neither a pending nor a failed job sends it. It is removed if its job is done, and stays otherwise.
     Nowhere,
 }
 

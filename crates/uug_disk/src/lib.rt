@@ -40,6 +40,7 @@ pub use partial_folder::{drop_partials, hold_partial, read_partials};
 pub use partial_notes::PartialNotes;
 pub use pipe::is_named_pipe;
 pub use queue::{QueueFault, QueueTask, queue_run};
+pub use queued_copy::mark_done;
 pub use queued_line::{jobs_at, jobs_in};
 pub use seen_files::{HeldFile, SeenFile, read_end, see_file, see_held, see_sent};
 pub use send_folder::{FILES_MAX, GIVEN_MODE, TEXT_MAX, read_send, read_text};

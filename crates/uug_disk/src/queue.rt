@@ -8,16 +8,18 @@ ghost use Rattle.uug_disk.specs.Queued.{IsFaultOfQueue, IsListOf, has_rival, is_
 ghost use Rattle.uug_disk.specs.declared.queue.QueueFault.TheVariants.{Order as bad_order, Run as gave_up};
 
 use crate::dir_lock::see_dir;
-use crate::queued_copy::{place_copy, read_copied};
+use crate::queued_copy::{Copied, copied_as, place_copy, read_copied};
 use crate::queued_line::{add_job, jobs_at, jobs_in};
-use crate::settled_copies::{failed_text, lock_send, settle_now};
+use crate::settled_copies::{failed_text, lock_send, lock_text, settle_now};
 use std::alloc::{AllocError, Allocator};
 use std::env;
 use std::env::VarError;
 use std::fs::File;
 use std::rt::{Env, Files};
 use uug_failure::{EndDir, RunFault};
-use uug_folder::{OrderFault, default_user, ordered_job, queued_line, with_source, write_jobs};
+use uug_folder::{
+    OrderFault, default_user, is_among, ordered_job, queued_line, with_source, write_jobs,
+};
 use uug_session::Job;
 use uug_stream::{Output, write_all};
 use uug_talk::Name;
@@ -348,12 +350,37 @@ where
     )?;
     let placed = with_source(job, copy.name);
     match add_job(alloc, rt, dir, &placed) {
-        Ok(()) => Ok(placed),
+        Ok(()) => {
+            // If that fails, the next run does it.
+            let _ = mark_needed(alloc, rt, dir, &placed, &copy);
+            Ok(placed)
+        }
         Err(fault) => {
             copy.remove(rt);
             Err(fault)
         }
     }
+}
+
+/// Marks the copy of a job that was queued just now as needed, unless a session has already done the job.
+fn mark_needed<A: Allocator + Copy, R: Files<File = File>>(
+    alloc: A,
+    rt: &R,
+    dir: EndDir<'_>,
+    job: &Job,
+    copy: &Copied<A>,
+) -> Result<(), RunFault>
+    ensures { IfErr result IsReadingFault }
+{
+    let needed = copied_as(alloc, dir, copy.name)?;
+    let lock = lock_text(alloc, rt, dir)?;
+    let text = jobs_at(alloc, rt, dir)?;
+    let waiting = jobs_in(alloc, text.as_slice())?;
+    if is_among(waiting.pending(), job) {
+        copy.mark_as(rt, &needed);
+    }
+    drop(lock);
+    Ok(())
 }
 
 /// Appends a job that needs no copy.

@@ -17,7 +17,7 @@ use std::os::unix::fs::MetadataExt;
 use std::rt::Files;
 use std::{fs, io};
 use uug_failure::{Cause, EndDir, Resource, RunFault, SystemFailure};
-use uug_folder::nth_name;
+use uug_folder::{local_source, nth_name};
 use uug_session::Job;
 use uug_stream::ToolFault;
 use uug_talk::{FILE_LIMIT_MAX, Name};
@@ -25,6 +25,10 @@ use uug_talk::{FILE_LIMIT_MAX, Name};
 /// The prefix of a mark's name, before the name of the copy. The mark is a hard link to the copy, and shows that the
 /// copy is ours.
 pub(crate) const COPY_FRONT: &str = ".copy.";
+
+/// The prefix instead of `COPY_FRONT` once the copy's job is done. Only then is the copy removed: a job whose line is
+/// missing may come back.
+pub(crate) const SPARE_FRONT: &str = ".spare.";
 
 /// The folder with the copies of failed jobs. It is beside the file `failed`, which lists these jobs.
 pub(crate) const FAILED_FILES: &str = "failed.files";
@@ -121,6 +125,22 @@ impl<A: Allocator> Copied<A> {
     /// Returns whether it and its mark are still the same file.
     fn is_marked<R: Files>(&self, rt: &R) -> io::Result<bool> {
         is_same(rt, self.path.as_str(), self.mark.as_str())
+    }
+
+    /// Removes the mark, if the copy is gone or is another file by now. A copy that can't be checked keeps its mark.
+    pub(crate) fn clear_mark<R: Files>(&self, rt: &R) {
+        match self.is_marked(rt) {
+            Ok(true) => (),
+            Err(error) if error.kind() != ErrorKind::NotFound => (),
+            _ => {
+                let _ = fs::remove_file(rt, self.mark.as_str());
+            }
+        }
+    }
+
+    /// Renames its mark to that of another state.
+    pub(crate) fn mark_as<R: Files>(&self, rt: &R, other: &Copied<A>) {
+        let _ = fs::rename(rt, self.mark.as_str(), other.mark.as_str());
     }
 
     /// Removes it, if it and its mark are still the same file, and then the mark. No pending job may send it. A copy
@@ -246,7 +266,7 @@ fn link_free<A: Allocator + Copy, R: Files>(
         let Some(name) = nth_name(alloc, base, n)? else {
             break;
         };
-        let copy = copied_as(alloc, dir, name)?;
+        let copy = marked_as(alloc, dir, SPARE_FRONT, name)?;
         if is_there(rt, copy.aside.as_str()) || is_taken(waiting, failed, &name) {
             continue;
         }
@@ -265,10 +285,22 @@ fn is_there<R: Files>(rt: &R, path: &str) -> bool {
     fs::symlink_metadata(rt, path).is_ok()
 }
 
-/// Returns the copy of this name in `send`.
+/// Returns the copy of this name in `send`, which a job needs.
 pub(crate) fn copied_as<A: Allocator + Copy>(
     alloc: A,
     dir: EndDir<'_>,
+    name: Name,
+) -> Result<Copied<A>, AllocError>
+    ensures { IfOk result (λ copy. copy.name ≡ name) }
+{
+    marked_as(alloc, dir, COPY_FRONT, name)
+}
+
+/// Returns the copy of this name in `send`, whose mark has this prefix.
+pub(crate) fn marked_as<A: Allocator + Copy>(
+    alloc: A,
+    dir: EndDir<'_>,
+    mark: &str,
     name: Name,
 ) -> Result<Copied<A>, AllocError>
     ensures { IfOk result (λ copy. copy.name ≡ name) }
@@ -278,9 +310,34 @@ pub(crate) fn copied_as<A: Allocator + Copy>(
     Ok(Copied {
         name,
         path: path_in_send(alloc, dir, &name)?,
-        mark: format!(in alloc; "{front}/send/{COPY_FRONT}{text}")?,
+        mark: format!(in alloc; "{front}/send/{mark}{text}")?,
         aside: path_with_failed(alloc, dir, &name)?,
     })
+}
+
+/// Marks the copies of these jobs, which are done, with `SPARE_FRONT`. If a mark can't be renamed, its copy stays.
+pub fn mark_done<A: Allocator + Copy, R: Files>(
+    alloc: A,
+    rt: &R,
+    dir: EndDir<'_>,
+    done: &[Job],
+) -> Result<(), AllocError> {
+    for job in done {
+        if let Some(name) = local_copy(job) {
+            let waiting = copied_as(alloc, dir, name)?;
+            let over = marked_as(alloc, dir, SPARE_FRONT, name)?;
+            waiting.mark_as(rt, &over);
+        }
+    }
+    Ok(())
+}
+
+/// Returns the name of the file in `send` that a job sends.
+fn local_copy(job: &Job) -> Option<Name> {
+    match job {
+        Job::Send { source, .. } => local_source(source),
+        Job::Request { .. } => None,
+    }
 }
 
 /// Returns the path of a file among those of failed jobs, in the folder of an end.

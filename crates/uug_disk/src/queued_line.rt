@@ -82,7 +82,7 @@ fn open_locked<R: Files<File = File>>(rt: &R, path: &str) -> io::Result<File> {
 }
 
 /// Returns whether an open file is the one at a path.
-fn is_at<R: Files>(rt: &R, file: &File, path: &str) -> bool {
+pub(crate) fn is_at<R: Files>(rt: &R, file: &File, path: &str) -> bool {
     match (file.metadata(), fs::metadata(rt, path)) {
         (Ok(open), Ok(there)) => open.dev() == there.dev() && open.ino() == there.ino(),
         _ => false,

@@ -4,7 +4,7 @@ ghost use Rattle.uug_failure.specs.Faults.{IsFolderFault};
 
 use crate::dir_lock::DirLock;
 use crate::part_path::is_part;
-use crate::queued_copy::COPY_FRONT;
+use crate::queued_copy::{COPY_FRONT, SPARE_FRONT};
 use std::alloc::{AllocError, Allocator};
 use std::fs::{DirEntry, File, ReadDir};
 use std::io::ErrorKind;
@@ -250,7 +250,8 @@ fn given_name<R: Files + Alloc + Clone + Drop>(
 ) -> Result<Option<Name>, RunFault>
     ensures { IfErr result IsFolderFault }
 {
-    if is_part(entry.file_name()) || entry.file_name().starts_with(COPY_FRONT) {
+    let file = entry.file_name();
+    if is_part(file) || file.starts_with(COPY_FRONT) || file.starts_with(SPARE_FRONT) {
         return Ok(None);
     }
     let Ok(name) = Name::new(entry.file_name().as_bytes()) else {

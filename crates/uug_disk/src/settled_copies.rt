@@ -5,9 +5,10 @@ ghost use Rattle.uug_failure.specs.Faults.{IsFolderFault, IsReadingFault};
 use crate::copy_place::{CopyPlace, place_of};
 use crate::dir_lock::{DirLock, open_dir};
 use crate::part_path::{is_part, remove_part};
-use crate::queued_copy::{COPY_FRONT, Copied, FAILED_FILES, copied_as};
+use crate::queued_copy::{COPY_FRONT, Copied, FAILED_FILES, SPARE_FRONT, copied_as, marked_as};
 use crate::queued_line::jobs_in;
 use crate::send_folder::read_text;
+use crate::system_text::lock_at;
 use std::alloc::{AllocError, Allocator};
 use std::fs::{DirEntry, File};
 use std::io::ErrorKind;
@@ -17,8 +18,8 @@ use uug_failure::{EndDir, EndText, Resource, RunFault};
 use uug_session::Job;
 use uug_talk::Name;
 
-/// Puts the copies in `send` where they belong after a session. The copy of a failed job is moved to `failed.files`. A
-/// copy that neither a pending nor a failed job sends is removed. If somebody queues a file at this moment, this is
+/// Puts the copies in `send` where they belong after a session. The copy of a failed job is moved to `failed.files`. The
+/// copy of a job that is done is removed, if neither a pending nor a failed job sends it. If somebody queues a file at this moment, this is
 /// left to that run, or to a later one. A copy that can't be moved or removed is left to the next run.
 pub fn settle_copies<A: Allocator + Copy, R: Files<File = File> + Alloc + Clone + Drop>(
     alloc: A,
@@ -34,7 +35,21 @@ pub fn settle_copies<A: Allocator + Copy, R: Files<File = File> + Alloc + Clone 
 
 /// Does the same while `send` is locked. Does nothing if there is no file of jobs, as while somebody replaces it, or if
 /// the file of failed jobs can't be read.
-pub(crate) fn settle_now<A: Allocator + Copy, R: Files + Alloc + Clone + Drop>(
+pub(crate) fn settle_now<A: Allocator + Copy, R: Files<File = File> + Alloc + Clone + Drop>(
+    alloc: A,
+    rt: &R,
+    dir: EndDir<'_>,
+) -> Result<(), RunFault>
+    ensures { IfErr result IsReadingFault }
+{
+    let lock = lock_text(alloc, rt, dir)?;
+    let settled = settle_locked(alloc, rt, dir);
+    drop(lock);
+    settled
+}
+
+/// Does the same while the file of jobs is locked, too, if there is one.
+fn settle_locked<A: Allocator + Copy, R: Files + Alloc + Clone + Drop>(
     alloc: A,
     rt: &R,
     dir: EndDir<'_>,
@@ -49,6 +64,23 @@ pub(crate) fn settle_now<A: Allocator + Copy, R: Files + Alloc + Clone + Drop>(
         settle_all(alloc, rt, dir, waiting.pending(), failed.as_slice())?;
     }
     Ok(())
+}
+
+/// Locks the file of jobs, as a session does to take jobs out of it. Waits for the lock. Returns `None` if there is no
+/// file.
+pub(crate) fn lock_text<A: Allocator + Copy, R: Files<File = File>>(
+    alloc: A,
+    rt: &R,
+    dir: EndDir<'_>,
+) -> Result<Option<File>, RunFault>
+    ensures { IfErr result IsFolderFault }
+{
+    let front = dir.path;
+    let path = format!(in alloc; "{front}/jobs")?;
+    match lock_at(rt, path.as_str()) {
+        Ok(lock) => Ok(lock),
+        Err(error) => Err(RunFault::of(&error, dir, Resource::Text(EndText::Jobs))),
+    }
 }
 
 /// Locks `send` for a run that queues a file. Waits for the lock.
@@ -123,17 +155,21 @@ fn settle_all<A: Allocator + Copy, R: Files + Alloc + Clone + Drop>(
         if is_part(entry.file_name()) {
             remove_part(rt, &entry);
         }
-        let Some(name) = marked_name(&entry) else {
-            continue;
-        };
-        let copy = copied_as(alloc, dir, name)?;
-        settle_copy(rt, &copy, front, failed_files.as_str(), waiting, failed);
+        if let Some(name) = marked_name(&entry, COPY_FRONT) {
+            let copy = copied_as(alloc, dir, name)?;
+            settle_copy(rt, &copy, front, failed_files.as_str(), waiting, failed);
+        } else if let Some(name) = marked_name(&entry, SPARE_FRONT) {
+            let copy = marked_as(alloc, dir, SPARE_FRONT, name)?;
+            let unmarked = copied_as(alloc, dir, name)?;
+            clear_copy(rt, &copy, &unmarked, waiting, failed);
+        }
     }
     Ok(())
 }
 
-/// Puts a copy where it belongs, for these pending jobs and the text that lists the failed ones.
-#[tactic(auto, using(crate::proofs::CopyLemmas::nowhere_needed, crate::proofs::CopyLemmas::aside_needed))]
+/// Puts a copy where it belongs, for these pending jobs and the text that lists the failed ones. A copy whose job is
+/// missing stays, as the job may come back: somebody edits `jobs`, or has made its line a comment.
+#[tactic(auto, using(crate::proofs::CopyLemmas::aside_needed))]
 fn settle_copy<A: Allocator, R: Files>(
     rt: &R,
     copy: &Copied<A>,
@@ -145,12 +181,27 @@ fn settle_copy<A: Allocator, R: Files>(
     match place_of(waiting, failed, &copy.name) {
         CopyPlace::InSend => (),
         CopyPlace::WithFailed => copy.set_aside(rt, front, failed_files, waiting),
+        CopyPlace::Nowhere => copy.clear_mark(rt),
+    }
+}
+
+/// Removes a copy whose job is done. If another job sends it, it gets its former mark again.
+#[tactic(auto, using(crate::proofs::CopyLemmas::nowhere_needed))]
+fn clear_copy<A: Allocator, R: Files>(
+    rt: &R,
+    copy: &Copied<A>,
+    unmarked: &Copied<A>,
+    waiting: &[Job],
+    failed: &[u8],
+) {
+    match place_of(waiting, failed, &copy.name) {
+        CopyPlace::InSend | CopyPlace::WithFailed => copy.mark_as(rt, unmarked),
         CopyPlace::Nowhere => copy.clear(rt, waiting),
     }
 }
 
-/// Returns the name of the copy whose mark is an entry of `send`.
-fn marked_name<R: Files, A: Allocator>(entry: &DirEntry<R, A>) -> Option<Name> {
-    let name = entry.file_name().strip_prefix(COPY_FRONT)?;
+/// Returns the name of the copy whose mark, with this prefix, is an entry of `send`.
+fn marked_name<R: Files, A: Allocator>(entry: &DirEntry<R, A>, front: &str) -> Option<Name> {
+    let name = entry.file_name().strip_prefix(front)?;
     Name::new(name.as_bytes()).ok()
 }

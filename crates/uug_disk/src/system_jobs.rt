@@ -2,6 +2,7 @@ ghost use Rattle.std.specs.Prelude.{◌≡◌, ◌<◌, IfOk, IsSome, None};
 
 use crate::atomic_file::append_at;
 use crate::pipe::is_pipe;
+use crate::queued_copy::mark_done;
 use crate::system_text::SystemText;
 use crate::written::see_written;
 use std::alloc::{AllocError, Allocator};
@@ -9,6 +10,7 @@ use std::fs::File;
 use std::rt::Files;
 use uug_failure::{Cause, EndText, Resource, SystemFailure};
 use uug_folder::{FolderFailed, JobTexts, TextFile};
+use uug_session::Job;
 use uug_stream::ToolFault;
 
 /// The files of an end's jobs in its folder: `jobs` has the pending ones, and `failed` lists those that were given up.
@@ -48,11 +50,19 @@ impl<R: Files<File = File>, A: Allocator> JobTexts for SystemJobs<'_, R, A> {
     ghost fault_count = { λ jobs. jobs.file.faults.count };
 
     fn read<B: Allocator + Copy>(&mut self, alloc: B) -> Result<Vec<u8, B>, ToolFault> {
-        self.file.read(alloc)
+        self.file.read_locked(alloc)
     }
 
     fn replace(&mut self, bytes: &[u8]) -> Result<(), FolderFailed> {
         self.file.replace(bytes)
+    }
+
+    fn unlock(&mut self) {
+        self.file.unlock();
+    }
+
+    fn note_done<B: Allocator + Copy>(&mut self, alloc: B, done: &[Job]) -> Result<(), AllocError> {
+        mark_done(alloc, self.file.runtime(), self.file.dir(), done)
     }
 
     fn tell(&mut self, bytes: &[u8]) -> Result<(), FolderFailed> {

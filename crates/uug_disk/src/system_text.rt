@@ -2,16 +2,19 @@ ghost use Rattle.std.specs.Prelude.{◌≡◌, ◌<◌, ◌≤◌, IfErr, IfOk, 
 ghost use Rattle.uug_session.specs.Engine.{HasFailed};
 ghost use Rattle.uug_failure.specs.Failures.{NotesFault};
 ghost use Rattle.uug_failure.specs.Faults.{IsFolderFault};
+ghost use Rattle.uug_folder.specs.TextFiles.{IsReadFault};
 
 use crate::atomic_file::{replace_appended, replace_file};
 use crate::part_path::PartPath;
+use crate::pipe::is_pipe;
+use crate::queued_line::is_at;
 use crate::send_folder::read_text_at;
 use crate::written::see_written;
 use std::alloc::{AllocError, Allocator};
-use std::fs;
 use std::fs::File;
 use std::io::ErrorKind;
 use std::rt::Files;
+use std::{fs, io};
 use uug_failure::{Cause, EndDir, EndText, Faults, Resource, RunFault, SystemFailure};
 use uug_folder::{FolderFailed, TextFile};
 use uug_stream::ToolFault;
@@ -30,6 +33,8 @@ pub struct SystemText<'a, R: Files, A: Allocator> {
     folder: String<A>,
     /// The number of bytes that were last read from it, if it was read.
     read_len: Option<u64>,
+    /// The file, while it is locked from its reading to its change.
+    locked: Option<File>,
     faults: Faults,
 }
 
@@ -50,6 +55,7 @@ impl<'a, R: Files, A: Allocator + Copy> SystemText<'a, R, A> {
             path,
             folder,
             read_len: None,
+            locked: None,
             faults: Faults::none(),
         })
     }
@@ -69,6 +75,13 @@ impl<'a, R: Files, A: Allocator> SystemText<'a, R, A> {
             Err(fault) => self.faults.note_fault(*fault),
         }
         text
+    }
+
+    /// Unlocks the file.
+    pub(crate) fn unlock(&mut self)
+        ensures { self.new.faults ≡ self.old.faults }
+    {
+        self.locked = None;
     }
 
     /// Returns the folder of its end.
@@ -97,6 +110,29 @@ impl<'a, R: Files, A: Allocator> SystemText<'a, R, A> {
     }
 }
 
+impl<R: Files<File = File>, A: Allocator> SystemText<'_, R, A> {
+    /// Locks the file, as everybody does who changes `jobs`, and returns its text. Waits for the lock. It stays locked
+    /// until it is replaced or unlocked.
+    pub(crate) fn read_locked<B: Allocator + Copy>(
+        &mut self,
+        alloc: B,
+    ) -> Result<Vec<u8, B>, ToolFault>
+        ensures stands { OnOk result (self.new.faults ≡ self.old.faults) }
+        ensures fault { IfErr result (λ fault.
+            IsReadFault fault self.old.faults.count self.new.faults.count) }
+    {
+        self.locked = None;
+        match lock_at(self.rt, self.path.as_str()) {
+            Ok(locked) => self.locked = locked,
+            Err(error) => {
+                self.note(Resource::Text(self.which), Cause::of(&error));
+                return Err(ToolFault::Device);
+            }
+        }
+        self.read(alloc)
+    }
+}
+
 impl<R: Files<File = File>, A: Allocator> TextFile for SystemText<'_, R, A> {
     ghost text = { λ _. None };
 
@@ -113,8 +149,9 @@ impl<R: Files<File = File>, A: Allocator> TextFile for SystemText<'_, R, A> {
     fn replace(&mut self, bytes: &[u8]) -> Result<(), FolderFailed> {
         let path = self.path.as_str();
         let dir = self.folder.as_str();
+        let old = self.locked.take();
         let replaced = match self.read_len {
-            Some(len) => replace_appended(self.rt, &mut self.part, dir, path, bytes, len),
+            Some(len) => replace_appended(self.rt, &mut self.part, dir, path, bytes, old, len),
             None => replace_file(self.rt, &mut self.part, dir, path, bytes),
         };
         match replaced {
@@ -132,6 +169,29 @@ impl<R: Files<File = File>, A: Allocator> TextFile for SystemText<'_, R, A> {
     fn faults(&self) -> u64 {
         self.faults.count()
     }
+}
+
+/// The maximum number of times in a row that another file may replace one while its lock is waited for.
+const LOCKS_MAX: u32 = 1000;
+
+/// Opens the file at a path and locks it, once it is still there with its lock. Returns `None` for a missing file or a
+/// pipe.
+pub(crate) fn lock_at<R: Files<File = File>>(rt: &R, path: &str) -> io::Result<Option<File>> {
+    for _ in 0..LOCKS_MAX {
+        if is_pipe(rt, path) {
+            return Ok(None);
+        }
+        let file = match File::open(rt, path) {
+            Ok(file) => file,
+            Err(error) if error.kind() == ErrorKind::NotFound => return Ok(None),
+            Err(error) => return Err(error),
+        };
+        file.lock()?;
+        if is_at(rt, &file, path) {
+            return Ok(Some(file));
+        }
+    }
+    Err(io::Error::from(ErrorKind::WouldBlock))
 }
 
 /// Returns the path to which a link leads, or the path itself if it is no link or can't be resolved.

@@ -3,6 +3,7 @@ use Rattle.std.proofs.Common.{◌≡◌, ◌==◌, ℕ, suc, ◌+◌, ◌-◌, i
 use Rattle.std.proofs.lemmas.List.{append-nil}
 use Rattle.std.proofs.lemmas.List.Elements.{All-nil, All-cons}
 use Rattle.std.proofs.lemmas.Slice.Eq.{bytes_eq-Decides}
+use Rattle.std.specs.Prelude.{OnErr, Result, Err}
 use Rattle.std.specs.List.{AllByRecursion, onto_first, slice_split}
 use Rattle.std.specs.Str.{bytes_eq}
 use Rattle.uug_conversation.specs.Jobs.{Lists, Move, move_first, moved, moved_once, pending, pass, strike, fail}
@@ -85,6 +86,15 @@ tells_none more told told_after e = record { front = []; rest = more; begins = r
 
 pub tells_all : (more : List ℕ) (told told_after : Option (List ℕ)) → told_after ≡ also_told more told → TellsSome more told told_after
 tells_all more told told_after e = record { front = more; rest = []; begins = sym (append-nil more); is = e }
+
+pub on_err : {T E : Type 0} (r : Result T E) (P : Type 0) → P → OnErr r P
+on_err (Ok value) P p = tt
+on_err (Err fault) P p = p
+
+-- nothing was removed or told
+pub not_settled : (over : List Job) (notice : List ℕ) (text text_after told told_after : Option (List ℕ)) → text_after ≡ text → told_after ≡ told
+    → IsTextSettledOrNot over notice text text_after told told_after
+not_settled over notice text text_after told told_after same none = inl (same, tells_none notice told told_after none)
 
 -- ---- one jobs text for another
 

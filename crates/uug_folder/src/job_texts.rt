@@ -4,7 +4,8 @@ ghost use Rattle.uug_folder.specs.Notices.{TellsSome, also_told};
 ghost use Rattle.uug_folder.specs.TextFiles.{holding, IsReadFault, IsWhole};
 
 use crate::folder::FolderFailed;
-use std::alloc::Allocator;
+use std::alloc::{AllocError, Allocator};
+use uug_session::Job;
 use uug_stream::ToolFault;
 
 /// The files of an end's jobs: the text of the waiting ones, which is replaced as a whole, and the notices of failed
@@ -19,7 +20,8 @@ pub trait JobTexts {
     /// The number of faults of their device.
     ghost fault_count: { Self → ℕ };
 
-    /// Returns the present text of the waiting jobs. A missing file has an empty text.
+    /// Returns the present text of the waiting jobs. A missing file has an empty text. Nobody who heeds the file's lock
+    /// changes it from then on, until it is unlocked.
     fn read<B: Allocator + Copy>(&mut self, alloc: B) -> Result<Vec<u8, B>, ToolFault>
         ensures same { text self.new ≡ text self.old }
         ensures told_same { told self.new ≡ told self.old }
@@ -48,4 +50,20 @@ pub trait JobTexts {
         ensures fault { OnErr result
             (HasFailed u64.MAX (fault_count self.old) (fault_count self.new)) }
         ensures grows { fault_count self.old ≤ fault_count self.new };
+
+    /// Unlocks the text of the waiting jobs. Files that nobody else changes need not be locked.
+    fn unlock(&mut self)
+        ensures same { text self.new ≡ text self.old }
+        ensures told_same { told self.new ≡ told self.old }
+        ensures stands { fault_count self.new ≡ fault_count self.old }
+    {}
+
+    /// Notes that these jobs are done, before they are removed from the text: no copy of their files is needed any more.
+    fn note_done<B: Allocator + Copy>(&mut self, _alloc: B, _done: &[Job]) -> Result<(), AllocError>
+        ensures same { text self.new ≡ text self.old }
+        ensures told_same { told self.new ≡ told self.old }
+        ensures stands { fault_count self.new ≡ fault_count self.old }
+    {
+        Ok(())
+    }
 }

@@ -34,13 +34,15 @@ impl<J: JobTexts, A: Allocator> JobStore for JobsFile<J, A> {
         failed: &[Job],
         notice: &[u8],
     ) -> Result<(), ToolFault> {
-        settle_text(alloc, &mut self.file, struck, failed, notice)
+        let settled = settle_text(alloc, &mut self.file, struck, failed, notice);
+        self.file.unlock();
+        settled
     }
 }
 
 /// Removes these jobs from the present text of the waiting ones: for each job, the first line that is this job. All
-/// other lines stay, in their order. The notices of failed jobs are appended before that. A text that stays the same is
-/// not written.
+/// other lines stay, in their order. Before that, the notices of failed jobs are appended, and the struck ones are noted
+/// as done. A text that stays the same is not written. It stays locked.
 pub fn settle_text<J: JobTexts, B: Allocator + Copy>(
     alloc: B,
     file: &mut J,
@@ -59,6 +61,7 @@ pub fn settle_text<J: JobTexts, B: Allocator + Copy>(
 {
     let now = file.read(alloc)?;
     let left = text_without(alloc, struck, failed, now.as_slice())?;
+    file.note_done(alloc, struck)?;
     tell_some(file, notice)?;
     if left.as_slice() == now.as_slice() {
         return Ok(());

@@ -170,6 +170,8 @@ record AreLanded : Type 0 where
   deeper : landing public (codes "/srv/f") (codes "~/in/deep") ≡ codes "~/in/deep/f"
   new_folder : landing public (codes "/srv/f") (codes "~/out/") ≡ codes "~/out/f"
   no_folder : landing public (codes "/srv/f") (codes "~/out") ≡ codes "~/out"
+  whole_folder : landing public (codes "/srv/f") (codes "/in/") ≡ codes "~/in/f"
+  whole_path : landing public (codes "/srv/f") (codes "/etc/") ≡ codes "/etc/"
   mail : landing public (codes "D.0001") (codes "D.alphaN0001") ≡ codes "D.alphaN0001"
   upwards : place_in public (landing public (codes "/srv/..") (codes "~/")) ≡ None
   hidden : place_in public (landing public (codes "/srv/.f") (codes "~/in")) ≡ None
@@ -185,6 +187,8 @@ are_landed = record {
   deeper = refl;
   new_folder = refl;
   no_folder = refl;
+  whole_folder = refl;
+  whole_path = refl;
   mail = refl;
   upwards = refl;
   hidden = refl;
@@ -202,6 +206,8 @@ record ArePlaced : Type 0 where
   new_folder : place_in public (codes "~/out/x") ≡ Some (spot rooms.Public (codes "out/x"))
   new_below : place_in public (codes "~/out/more/x") ≡ Some (spot rooms.Public (codes "out/more/x"))
   deeper : place_in public (codes "~/in/deep/x") ≡ Some (spot rooms.Public (codes "in/deep/x"))
+  whole_path : place_in public (codes "/etc/x") ≡ None
+  whole_below : place_in public (codes "/in/x") ≡ Some (spot rooms.Public (codes "in/x"))
   a_deep_folder : place_in public (codes "~/in/deep") ≡ None
   in_a_file : place_in public (codes "~/theirs/x") ≡ None
   below_a_file : place_in public (codes "~/in/theirs/more/x") ≡ None
@@ -229,6 +235,8 @@ are_placed = record {
   new_folder = refl;
   new_below = refl;
   deeper = refl;
+  whole_path = refl;
+  whole_below = refl;
   a_deep_folder = refl;
   in_a_file = refl;
   below_a_file = refl;

@@ -7,7 +7,7 @@ use Rattle.std.specs.Path.{rsplit_once, slash}
 use Rattle.std.specs.Prelude.{◌==◌, ◌&&◌, ◌||◌, not, ℕ, Bool, true, false, List, [], ◌∷◌, ◌++◌, length, codes, is_none, nat_eq, string_bytes, Option, Some, None, Result, Ok, Err, if◌then◌else◌}
 use Rattle.uug_conversation.specs.MemoryHoldings.{has_name}
 use Rattle.uug_talk.specs.Name.{name_of}
-use Rattle.uug_spool.specs.SpoolNames.{local_name, spot, spot_of}
+use Rattle.uug_spool.specs.SpoolNames.{begins_with, local_name, spot, spot_of}
 use Rattle.uug_spool.specs.declared.spool_names.Barred.{Barred}
 use Rattle.uug_spool.specs.declared.spool_names.Room.{Room}
 use Rattle.uug_spool.specs.declared.spool_names.Room.TheVariants as rooms
@@ -89,26 +89,31 @@ is_public_path path = is_path_by path (rsplit_once slash path)
 abbrev pub is_blocked : Public → (folder : List ℕ) → Bool
 is_blocked public folder = list_any (λ other. is_in other folder) public.others
 
--- the folder exists, or can be created
-abbrev pub may_hold : Public → (folder : List ℕ) → Bool
-may_hold public folder =
-    is_path_from true folder && (has_name public.folders folder || not (public.is_closed || is_blocked public folder))
+-- the name is a path below the public folder as it is written
+abbrev pub is_home : (name : List ℕ) → Bool
+is_home name = begins_with (codes "~/") name
+
+-- The folder exists, or can be created. None is created for another name, such as a whole path.
+abbrev pub may_hold : Public → (home : Bool) → (folder : List ℕ) → Bool
+may_hold public home folder =
+    is_path_from true folder
+    && (has_name public.folders folder || (home && not (public.is_closed || is_blocked public folder)))
 
 -- in a folder below the public folder
-abbrev pub deep_by : Public → (name : List ℕ) → Option (List ℕ × List ℕ) → Option Spot
-deep_by public name None = None
-deep_by public name (Some parts) =
-    if may_hold public parts.0
+abbrev pub deep_by : Public → (home : Bool) → (name : List ℕ) → Option (List ℕ × List ℕ) → Option Spot
+deep_by public home name None = None
+deep_by public home name (Some parts) =
+    if may_hold public home parts.0
     && (is_public_last (name_of parts.1) && not (has_name public.folders name || has_name public.barred name))
     then Some (spot rooms.Public name) else None
 
-abbrev pub deep_place : Public → (name : Option (List ℕ)) → Option Spot
-deep_place public None = None
-deep_place public (Some name) = deep_by public name (rsplit_once slash name)
+abbrev pub deep_place : Public → (home : Bool) → (name : Option (List ℕ)) → Option Spot
+deep_place public home None = None
+deep_place public home (Some name) = deep_by public home name (rsplit_once slash name)
 
 abbrev pub placed : Public → (name : List ℕ) → Result Spot Barred → Option Spot
 placed public name (Ok target) = if is_public target.room then top_place public target.name else Some target
-placed public name (Err why) = deep_place public (name_of (local_name name))
+placed public name (Err why) = deep_place public (is_home name) (name_of (local_name name))
 
 -- the place of a file that arrives under this name, if it has one
 abbrev pub place_in : Public → (name : List ℕ) → Option Spot
@@ -137,20 +142,22 @@ is_spooled (Err why) = false
 abbrev pub front_of : (folder : List ℕ) → List ℕ
 front_of folder = if length folder == 0 then [] else folder ++ codes "/"
 
-abbrev pub is_folder_path : Public → (path : List ℕ) → Bool
-is_folder_path public path =
-    ends_with nat_eq path (codes "/") || (length path == 0 || has_name public.folders path)
+-- it exists, or its path ends in a slash
+abbrev pub is_folder_at : Public → (home : Bool) → (path : List ℕ) → Bool
+is_folder_at public home path =
+    let folder = without_slash path in
+    length folder == 0 || (has_name public.folders folder || (home && ends_with nat_eq path (codes "/")))
 
-abbrev pub front_in : Public → (path : List ℕ) → Option (List ℕ)
-front_in public path = if is_folder_path public path then Some (front_of (without_slash path)) else None
+abbrev pub front_in : Public → (home : Bool) → (path : List ℕ) → Option (List ℕ)
+front_in public home path = if is_folder_at public home path then Some (front_of (without_slash path)) else None
 
 abbrev pub landing_by : (source target : List ℕ) → (front : Option (List ℕ)) → List ℕ
 landing_by source target None = target
 landing_by source target (Some front) = unwrap_or (name_of (codes "~/" ++ front ++ last_part source)) target
 
--- A file sent to the public folder, to a folder below it, or to a path that ends in a slash, is stored there under the
--- last part of its source's name. Any other target stays as it is, and so does one whose path would be too long.
+-- A file sent to the public folder, to a folder below it, or to a path `~/PATH/`, is stored there under the last part of
+-- its source's name. Any other target stays as it is, and so does one whose path would be too long.
 abbrev pub landing : Public → (source target : List ℕ) → List ℕ
 landing public source target =
     if is_spooled (spot_of target) then target
-    else landing_by source target (front_in public (local_name target))
+    else landing_by source target (front_in public (is_home target) (local_name target))

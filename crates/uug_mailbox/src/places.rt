@@ -2,7 +2,7 @@
 ghost use Rattle.std.specs.Path.{rsplit_once, slash};
 ghost use Rattle.std.specs.Prelude.{◌≡◌, ◌++◌, MatchOption, None, Some, codes, true};
 ghost use Rattle.uug_mailbox.specs.FolderRules.{without_slash};
-ghost use Rattle.uug_mailbox.specs.Places.{deep_by, deep_place, front_of, is_blocked, is_folder_path, is_path_from, is_public_last, is_public_name, is_public_path, is_spooled, is_taken, landing, last_part, may_begin, may_hold, place_in, placed, shown_public, takes, temp_name, top_place};
+ghost use Rattle.uug_mailbox.specs.Places.{deep_by, deep_place, front_of, is_blocked, is_folder_at, is_home, is_path_from, is_public_last, is_public_name, is_public_path, is_spooled, is_taken, landing, last_part, may_begin, may_hold, place_in, placed, shown_public, takes, temp_name, top_place};
 ghost use Rattle.uug_spool.specs.SpoolNames.{local_name, spot_of};
 ghost use Rattle.uug_talk.specs.Name.{name_of};
 
@@ -68,7 +68,7 @@ fn is_public_name(name: &Name) -> bool
 
 impl<A: Allocator> PublicFolder<A> {
     /// Returns the place of a file that arrives under this name, or `None` if it has none. The place may be in a folder
-    /// below the public folder. A missing folder is no obstacle, but a file or a link on the path is.
+    /// below the public folder. For a name `~/PATH` that folder may be missing, but no file or link may be in its place.
     pub fn place_in(&self, name: &Name) -> Option<Spot>
         ensures { result ≡ place_in (shown_public self.now) name.now }
     {
@@ -103,7 +103,10 @@ impl<A: Allocator> PublicFolder<A> {
                     Some(target)
                 }
             }
-            Err(_) => self.deep_place(&Name::new(local_name(name.as_bytes())).ok()),
+            Err(_) => {
+                let path = Name::new(local_name(name.as_bytes())).ok();
+                self.deep_place(is_home(name.as_bytes()), &path)
+            }
         }
     }
 
@@ -129,22 +132,22 @@ impl<A: Allocator> PublicFolder<A> {
         }
     }
 
-    fn deep_place(&self, name: &Option<Name>) -> Option<Spot>
-        ensures { result ≡ deep_place (shown_public self.now) name.now }
+    fn deep_place(&self, home: bool, name: &Option<Name>) -> Option<Spot>
+        ensures { result ≡ deep_place (shown_public self.now) home name.now }
     {
         match name {
-            Some(name) => self.deep_by(name),
+            Some(name) => self.deep_by(home, name),
             None => None,
         }
     }
 
-    /// Returns whether the folder of this path exists, or can be created.
-    fn may_hold(&self, folder: &[u8]) -> bool
-        ensures { result ≡ may_hold (shown_public self.now) folder.now }
+    /// Returns whether the folder of this path exists, or can be created for a name that begins with `~/`.
+    fn may_hold(&self, home: bool, folder: &[u8]) -> bool
+        ensures { result ≡ may_hold (shown_public self.now) home folder.now }
     {
         is_path(folder)
             && (has_name(self.folders.as_slice(), folder)
-                || !(self.is_closed || self.is_blocked(folder)))
+                || home && !(self.is_closed || self.is_blocked(folder)))
     }
 
     /// Returns whether something that is not a folder has this path, or one above it.
@@ -157,15 +160,16 @@ impl<A: Allocator> PublicFolder<A> {
     }
 
     /// Returns the place of this name in a folder below the public folder.
-    fn deep_by(&self, name: &Name) -> Option<Spot>
-        ensures { result ≡ deep_by (shown_public self.now) name.now (rsplit_once slash name.now) }
+    fn deep_by(&self, home: bool, name: &Name) -> Option<Spot>
+        ensures { result ≡ deep_by (shown_public self.now) home name.now
+            (rsplit_once slash name.now) }
     {
         let Some((folder, last)) = split_last(name.as_str()) else {
             return None;
         };
         let is_taken = has_name(self.folders.as_slice(), name.as_bytes())
             || has_name(self.barred.as_slice(), name.as_bytes());
-        if self.may_hold(folder.as_bytes()) && is_public_last(last.as_bytes()) && !is_taken {
+        if self.may_hold(home, folder.as_bytes()) && is_public_last(last.as_bytes()) && !is_taken {
             Some(Spot {
                 room: Room::Public,
                 name: *name,
@@ -178,7 +182,7 @@ impl<A: Allocator> PublicFolder<A> {
 
 impl<A: Allocator> PublicFolder<A> {
     /// Returns the name under which a file called `source` and sent to `target` is stored. If `target` is the public
-    /// folder, a folder below it, or ends in a slash, the file is stored there under the last part of `source`. Any
+    /// folder, a folder below it, or a path `~/PATH/`, the file is stored there under the last part of `source`. Any
     /// other target stays as it is, and so does one whose path would be too long.
     pub fn landing(&self, source: &Name, target: &Name) -> Name
         ensures { result ≡ landing (shown_public self.now) source.now target.now }
@@ -187,7 +191,7 @@ impl<A: Allocator> PublicFolder<A> {
             return *target;
         }
         let path = local_name(target.as_bytes());
-        if !self.is_folder_path(path) {
+        if !self.is_folder_at(is_home(target.as_bytes()), path) {
             return *target;
         }
         match below_home(without_slash(path), last_part(source)) {
@@ -196,12 +200,22 @@ impl<A: Allocator> PublicFolder<A> {
         }
     }
 
-    /// Returns whether a path below the public folder means a folder: that folder exists, or the path ends in a slash.
-    fn is_folder_path(&self, path: &[u8]) -> bool
-        ensures { result ≡ is_folder_path (shown_public self.now) path.now }
+    /// Returns whether a path below the public folder means a folder: that folder exists, or it was written `~/PATH/`.
+    fn is_folder_at(&self, home: bool, path: &[u8]) -> bool
+        ensures { result ≡ is_folder_at (shown_public self.now) home path.now }
     {
-        path.ends_with(b"/") || path.is_empty() || has_name(self.folders.as_slice(), path)
+        let folder = without_slash(path);
+        folder.is_empty()
+            || has_name(self.folders.as_slice(), folder)
+            || home && path.ends_with(b"/")
     }
+}
+
+/// Returns whether a name begins with `~/`.
+fn is_home(name: &[u8]) -> bool
+    ensures { result ≡ is_home name.now }
+{
+    name.starts_with(b"~/")
 }
 
 /// Returns whether a name belongs to the spool, and not to the public folder.

@@ -22,7 +22,7 @@ use std::fs::File;
 use std::net::Net;
 use std::rt::Files;
 use uug_disk::{
-    DirLock, NoFile, OpenJobs, SystemFolder, SystemText, lock_dir, open_jobs, read_send,
+    DirLock, NoFile, OpenJobs, SystemFolder, SystemText, lock_dir, mark_done, open_jobs, read_send,
 };
 use uug_failure::{EndDir, RunFault, SystemFailure};
 use uug_folder::FolderSpool;
@@ -196,9 +196,21 @@ fn run_locked<
         called,
         answer,
     } = run_both(alloc, rt, run.socket, parts, injector, observer, output)?;
+    mark_copies(alloc, rt, dir_a, &caller);
+    mark_copies(alloc, rt, dir_b, &called);
     drop(caller);
     drop(called);
     answer
+}
+
+/// Marks the queued copies whose jobs are done. Without memory for that, they stay.
+fn mark_copies<A: Allocator + Copy, R: Files>(
+    alloc: A,
+    rt: &R,
+    dir: EndDir<'_>,
+    end: &SystemEnd<'_, R, A>,
+) {
+    let _ = mark_done(alloc, rt, dir, end.buffered.node().queue().struck());
 }
 
 /// Begins the sessions of both ends, and runs them. Returns both ends after that: each has run the session that began

@@ -109,11 +109,9 @@ where
     };
     let cancelled = cancel_in(alloc, &mut store, queue.pending(), word);
     let failure = store.file.failure();
+    settle_copies(alloc, rt, lock);
     match cancelled {
-        Ok(Some(job)) => {
-            settle_copies(alloc, rt, lock);
-            Ok(Answer::Cancelled(job))
-        }
+        Ok(Some(job)) => Ok(Answer::Cancelled(job)),
         Ok(None) => Ok(Answer::Unknown(queue.pending().len())),
         Err(_) => Err(fault_of(failure)),
     }

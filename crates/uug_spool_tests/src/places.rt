@@ -9,7 +9,7 @@ use uug_session::{FileLimit, KeepFault, Partials, Spool};
 use uug_spool::MemoryDisk;
 
 /// A source, a target, and the name of the file's place in the public folder.
-const ROWS: [(&str, &str, Option<&str>); 16] = [
+const ROWS: [(&str, &str, Option<&str>); 18] = [
     ("/srv/f", "~/x", Some("x")),
     ("/srv/f", "~/", Some("f")),
     ("/srv/f", "~/in", Some("in/f")),
@@ -24,6 +24,8 @@ const ROWS: [(&str, &str, Option<&str>); 16] = [
     ("/srv/f", "~/in/../x", None),
     ("/srv/f", "~/in//x", None),
     ("/srv/f", "~/theirs/x", None),
+    ("/srv/f", "/etc/x", None),
+    ("/srv/f", "/etc/", None),
     ("/srv/.f", "~/", None),
     ("/srv/theirs", "~/", None),
 ];

@@ -500,8 +500,8 @@ fn lock_again<A: Allocator + Copy, R: Files<File = File> + Alloc + Clone + Drop>
     }
 }
 
-/// Makes the end over its folder as it is now, and talks over its line. After a session without a fault, the copies of
-/// its jobs go where these have gone.
+/// Makes the end over its folder as it is now, and talks over its line. After the session, the copies of its jobs go
+/// where these have gone.
 fn talk_locked<A, R, L, W, O>(
     run: &EndRun<'_, A, R>,
     lock: &DirLock<A>,
@@ -545,9 +545,7 @@ where
     }
     let answer = answer_with(has_failed(task, failed), answer);
     drop(end);
-    if answer.is_ok() {
-        settle_copies(alloc, rt, lock);
-    }
+    settle_copies(alloc, rt, lock);
     Outcome {
         answer: Ended::of(answer, failure),
         remark,
