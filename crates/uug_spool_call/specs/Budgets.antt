@@ -1,4 +1,4 @@
--- How much a session offers of what waits for a system (this project's profile).
+-- How much of the work that waits for a system a session offers (this project's profile).
 use Rattle.std.specs.Borrow.{Bor}
 use Rattle.std.specs.Prelude.{◌&&◌, ◌||◌, ◌-◌, [], ◌∷◌, not, ℕ, Bool, true, false, List, Option, Some, None, nat_le, nat_lt}
 use Rattle.uug_spool.specs.WorkOrder.{grade_of}
@@ -9,12 +9,12 @@ is_as_high None lowest = false
 is_as_high (Some grade) [] = false
 is_as_high (Some grade) (lowest ∷ more) = nat_le grade lowest
 
--- a C. file is offered whose grade is the lowest that is named, or a higher one; each where none is named
+-- a C. file is offered if its grade is `lowest` or higher; without a lowest grade, all are
 abbrev pub is_offered : (lowest : Option (Bor (List ℕ))) (name : List ℕ) → Bool
 is_offered None name = true
 is_offered (Some lowest) name = is_as_high (grade_of name) lowest.now
 
--- a job with a file of this size is offered: the first one, and each one for which there is room
+-- whether a job with a file of this size is offered: the first one always is, and any other if there is room
 abbrev pub budget_fits : Budget → (size : ℕ) → Bool
 budget_fits b size = b.is_first || (nat_le size b.bytes && nat_lt 0 b.jobs)
 

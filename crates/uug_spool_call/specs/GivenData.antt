@@ -1,4 +1,4 @@
--- Which file is given for a job (this project's profile): that which its line names.
+-- The file that is given for a job: the one that its line names (this project's profile).
 use Rattle.std.specs.List.{list_all}
 use Rattle.std.specs.Prelude.{◌≡◌, ℕ, true, List, ◌++◌, if◌then◌else◌}
 use Rattle.std.specs.Str.{bytes_eq}
@@ -9,7 +9,7 @@ use Rattle.uug_spool.specs.CommandLines.{has_option}
 abbrev pub data_name : (options source temp : List ℕ) → List ℕ
 data_name options source temp = if has_option 67 options then temp else source
 
--- behind what stood there come only files of this name
+-- only files of this name are appended
 pub record AddsNamed {A : Type 0} (name : List ℕ) (files files_after : List (Stored A)) : Type 0 where
   pub more : List (Stored A)
   pub is_all : files_after ≡ files ++ more

@@ -1,4 +1,5 @@
--- The public folder, and how names in it are written in the jobs of a spool (that it stands beside the spool, and that a job has its path, is Taylor UUCP's; the rest is this project's profile).
+-- The public folder, and how the jobs of a spool name its files (that the folder is beside the spool, and that jobs
+-- have its path, is Taylor UUCP's; the rest is this project's profile).
 use Rattle.std.specs.Borrow.{Bor}
 use Rattle.std.specs.List.{ends_with, list_all, starts_with}
 use Rattle.std.specs.Option.{option_map, unwrap_or}
@@ -22,7 +23,7 @@ abbrev pub folder_by : (parts : Option (List ℕ × List ℕ)) → Option (List 
 folder_by None = None
 folder_by (Some parts) = if length parts.1 == 0 then None else Some parts.0
 
--- the folder in which a spool stands, where its path is whole and ends in a name
+-- the path of the folder that holds a spool, if the spool's path is absolute and ends in a name
 abbrev pub folder_of : (spool : List ℕ) → Option (List ℕ)
 folder_of spool = if starts_with nat_eq spool (codes "/") then folder_by (rsplit_once slash spool) else None
 
@@ -30,18 +31,18 @@ abbrev pub public_in : (spool : List ℕ) (folder : Option (List ℕ)) → List 
 public_in spool None = spool ++ codes "/../uucppublic"
 public_in spool (Some folder) = folder ++ codes "/uucppublic"
 
--- that beside a spool
+-- the public folder beside a spool
 abbrev pub public_beside : (spool : List ℕ) → List ℕ
 public_beside spool = public_in spool (folder_of spool)
 
--- the one that is named, else that beside the spool
+-- the public folder that is named, or else the one beside the spool
 abbrev pub public_path : (spool : List ℕ) (named : Option (Bor (List ℕ))) → List ℕ
 public_path spool None = public_beside spool
 public_path spool (Some named) = without_slash named.now
 
 -- ---- names in it
 
--- what stands behind its path in a name, the slash first
+-- the rest of a name after the path of the public folder, the slash first
 abbrev pub behind_public : (public name : List ℕ) → Option (List ℕ)
 behind_public public name =
     let rest = drop (length public) name in
@@ -51,13 +52,14 @@ abbrev pub named_by : (name : List ℕ) (behind : Option (List ℕ)) → List �
 named_by name None = name
 named_by name (Some rest) = unwrap_or (name_of (codes "~" ++ rest)) name
 
--- A session has ~ in the place of its path. Each other name stays, and so does one that would get too long.
+-- A session writes ~ for the path of the public folder. Any other name stays as it is, and so does one that would be
+-- too long.
 abbrev pub public_name : (public name : List ℕ) → List ℕ
 public_name public name = named_by name (behind_public public name)
 
 -- ---- the files in it
 
--- One is given under its name there, or under ~/ and its path where it is in a folder there.
+-- A file is given under its name in the public folder, or under ~/ and its path if it is in a folder there.
 abbrev pub path_of : (name : List ℕ) → Option (List ℕ)
 path_of name = name_of (local_name name)
 
@@ -65,15 +67,15 @@ abbrev pub is_given_at : (folders : List ℕ) (path : Option (List ℕ)) → Boo
 is_given_at folders None = false
 is_given_at folders (Some path) = is_public_path path && is_allowed folders path
 
--- one whose path may be said is given where the list of folders allows it
+-- a file is given if its path is valid in a session and the list of folders allows it
 abbrev pub is_given : (folders name : List ℕ) → Bool
 is_given folders name = is_given_at folders (path_of name)
 
--- as everybody may read it: octal 644
+-- its mode is octal 644: everybody may read it
 abbrev pub is_public_file : {A : Type 0} → (folders : List ℕ) → Stored A → Bool
 is_public_file folders file = is_given folders file.name && file.mode == 420
 
--- What an end gives of its jobs stays in front, and behind it come such files.
+-- The files that an end gives for its jobs stay first. Only files of the public folder that may be given are appended.
 pub record AddsPublic {A : Type 0} (folders : List ℕ) (files files_after : List (Stored A)) : Type 0 where
   pub more : List (Stored A)
   pub is_all : files_after ≡ files ++ more
@@ -81,7 +83,7 @@ pub record AddsPublic {A : Type 0} (folders : List ℕ) (files files_after : Lis
 
 -- ---- the jobs
 
--- a file that is asked for comes under such a name
+-- the target of a request is written as a session writes it
 abbrev pub named_job : (public : List ℕ) → Job → Job
 named_job public (Request source target user) = Request source (public_name public target) user
 named_job public (Send source target user temp) = Send source target user temp

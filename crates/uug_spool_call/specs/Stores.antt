@@ -1,4 +1,4 @@
--- Shows what stands on the disk of an end over a spool (this project's profile).
+-- The state of the disk of an end over a spool, as clauses see it (this project's profile).
 use Rattle.std.specs.Prelude.{Some, None}
 use Rattle.uug_mailbox.specs.OpenLines.{jobs_of}
 use Rattle.uug_mailbox.specs.WorkStores.{lines_of}
@@ -6,7 +6,7 @@ use Rattle.uug_mailbox.specs.declared.work_store.WorkStore.{WorkStore}
 use Rattle.uug_spool_disk.specs.declared.spool_disk.SpoolDisk.{SpoolDisk}
 use Rattle.uug_transfer.specs.Moments.{DiskNow}
 
--- the jobs of its C. files; such an end keeps no number, and its disk does not tell what was written
+-- the jobs of its C. files; the end keeps no number, and its disk does not expose the notices of failed jobs
 abbrev pub store_now : {R A : Type 0} → WorkStore (SpoolDisk R A) A → DiskNow
 store_now store = record {
   jobs = Some (jobs_of (lines_of store));

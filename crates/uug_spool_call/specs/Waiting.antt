@@ -9,7 +9,7 @@ abbrev pub is_offer : Result Offer NotOffered → Bool
 is_offer (Ok offer) = true
 is_offer (Err why) = false
 
--- one that a session offers, or one without a word
+-- a line that a session can offer, or a blank one
 abbrev pub is_shown : (line : List ℕ) → Bool
 is_shown line = is_blank line || is_offer (offer_of line)
 

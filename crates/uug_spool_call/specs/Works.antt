@@ -2,7 +2,7 @@
 use Rattle.std.specs.Prelude.{◌≡◌, ◌+◌, ◌^◌, ◌-◌, ◌++◌, min}
 use Rattle.uug_spool_call.specs.declared.work.Work.{Work}
 
--- Each list of what waits in a further C. file stands behind that of those before, and nothing of it is lost.
+-- Each list of a further C. file is appended to that of the files before, and nothing of it is lost.
 pub record IsAppended {A : Type 0} (before more after : Work A) : Type 0 where
   pub names : after.names.items ≡ before.names.items ++ more.names.items
   pub lines : after.lines.items ≡ before.lines.items ++ more.lines.items

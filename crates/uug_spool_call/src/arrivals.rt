@@ -1,4 +1,4 @@
-//! The files that a session which was stopped has left between their arrival and their places.
+//! The received files that an interrupted session had not yet moved into their places.
 ghost use Rattle.std.specs.Prelude.{◌≡◌, IfErr, None, Option};
 ghost use Rattle.uug_failure.specs.Faults.{IsFolderFault};
 ghost use Rattle.uug_mailbox.specs.Places.{shown_public};
@@ -14,29 +14,29 @@ use uug_spool::{Disk, Room, Spot, finish, spot_of};
 use uug_spool_disk::{SpoolDisk, SpoolPaths, is_no_place, is_there, list_room, read_spot};
 use uug_talk::{FILE_MAX, Name};
 
-/// Tells what became of the files that had arrived.
+/// The outcome for files that earlier sessions received.
 #[derive(Drop)]
 pub(crate) struct Arrivals<A: Allocator> {
-    /// The markers that stand now.
+    /// The markers that exist now, without the empty ones that uucico makes.
     pub(crate) came: Vec<Came<A>, A>,
-    /// The files that were set aside, since they can't be put in their places.
+    /// The files that were set aside, because they can't be stored in their places.
     pub(crate) aside: Vec<Unread, A>,
 }
 
-/// Tells what became of a file that had arrived.
+/// The outcome for one file that an earlier session received.
 #[derive(Clone, Copy)]
 enum Landing {
-    /// Its marker stands.
+    /// Its marker exists.
     Stands,
-    /// Its marker is gone.
+    /// Its marker was removed, or no file is accepted under the marker's name.
     Over,
-    /// It was set aside, since it can't be put in this place.
+    /// It was set aside, for this cause: it can't be stored in this place, or has none.
     Aside(Option<Spot>, Cause),
 }
 
-/// Puts each file in its place that stands whole beside its marker, and gives the markers that stand then. Those of files in the
-/// public folder are taken away: another file may come there under the same name. What can't be put in its place there is set
-/// aside, and its name is barred in this session.
+/// Moves each complete file in `.Temp` that has a marker into its place, and returns the markers that exist then. The
+/// markers of files in the public folder are removed: another file may be sent under the same name. A file that can't
+/// be stored in the public folder is set aside. Its place there, if it has one, is barred in this session.
 pub(crate) fn finish_arrivals<A: Allocator + Copy, R: Files<File = File> + Alloc + Clone + Drop>(
     alloc: A,
     rt: &R,
@@ -56,7 +56,7 @@ pub(crate) fn finish_arrivals<A: Allocator + Copy, R: Files<File = File> + Alloc
     Ok(arrivals)
 }
 
-/// The same of the file of this marker. One that uucico has made is empty, and is none of these.
+/// Does the same for the file of this marker. Skips an empty marker: uucico made it.
 fn finish_one<A: Allocator + Copy, R: Files<File = File>>(
     arrivals: &mut Arrivals<A>,
     alloc: A,
@@ -101,7 +101,8 @@ fn finish_one<A: Allocator + Copy, R: Files<File = File>>(
     Ok(())
 }
 
-/// Puts the file of this marker and text in its place, if it stands whole beside it, or sets it aside.
+/// Moves the file of this marker and text into its place, if it is in `.Temp`, or sets it aside. Removes the marker of
+/// a file in the public folder.
 fn land<A: Allocator + Copy, R: Files<File = File>>(
     alloc: A,
     rt: &R,
@@ -140,8 +141,8 @@ fn land<A: Allocator + Copy, R: Files<File = File>>(
     Ok(landing)
 }
 
-/// The place in the public folder of a file with a marker of this name and text, if it has one there now: the text is the name that it
-/// has there.
+/// Returns the place in the public folder of the file with a marker of this name and text, if it has one there now. The
+/// text is the file's name in that folder.
 fn place_of_arrival<A: Allocator>(
     public: &PublicFolder<A>,
     marker: &Name,
@@ -155,7 +156,7 @@ fn place_of_arrival<A: Allocator>(
     }
 }
 
-/// This place, if it is one of a file that had that name while it came.
+/// Returns this place, if a file for it has the marker's name while it is received.
 fn landed(marker: &Name, target: Option<Spot>) -> Option<Spot>
     ensures { result ≡ landed marker.now target }
 {
@@ -165,7 +166,8 @@ fn landed(marker: &Name, target: Option<Spot>) -> Option<Spot>
     }
 }
 
-/// Puts a file in its place in the public folder, or sets it aside where it has none, or the system says that none is there.
+/// Moves a file into its place in the public folder. Sets it aside if it has no place, or if the system reports that no
+/// file can be put there.
 fn land_public<A: Allocator + Copy, R: Files<File = File>>(
     alloc: A,
     rt: &R,
@@ -194,7 +196,7 @@ fn land_public<A: Allocator + Copy, R: Files<File = File>>(
     Ok(Landing::Aside(Some(place), failure.cause))
 }
 
-/// Returns whether the system says that a file can't be put at a path, whatever is tried.
+/// Returns whether a failure with this cause means that a file can't be put at a path, whatever is tried.
 fn is_refused(cause: Cause) -> bool {
     match cause {
         Cause::Refused(kind, _) => is_no_place(kind),
@@ -202,7 +204,7 @@ fn is_refused(cause: Cause) -> bool {
     }
 }
 
-/// Gives a file that has come a name of its own among those that are preserved, and sees that on the device.
+/// Moves a received file to the preserved files, under a free name, and syncs both folders.
 fn set_aside<A: Allocator + Copy, R: Files<File = File>>(
     alloc: A,
     rt: &R,
@@ -225,7 +227,7 @@ fn set_aside<A: Allocator + Copy, R: Files<File = File>>(
     Ok(())
 }
 
-/// Returns why a call of the system on the spool failed.
+/// Returns the fault of the failed system call on the spool.
 fn failed<R, A: Allocator>(disk: &SpoolDisk<'_, '_, R, A>) -> RunFault
     ensures { IsFolderFault result }
 {

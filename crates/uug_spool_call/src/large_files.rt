@@ -1,4 +1,4 @@
-//! The files of jobs that are too large to be sent, of which an end tells before its line opens.
+//! The files of jobs that are too large to be sent. An end reports them before its line opens.
 
 use crate::spool_call::{SpoolCall, paths_of};
 use crate::telling::tell_fault;
@@ -15,8 +15,8 @@ use uug_spool::{Command, Fields, Room, SentFile, Spot, data_spot, has_option, re
 use uug_spool_disk::{SpoolPaths, read_whole};
 use uug_talk::{Name, split_line};
 
-/// Tells of each file that waits for this system and is over the limit, on standard error and in the log. What can't be
-/// read is left out.
+/// Reports each file that waits for this system and is over the limit, on standard error and in the log. Whatever can't
+/// be read is skipped.
 pub fn tell_large<A, R>(alloc: A, rt: &R, call: &SpoolCall<'_>, system: Name)
 where
     A: Allocator + Copy,
@@ -39,7 +39,7 @@ where
     }
 }
 
-/// Tells of the files that are too large of the lines of a C. file.
+/// Reports the files over the limit that the lines of a C. file send.
 fn tell_in<A, R>(alloc: A, rt: &R, call: &SpoolCall<'_>, paths: &SpoolPaths<A>, text: &[u8])
 where
     A: Allocator + Copy,
@@ -52,7 +52,7 @@ where
     }
 }
 
-/// Tells of the file that a line sends, if it is too large.
+/// Reports the file that a line sends, if it is over the limit.
 fn tell_line<A, R>(
     alloc: A,
     rt: &R,
@@ -79,7 +79,7 @@ where
     Ok(())
 }
 
-/// Returns the path of the file that a line sends, if it sends one that a session offers.
+/// Returns the path of the file that a line sends, if it sends one and a session can offer the line.
 fn sent_path<A: Allocator + Copy>(
     alloc: A,
     paths: &SpoolPaths<A>,
@@ -95,7 +95,8 @@ fn sent_path<A: Allocator + Copy>(
     }
 }
 
-/// Returns the path of the file that a job sends: that of its copy, or that which a person named.
+/// Returns the path of the file that a job sends: its copy, or the file that a user named. Returns `None` if the copy
+/// has no valid name, or the path is not absolute or not UTF-8.
 fn path_of<A: Allocator + Copy>(
     alloc: A,
     paths: &SpoolPaths<A>,

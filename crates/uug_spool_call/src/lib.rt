@@ -1,5 +1,5 @@
-//! One end over a spool of Taylor UUCP, at its line: what waits for a system, the session, and what is told of it. Also the status
-//! of a system's part of a spool.
+//! One end over a Taylor UUCP spool, at its line: the work that waits for a system, the session, and its reports. Also
+//! the status of a system's part of a spool.
 #![tactic(auto)]
 
 mod arrivals;

@@ -1,5 +1,6 @@
-//! Mail to those whose jobs have failed. It goes as if the other system had sent it: an execution file that has `uuxqt` deliver its
-//! data. What can't be written is left out; the file of what was told has it all the same.
+//! Mail to users whose jobs have failed. It is stored as if the other system had sent it: data, and an execution file
+//! that makes `uuxqt` deliver it. If a mail can't be written, the rest is skipped; the list of failed jobs has the
+//! notices all the same.
 
 use crate::telling::{SessionOver, Teller};
 use std::alloc::{AllocError, Allocator};
@@ -16,10 +17,11 @@ use uug_talk::Name;
 /// The grade in the names of this mail.
 const GRADE: u8 = b'M';
 
-/// The most numbers in a row that may be in use.
+/// The maximum number of attempts to find free names for a mail.
 const NUMBERS_IN_USE_MAX: u32 = 10_000;
 
-/// Mails to each whose job has failed. Where a command and its data have, it is one mail.
+/// Mails a notice of each failed job. If a command and its data have both failed, there is one mail. Stops at the first
+/// mail that can't be written.
 pub(crate) fn mail_failed<S, A, R>(
     teller: &Teller<'_, '_, A, R>,
     me: &Name,
@@ -48,7 +50,8 @@ where
     }
 }
 
-/// Mails that a job has failed, under these names: to who asks for its command, else to its user.
+/// Writes the mail about a failed job under these names. It is addressed to the user who asks for the job's command, or
+/// else to the job's user. Returns `None` if that fails.
 fn mail_job<A: Allocator + Copy, R: Files<File = File> + Clock>(
     teller: &Teller<'_, '_, A, R>,
     me: &Name,
@@ -69,7 +72,7 @@ fn mail_job<A: Allocator + Copy, R: Files<File = File> + Clock>(
     replace(&mut disk, execution, command.as_bytes()).ok()
 }
 
-/// The places of the next mail: names that no file has, of this number or one behind it.
+/// Returns the places of the next mail, with names that no file has. Advances `number` to the one in these names.
 fn free_names<A: Allocator + Copy, R: Files>(
     teller: &Teller<'_, '_, A, R>,
     me: &Name,
@@ -95,7 +98,8 @@ fn free_names<A: Allocator + Copy, R: Files>(
     None
 }
 
-/// Returns where the copy of this job's data was preserved, if it was: that of a command goes with its text too.
+/// Returns the path at which the copy of this job's data was preserved, if it was. For a job that sends an execution
+/// file, it is the copy of the command's data.
 fn preserved_at<'a, A: Allocator>(over: &SessionOver<'a, A>, job: &Job) -> Option<&'a str> {
     let name = copy_of(over.executions, job)?;
     for file in over.preserved {
@@ -106,7 +110,8 @@ fn preserved_at<'a, A: Allocator>(over: &SessionOver<'a, A>, job: &Job) -> Optio
     None
 }
 
-/// The name of the copy of this job's data.
+/// Returns the name of the copy of this job's data. For a job that sends an execution file, it is the copy of the
+/// command's data.
 fn copy_of(executions: &[Execution], job: &Job) -> Option<Name> {
     for execution in executions {
         if is_among(&[execution.text], job) {
@@ -123,7 +128,7 @@ fn temp_of(job: &Job) -> Option<Name> {
     }
 }
 
-/// The execution file that has the mail delivered.
+/// Returns the text of the execution file that makes `uuxqt` deliver the mail.
 fn command_text<A: Allocator>(
     alloc: A,
     me: &Name,
@@ -136,12 +141,12 @@ fn command_text<A: Allocator>(
     format!(in alloc; "U uucp {me}\nF {data}\nI {data}\nN\nC rmail {user}\n")
 }
 
-/// The last two digits of a number.
+/// Returns the last two digits of a number.
 fn two_digits(number: u8) -> (u8, u8) {
     (number / 10 % 10, number % 10)
 }
 
-/// Returns what is mailed of data that was preserved at this path.
+/// Returns the lines of a mail about data that was preserved at this path. They are empty without a path.
 fn saved_words<A: Allocator>(alloc: A, path: Option<&str>) -> Result<String<A>, AllocError> {
     match path {
         Some(path) => format!(in alloc; "\nFile saved as\n{path}\n"),
@@ -149,7 +154,7 @@ fn saved_words<A: Allocator>(alloc: A, path: Option<&str>) -> Result<String<A>, 
     }
 }
 
-/// Returns the text of a mail, at this moment, about a job that has failed.
+/// Returns the text of a mail, written at this moment, about a job that has failed.
 fn mail_text<A: Allocator + Copy>(
     alloc: A,
     moment: &Moment,

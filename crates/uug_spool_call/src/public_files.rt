@@ -15,13 +15,14 @@ use uug_spool::local_name;
 use uug_spool_disk::{PublicListing, SpoolPaths, list_below, list_public, read_public};
 use uug_talk::{FILE_LIMIT_MAX, Name};
 
-/// The most names of the public folder that are looked at.
+/// The maximum number of names in and below the public folder that are considered.
 const PUBLIC_NAMES_MAX: usize = 1024;
 
 /// The mode of the given files: everybody may read them.
 const GIVEN_MODE: u16 = 0o644;
 
-/// Lists what stands in the public folder. Notes where the system fails to read it: nothing is known of it then.
+/// Lists the paths below the public folder. If the system fails to list it, notes that in `ungiven`, and returns an
+/// unknown listing.
 pub(crate) fn look_at_public<A: Allocator + Copy, R: Files + Alloc + Clone + Drop>(
     ungiven: &mut Vec<Unread, A>,
     alloc: A,
@@ -39,15 +40,15 @@ pub(crate) fn look_at_public<A: Allocator + Copy, R: Files + Alloc + Clone + Dro
     }
 }
 
-/// The parameters that the functions share which give files of the public folder.
+/// The shared parameters of the functions that give files of the public folder.
 #[derive(Drop)]
 pub(crate) struct Giver<'a, A: Allocator, R> {
     alloc: A,
     rt: &'a R,
     paths: &'a SpoolPaths<A>,
-    /// The folders of which files are given: a list of them (see `is_allowed`).
+    /// The list of folders from which files are given (see `is_allowed`).
     folders: &'a str,
-    /// The bytes that all files of the end have together at most.
+    /// The maximum total size of the end's files, in bytes.
     most: u64,
 }
 
@@ -66,8 +67,8 @@ impl<'a, A: Allocator, R> Giver<'a, A, R> {
     }
 }
 
-/// Adds what an end gives of the public folder to its files: the files right there, and those in folders below it. If the
-/// system fails to list one of these, that is noted, and each file may be given later.
+/// Adds the files that an end gives of the public folder: files directly in it, and files in the folders below it. If
+/// the system fails to list a folder below, notes that in `ungiven`. Any file may then be given later.
 pub(crate) fn add_given<A: Allocator + Copy, R: Files<File = File> + Alloc + Clone + Drop>(
     files: &mut Vec<Stored<A>, A>,
     ungiven: &mut Vec<Unread, A>,
@@ -87,7 +88,7 @@ pub(crate) fn add_given<A: Allocator + Copy, R: Files<File = File> + Alloc + Clo
     add_public(files, ungiven, giver, names.as_slice())
 }
 
-/// Returns the first names of the public folder itself, as many as are looked at.
+/// Returns the first names directly in the public folder, at most `PUBLIC_NAMES_MAX`.
 fn top_names<A: Allocator>(alloc: A, others: &[Name]) -> Result<Vec<Name, A>, AllocError> {
     let mut names = Vec::new(alloc);
     for name in others.iter().take(PUBLIC_NAMES_MAX) {
@@ -98,8 +99,8 @@ fn top_names<A: Allocator>(alloc: A, others: &[Name]) -> Result<Vec<Name, A>, Al
     Ok(names)
 }
 
-/// Adds the names of the files in these folders below the public folder, each with `~/`, the folder's path and a slash in
-/// front. A folder that is barred, or can't be listed, adds none.
+/// Adds the names of the files in these folders below the public folder, as `~/FOLDER/FILE`. A folder that is barred,
+/// or can't be listed, adds none. Stops once there are `PUBLIC_NAMES_MAX` names.
 fn add_names_below<A: Allocator + Copy, R: Files + Alloc + Clone + Drop>(
     names: &mut Vec<Name, A>,
     ungiven: &mut Vec<Unread, A>,
@@ -119,7 +120,8 @@ fn add_names_below<A: Allocator + Copy, R: Files + Alloc + Clone + Drop>(
     Ok(())
 }
 
-/// Adds the names of the files in this folder below the public folder. Notes the folder if the system fails to list it.
+/// Adds the names of the files in this folder below the public folder. Notes the folder in `ungiven` if the system
+/// fails to list it.
 fn add_names_in<A: Allocator + Copy, R: Files + Alloc + Clone + Drop>(
     names: &mut Vec<Name, A>,
     ungiven: &mut Vec<Unread, A>,
@@ -151,9 +153,9 @@ fn add_paths<A: Allocator>(
     Ok(())
 }
 
-/// Adds the files of these names in the public folder to those that an end gives: each that everybody may read and the
-/// list of folders allows, as long as all have so many bytes together at most. One that the system fails to read is
-/// noted.
+/// Adds the files of these names in the public folder that everybody may read, and that the list of folders allows.
+/// Skips a file if all files of the end would exceed the maximum total size. Notes a file in `ungiven` if the system
+/// fails to read it.
 fn add_public<A: Allocator + Copy, R: Files<File = File>>(
     files: &mut Vec<Stored<A>, A>,
     ungiven: &mut Vec<Unread, A>,
@@ -171,7 +173,7 @@ fn add_public<A: Allocator + Copy, R: Files<File = File>>(
     Ok(())
 }
 
-/// Returns the name of the public folder in the names of jobs.
+/// Returns the name of the public folder in jobs: `~`.
 fn public_folder() -> Name {
     let Ok(name) = Name::new(b"~") else {
         unreachable!();
@@ -179,8 +181,8 @@ fn public_folder() -> Name {
     name
 }
 
-/// Returns whether the file of this name may be given: its path below the public folder is one that a session can say,
-/// and the list of folders allows it. A name of a file of the spool is excluded: it means that file.
+/// Returns whether the file of this name may be given: its path below the public folder is valid in a session, and the
+/// list of folders allows it. Names of files of the spool are excluded: in a session they mean those files.
 fn is_given(folders: &str, name: &Name) -> bool
     ensures { result ≡ is_given folders.now name.now }
 {
@@ -237,7 +239,8 @@ fn give<A: Allocator>(
     Ok(())
 }
 
-/// The bytes of a file of the public folder, if it may be given. One that the system fails to read is noted.
+/// Returns the bytes of a file of the public folder, if everybody may read it and it has at most `most` bytes. Notes
+/// the file in `ungiven` if the system fails to read it.
 fn read_given<A: Allocator + Copy, R: Files<File = File>>(
     ungiven: &mut Vec<Unread, A>,
     giver: &Giver<'_, A, R>,

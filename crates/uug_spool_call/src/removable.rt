@@ -1,4 +1,4 @@
-//! A trial whether the lines of C. files can be taken off the disk.
+//! Checks, before a session, that it can remove the lines of C. files from the disk.
 ghost use Rattle.std.specs.Prelude.{IfErr};
 ghost use Rattle.uug_failure.specs.Faults.{IsFolderFault};
 
@@ -10,8 +10,8 @@ use uug_mailbox::OpenLine;
 use uug_spool::{Room, Spot, data_spot};
 use uug_spool_disk::{SpoolPaths, see_removable, see_rewritable};
 
-/// Checks that a session can take these lines off the disk, each with its copy. A job whose line stays would be sent
-/// again in each session.
+/// Checks that a session can remove these lines from the disk, each with its copy, and can rewrite the C. file of the
+/// first. A job whose line stays would be sent again in each session.
 pub(crate) fn see_lines<A: Allocator + Copy, R: Files<File = File>>(
     alloc: A,
     rt: &R,

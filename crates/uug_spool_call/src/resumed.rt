@@ -1,4 +1,5 @@
-//! Files that were cut off: an end over a spool holds what has come of them, in a folder of its system.
+//! The partial files of an end over a spool: the first bytes of files that were cut off, in a folder of the other
+//! system.
 ghost use Rattle.std.specs.Prelude.{◌≡◌, IfOk, is_some};
 
 use crate::spool_call::SpoolCall;
@@ -18,7 +19,7 @@ use uug_spool::LogEvent;
 use uug_spool_disk::SpoolPaths;
 use uug_talk::FileDigest;
 
-/// Reads what an end holds of files that were cut off, if it resumes such files.
+/// Reads the partial files that an end holds, if it resumes.
 pub(crate) fn read_held<A, R>(
     alloc: A,
     rt: &R,
@@ -38,8 +39,7 @@ where
     Ok(Some(held))
 }
 
-/// Does with what an end over a spool holds as `hold_left` says, if the end resumes files that were cut off. The log
-/// has, too, why that can't be done.
+/// Removes and saves partial files as `hold_left` does, if the end resumes. Logs why a file can't be saved.
 pub(crate) fn hold_left_of<A, R>(
     teller: &Teller<'_, '_, A, R>,
     end: &Node<SpoolFiles<'_, '_, R, A>, A>,
@@ -59,8 +59,8 @@ where
     }
 }
 
-/// Removes from the folder at `path` what is held of the files with these digests, which are over, and holds what is
-/// left of another one. If that can't be done, says so on standard error, and returns the line that it says.
+/// Removes the partial files of the digests `over`, which are no longer needed, from the folder at `path`. Saves `left`
+/// there: the first bytes of the file that was cut off. If that fails, prints a line on standard error, and returns it.
 pub fn hold_left<A, R>(
     alloc: A,
     rt: &R,
@@ -84,7 +84,7 @@ where
     }
 }
 
-/// Says on standard error why nothing can be held in the folder at this path, and returns the line.
+/// Prints on standard error why nothing can be saved in the folder at this path, and returns the line.
 fn say_not_held<A: Allocator, R: Eprint>(
     alloc: A,
     rt: &R,

@@ -36,11 +36,11 @@ use uug_spool_disk::{PublicListing, SpoolPaths, is_known, linked_room};
 use uug_stream::{Output, ToolFault, write_all};
 use uug_transfer::{BYTES_MAX, EndLine, PatienceLimits, SessionFault, run_session};
 
-/// What is said if more jobs wait than a session offers.
+/// The words for standard error and the log if more jobs wait than a session offers.
 const MORE: &str = "more jobs wait for the next session";
 
-/// Runs the session of an end over a spool at its line. What was left between its arrival and its place is put there
-/// first. A job that is over is taken off the disk before anything is written that acknowledges it.
+/// Runs the session of an end over a spool at its line. First moves the received files of interrupted sessions into
+/// their places. A job that is over is removed from the disk before anything that acknowledges it is written.
 pub fn talk_over_spool<A, R, L, O>(
     alloc: A,
     rt: &R,
@@ -120,7 +120,7 @@ where
         (end_now ⟦<SpoolFiles<'a, 'p, R, A> as Spool>⟧.holdings
         ⟦<SpoolFiles<'a, 'p, R, A> as Spool>⟧.kept end.new.buffered) }
     ensures over { IsEnded (node_in end.new.buffered).engine.stage }
-    // A job that is over is taken out of its C. files, and nothing else is.
+    // Jobs that are over are removed from their C. files, and no others.
     ensures settles { SettlesJobs result
         (end_now ⟦<SpoolFiles<'a, 'p, R, A> as Spool>⟧.holdings
         ⟦<SpoolFiles<'a, 'p, R, A> as Spool>⟧.kept end.old.buffered)
@@ -141,7 +141,7 @@ where
     )
 }
 
-/// The end over the spool as it stands.
+/// Creates the end over the spool as it is now.
 fn begin<'a, 'p, A, R>(
     alloc: A,
     rt: &'a R,
@@ -200,7 +200,7 @@ where
     Ok(SpoolEnd::begin(alloc, rt, call, place, paths, work, public)?)
 }
 
-/// Says, in the log too, that more jobs wait than the session offers.
+/// Reports, on standard error and in the log, that more jobs wait than the session offers.
 fn tell_more<A, R>(alloc: A, rt: &R, call: &SpoolCall<'_>, paths: &SpoolPaths<A>)
 where
     A: Allocator + Copy,
@@ -210,8 +210,8 @@ where
     tell_fault(alloc, rt, call, *paths.system(), MORE);
 }
 
-/// Refuses a session if a link is in the place of a folder of the spool's own, as it could lead anywhere. Says, in the log
-/// too, which one that is.
+/// Refuses the session if one of the spool's own folders `.Received/SYSTEM` and `.Temp/SYSTEM` is a symbolic link,
+/// which could lead anywhere. Reports which, on standard error and in the log.
 fn refuse_links<A, R>(
     alloc: A,
     rt: &R,
@@ -239,8 +239,8 @@ where
     Err(RunFault::System(paths.end_dir().failure(Resource::Dir, cause)))
 }
 
-/// Returns the program's answer after a session that ended so. `is_left` says whether jobs were put off that could not be
-/// read. Prints the report, unless memory ran out.
+/// Prints the report of an end, unless memory ran out in its session, and returns the program's status. `session` is
+/// the result of its session. `is_left` is whether it put off jobs that could not be read: the status is then 1.
 fn answer_of<S: Spool, A: Allocator + Copy, O: Output>(
     alloc: A,
     side: Side,
@@ -258,7 +258,7 @@ fn answer_of<S: Spool, A: Allocator + Copy, O: Output>(
         → CountsFault (O.fault_count output.old) (O.fault_count output.new) }
     ensures no_other { IfErr result (λ fault. IsFaultAtLine (RunFault.Tool fault)) }
     ensures device { result ≡ Err ToolFault.Device → IsErr session }
-    // What has failed on the disk is never a session that is over.
+    // A session whose results could not be stored on the disk has no status: it is a device fault.
     ensures jobs { session ≡ Err SessionFault.Jobs → result ≡ Err ToolFault.Device }
     ensures number { session ≡ Err SessionFault.Number → result ≡ Err ToolFault.Device }
     ensures memory { session ≡ Err SessionFault.Memory → result ≡ Err ToolFault.Memory }
@@ -279,7 +279,7 @@ fn answer_of<S: Spool, A: Allocator + Copy, O: Output>(
     }
 }
 
-/// Prints how an end stands, and then the jobs that it has given up.
+/// Prints the state of an end, and then the jobs that it has given up.
 fn print_report<S: Spool, O: Output, A: Allocator + Copy>(
     alloc: A,
     side: Side,
@@ -295,7 +295,7 @@ fn print_report<S: Spool, O: Output, A: Allocator + Copy>(
     write_all(output, text.as_bytes())
 }
 
-/// Returns the report of an end, and the jobs that it has given up.
+/// Returns the report of an end: its state, and then the jobs that it has given up.
 fn report<S: Spool, A: Allocator + Copy>(
     alloc: A,
     side: Side,

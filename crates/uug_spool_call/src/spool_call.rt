@@ -65,7 +65,7 @@ pub(crate) fn paths_of<A: Allocator + Copy>(
     }
 }
 
-/// A path without a slash at its end.
+/// Returns a path without the slash at its end, if it has one.
 fn without_slash(path: &str) -> &str
     ensures { result.now ≡ without_slash path.now }
 {
@@ -75,8 +75,8 @@ fn without_slash(path: &str) -> &str
     }
 }
 
-/// The public folder where none is named: `uucppublic` beside the spool, by the path that `uucp` gives it in its jobs where that
-/// of the spool is whole.
+/// Returns the path of the public folder if none is named: `uucppublic` beside the spool. If the path of the spool is
+/// absolute, this is the path that `uucp` writes in its jobs.
 fn public_beside<A: Allocator>(alloc: A, spool: &str) -> Result<String<A>, AllocError>
     ensures { IfOk result (λ public. string_bytes public ≡ public_beside spool.now) }
 {
@@ -86,7 +86,7 @@ fn public_beside<A: Allocator>(alloc: A, spool: &str) -> Result<String<A>, Alloc
     }
 }
 
-/// The folder in which a spool stands, where its path is whole and ends in a name.
+/// Returns the path of the folder that holds a spool, if the spool's path is absolute and ends in a name.
 fn folder_of(spool: &str) -> Option<&str>
     ensures { MatchOption result (folder_of spool.now ≡ None)
         (λ folder. folder_of spool.now ≡ Some folder.now) }

@@ -1,4 +1,4 @@
-//! An end over a spool, whose session begins.
+//! An end over a spool, at the start of its session.
 ghost use Rattle.std.specs.Prelude.{◌≡◌, ◌<◌, [], IfOk, IsSome, map, min, take};
 ghost use Rattle.uug_conversation.specs.Jobs.{at_start};
 ghost use Rattle.uug_conversation.specs.declared.queue.TheConstants.{JOBS_MAX};
@@ -42,22 +42,23 @@ pub(crate) type SpoolFiles<'a, 'p, R, A> = MailSpool<
 pub(crate) struct SpoolEnd<'a, 'p, R: Files<File = File>, A: Allocator + Copy> {
     /// The end at its line.
     pub(crate) buffered: BufferedNode<SpoolFiles<'a, 'p, R, A>, A>,
-    /// Its jobs.
+    /// The store of its jobs.
     pub(crate) store: WorkStore<SpoolDisk<'a, 'p, R, A>, A>,
-    /// The names of the C. files in which they stand.
+    /// The names of the C. files that were read.
     pub(crate) names: Vec<Name, A>,
-    /// The commands that their lines have run.
+    /// The commands that the lines of these files run.
     pub(crate) executions: Vec<Execution, A>,
     /// The jobs that are put off because they can't be read.
     pub(crate) unread: Vec<Unread, A>,
     /// The files that are not given because they can't be read.
     pub(crate) ungiven: Vec<Unread, A>,
-    /// Names what had come and was set aside.
+    /// The files that earlier sessions received, and that were set aside.
     pub(crate) aside: Vec<Unread, A>,
 }
 
 impl<'a, 'p, R: Files<File = File>, A: Allocator + Copy> SpoolEnd<'a, 'p, R, A> {
-    /// The end with this work, where the markers of these names stand. All its jobs are to be offered, as many as a session has.
+    /// Creates the end with this work. Its queue has the first jobs of the work's lines, as many as are offered, at
+    /// most `JOBS_MAX`. All are still to be offered.
     pub(crate) fn begin(
         alloc: A,
         rt: &'a R,
@@ -75,7 +76,8 @@ impl<'a, 'p, R: Files<File = File>, A: Allocator + Copy> SpoolEnd<'a, 'p, R, A> 
         ensures ungiven { IfOk result (λ end. end.ungiven ≡ work.ungiven) }
         ensures aside { IfOk result (λ end. end.aside ≡ work.aside) }
         ensures texts { IfOk result (λ end. files_of end.store ≡ map shown_text work.texts.items) }
-        // What it gives is what waits, it resumes what was cut off, and what had come is known.
+        // It gives the files of the work, resumes its partial files, and knows the files that earlier sessions
+        // received.
         ensures holdings { IfOk result (λ end.
             ⟦<SpoolFiles<'a, 'p, R, A> as Spool>⟧.holdings (spool_in end.buffered)
             ≡ mail_holdings call.now.is_lenient call.now.tells_digests
@@ -87,7 +89,7 @@ impl<'a, 'p, R: Files<File = File>, A: Allocator + Copy> SpoolEnd<'a, 'p, R, A> 
             marks_of (spool_in end.buffered).folder ≡ no_marks) }
         ensures begun { IfOk result (λ end. HasBegunAt call.now.side place
             (at_start (take (min work.offered JOBS_MAX) (jobs_of work.lines.items)) [] []) (node_in end.buffered)) }
-        // It came soundly to its session, and has run it so far.
+        // It began its session soundly, and has run it so far.
         ensures ran { IfOk result (λ end. HasRunSoundly call.now.side
             (⟦<SpoolFiles<'a, 'p, R, A> as Spool>⟧.holdings (spool_in end.buffered))
             (⟦<SpoolFiles<'a, 'p, R, A> as Spool>⟧.kept (spool_in end.buffered))
@@ -149,7 +151,7 @@ impl<'a, 'p, R: Files<File = File>, A: Allocator + Copy> SpoolEnd<'a, 'p, R, A> 
         }
     }
 
-    /// Returns its session, which is over, as it is told.
+    /// Returns its session, which is over, for reports and mail.
     pub(crate) fn over(&self) -> SessionOver<'_, A> {
         let node = self.buffered.node();
         let folder = &node.spool().folder;
@@ -166,7 +168,7 @@ impl<'a, 'p, R: Files<File = File>, A: Allocator + Copy> SpoolEnd<'a, 'p, R, A> 
         }
     }
 
-    /// Returns which call of the system on the spool failed first: on the files that arrived, else on its jobs.
+    /// Returns the first failed system call on the spool: on received files, or else on its jobs.
     pub(crate) fn failure(&self) -> Option<SystemFailure>
         ensures { 0 < self.now.store.disk.faults.count → IsSome result }
     {
@@ -175,7 +177,7 @@ impl<'a, 'p, R: Files<File = File>, A: Allocator + Copy> SpoolEnd<'a, 'p, R, A> 
     }
 }
 
-/// Returns the notebook of the folder in which the end holds files that were cut off.
+/// Returns the notebook over the end's folder of partial files.
 fn notes_of<'a, R: Files<File = File>, A: Allocator + Copy>(
     alloc: A,
     rt: &'a R,
@@ -185,7 +187,7 @@ fn notes_of<'a, R: Files<File = File>, A: Allocator + Copy>(
     Ok(PartialNotes::new(alloc, rt, path))
 }
 
-/// The files that an end gives, over the folders in which it puts those that come.
+/// Returns the files of an end: those that it gives, and the folders into which it puts those that it receives.
 fn files_over<'a, 'p, R: Files<File = File>, A: Allocator + Copy>(
     alloc: A,
     call: &SpoolCall<'_>,

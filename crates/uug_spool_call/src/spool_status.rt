@@ -23,10 +23,10 @@ use uug_spool_disk::{SpoolPaths, is_known, is_there, read_whole};
 use uug_stream::{Output, ToolFault, write_all};
 use uug_talk::{Name, split_line, split_word};
 
-/// Prints the status of the part of a spool that is this system's, as that of an end's folder: the jobs in its C. files,
-/// what is held of files that were cut off, whether there is a lock file of a session, and with a log the last one.
-/// Jobs that have failed are not in a spool. Nothing is locked or changed. A line that no session offers, and a system
-/// without a folder, are told on standard error.
+/// Prints the status of a system's part of a spool, in the form of the status of an end's folder: the jobs in the C.
+/// files, the partial files, the lock file of a session, if there is one, and, from a log, the last session. Jobs that
+/// have failed are not shown. Nothing is locked or changed. A line that no session can offer, and a system without a
+/// folder, are reported on standard error.
 pub fn spool_status_run<A, R, O>(
     alloc: A,
     rt: &R,
@@ -40,7 +40,7 @@ where
     O: Output,
     ensures prints { OnOk result
         (WritesStatus task.now.is_json (O.written output.old) (O.written output.new)) }
-    // A device fault always says which call it was.
+    // A device fault always names the call that failed.
     ensures no_other { IfErr result IsQueueFault }
 {
     let Ok(system) = Name::new(system.as_bytes()) else {
@@ -81,7 +81,7 @@ where
     ensures is { IfOk result (λ text. IsStatus task.now.is_json (string_bytes text)) }
     ensures no_other { IfErr result IsReadingFault }
 {
-    // No file of the public folder is looked at.
+    // The public folder is not looked at.
     let paths = SpoolPaths::new(alloc, task.dir, system, "")?;
     see_dir(rt, paths.end_dir())?;
     see_system(alloc, rt, &paths)?;
@@ -100,7 +100,7 @@ where
     Ok(text)
 }
 
-/// Says on standard error that the spool has no folder of the system, if it has none.
+/// Reports on standard error that the spool has no folder of the system, if it has none.
 fn see_system<A: Allocator + Copy, R: Files + Eprint>(
     alloc: A,
     rt: &R,
@@ -115,7 +115,7 @@ fn see_system<A: Allocator + Copy, R: Files + Eprint>(
     Ok(())
 }
 
-/// Returns the jobs that wait for a system, in the order in which its C. files are taken, with their files.
+/// Returns the jobs that wait for a system, with their files, in the order in which a session takes its C. files.
 fn pending_at<A, R>(alloc: A, rt: &R, paths: &SpoolPaths<A>) -> Result<Vec<PendingJob, A>, RunFault>
 where
     A: Allocator + Copy,
@@ -130,7 +130,8 @@ where
     Ok(pending)
 }
 
-/// Adds the jobs of a C. file. One that is gone by now has none.
+/// Adds the jobs of a C. file. A file that has vanished is skipped. A line that can't be sent is reported on standard
+/// error.
 fn add_commands<A: Allocator + Copy, R: Files + Clock + Eprint>(
     pending: &mut Vec<PendingJob, A>,
     alloc: A,
@@ -153,13 +154,13 @@ fn add_commands<A: Allocator + Copy, R: Files + Clock + Eprint>(
     add_lines(pending, alloc, rt, paths, text.as_slice())
 }
 
-/// Says on standard error, as the log of a session does, that a line of a C. file can't be sent.
+/// Reports on standard error, in the words of a session's log, that a line of a C. file can't be sent.
 fn say_unshown<R: Eprint>(rt: &R, name: &Name) {
     let name = name.as_str();
     let _ = eprint!(rt; "uucpair: {name}: a line that can't be sent stays\n");
 }
 
-/// Returns whether each line of a C. file is one that a session offers, or has no word.
+/// Returns whether a session can offer each line of a C. file that is not blank.
 fn are_shown(text: &[u8]) -> bool
     ensures { result ≡ are_shown (lines_of_text text.now) }
 {
@@ -173,7 +174,7 @@ fn are_shown(text: &[u8]) -> bool
     true
 }
 
-/// Returns whether a line of a C. file is one that a session offers, or has no word.
+/// Returns whether a line of a C. file is blank, or can be offered by a session.
 fn is_shown(line: &[u8]) -> bool
     ensures { result ≡ is_shown line.now }
 {
@@ -204,7 +205,7 @@ fn add_lines<A: Allocator + Copy, R: Files + Clock>(
     Ok(())
 }
 
-/// Adds the job of a line, if a session offers it: of a command, that of its data.
+/// Adds the job of a line, if a session can offer it and it is not over. For a command, this is the job of its data.
 fn add_line<A: Allocator + Copy, R: Files + Clock>(
     pending: &mut Vec<PendingJob, A>,
     alloc: A,
@@ -260,7 +261,7 @@ fn add_job<A: Allocator + Copy, R: Files + Clock>(
     Ok(())
 }
 
-/// Returns the file that the first job of a line sends, if there is one: its copy, or that which a person named.
+/// Returns the file that the first job of a line sends, if it exists: the copy, or the file that a user named.
 fn see_sent<A: Allocator + Copy, R: Files + Clock>(
     alloc: A,
     rt: &R,
@@ -285,7 +286,7 @@ fn see_regular<R: Files + Clock>(rt: &R, path: &str) -> Option<SeenFile> {
     }
 }
 
-/// Returns the files that are held of the system's.
+/// Returns the partial files of the system.
 fn held_at<A, R>(alloc: A, rt: &R, paths: &SpoolPaths<A>) -> Result<Vec<HeldFile, A>, AllocError>
 where
     A: Allocator + Copy,
@@ -295,7 +296,7 @@ where
     see_held(alloc, rt, path.as_str())
 }
 
-/// Returns the lock file of a session with this system, which marks one that is not over.
+/// Returns the lock file of a session with this system, if it exists. It marks a session that is not over.
 fn session_at<A: Allocator + Copy, R: Files + Clock>(
     alloc: A,
     rt: &R,

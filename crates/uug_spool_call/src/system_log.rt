@@ -42,7 +42,7 @@ fn add_about<A: Allocator>(
     Ok(())
 }
 
-/// Returns whether a line of a log is about this system, whose name is its second word.
+/// Returns whether a line of a log is about this system: its second word is the system's name.
 fn is_about(line: &[u8], system: &Name) -> bool
     ensures { result ≡ is_about system.now line.now }
 {

@@ -1,4 +1,4 @@
-//! The status of a call with a system, its log and its statistics. What can't be written is left out.
+//! The status file, the log and the statistics of a call with a system. Errors in writing them are ignored.
 
 use crate::spool_call::{SpoolCall, paths_of};
 use crate::work::Unread;
@@ -21,13 +21,14 @@ use uug_spool_disk::{
 };
 use uug_talk::Name;
 
-/// The program that writes a line of the log: that in whose place this one stands, so that all that read it find it.
+/// The program that log lines name: uucico, which this program replaces. Readers of the log thus find its lines.
 const PROGRAM: &[u8] = b"uucico";
 
-/// Whom a file belongs to of which it is not known.
+/// The user in the lines about a file whose user is not known.
 const NOBODY: &[u8] = b"uucp";
 
-/// The parameters that the functions share which tell of a call: its memory, the system, its task, its paths, and the clock.
+/// The shared parameters of the functions that report a call: the allocator, the system, the call's task, its paths,
+/// and the clock.
 #[derive(Drop)]
 pub(crate) struct Teller<'a, 'c, A: Allocator, R> {
     pub(crate) alloc: A,
@@ -45,19 +46,20 @@ pub(crate) struct SessionOver<'e, A: Allocator> {
     /// The jobs that are done, and those that were given up.
     pub(crate) struck: &'e [Job],
     pub(crate) failed: &'e [Job],
-    /// The names of its C. files, their lines that are open, and the commands that they have run.
+    /// The names of its C. files, their open lines, and the commands that they run.
     pub(crate) names: &'e [Name],
     pub(crate) lines: &'e [OpenLine],
     pub(crate) executions: &'e [Execution],
-    /// The files that have come, and the markers of the last ones.
+    /// The received files, and the markers of the last ones.
     pub(crate) arrived: &'e [Arrived],
     pub(crate) marks: Marks,
-    /// The places of the data of jobs that were given up.
+    /// The preserved data of jobs that were given up.
     pub(crate) preserved: &'e [Preserved<A>],
 }
 
 impl<A: Allocator + Copy, R: Files<File = File> + Clock> Teller<'_, '_, A, R> {
-    /// Tells that a call begins, and gives the seconds since 1970.
+    /// Reports the start of a call, in the log and, for a calling end, in the status file. Returns the time in seconds
+    /// since 1970.
     pub(crate) fn begin(&self) -> u32 {
         let now = seconds_since_1970(self.rt);
         let port = self.call.port.as_bytes();
@@ -81,7 +83,7 @@ impl<A: Allocator + Copy, R: Files<File = File> + Clock> Teller<'_, '_, A, R> {
         now
     }
 
-    /// Appends a line to the log, if there is one.
+    /// Appends a line to the log, if one is named.
     pub(crate) fn log(&self, user: &[u8], event: &LogEvent<'_>) {
         let Some(path) = self.call.log else {
             return;
@@ -98,7 +100,7 @@ impl<A: Allocator + Copy, R: Files<File = File> + Clock> Teller<'_, '_, A, R> {
         }
     }
 
-    /// Appends a line to the statistics, if there are any.
+    /// Appends a line to the statistics, if they are named.
     fn count(&self, user: &[u8], course: Course, size: u64) {
         let Some(path) = self.call.stats else {
             return;
@@ -118,7 +120,8 @@ impl<A: Allocator + Copy, R: Files<File = File> + Clock> Teller<'_, '_, A, R> {
         }
     }
 
-    /// Takes what is over off the disk, and tells what became of a call that began so many seconds after 1970 did.
+    /// Removes what is over from the disk, and reports the result of a call that began at `begun`, in seconds since
+    /// 1970.
     pub(crate) fn end<S: Spool>(&self, spool: &S, over: &SessionOver<'_, A>, begun: u32) {
         self.tidy(over);
         let sent = self.tell_sent(spool, over.struck);
@@ -131,7 +134,8 @@ impl<A: Allocator + Copy, R: Files<File = File> + Clock> Teller<'_, '_, A, R> {
         self.log(b"", &event);
     }
 
-    /// After a session that is done the markers of the last files go, and each C. file none of whose lines is open.
+    /// Removes the markers of the last files, and each C. file without an open line. Does nothing unless the session is
+    /// done.
     fn tidy(&self, over: &SessionOver<'_, A>) {
         if !over.phase.is_done() {
             return;
@@ -143,7 +147,7 @@ impl<A: Allocator + Copy, R: Files<File = File> + Clock> Teller<'_, '_, A, R> {
         let _ = remove_markers(&mut disk, &over.marks);
     }
 
-    /// Tells of each file that was sent, and gives the bytes of all.
+    /// Reports each file that was sent, in the log and the statistics. Returns their total size in bytes.
     fn tell_sent<S: Spool>(&self, spool: &S, struck: &[Job]) -> u64 {
         let mut bytes: u64 = 0;
         for job in struck {
@@ -167,7 +171,7 @@ impl<A: Allocator + Copy, R: Files<File = File> + Clock> Teller<'_, '_, A, R> {
         bytes
     }
 
-    /// Tells of each job that has failed.
+    /// Logs each job that has failed.
     fn tell_failed(&self, failed: &[Job]) {
         for job in failed {
             let (source, user) = match job {
@@ -181,12 +185,12 @@ impl<A: Allocator + Copy, R: Files<File = File> + Clock> Teller<'_, '_, A, R> {
         }
     }
 
-    /// Tells, once of each C. file, that a line stays since no session offers it: one with a wildcard or with a name in quotes,
-    /// or that is none.
+    /// Logs, once for each C. file, that a line stays because no session can offer it: it has a wildcard or quoted
+    /// names, for example, or is not a valid command.
     fn tell_unoffered(&self, lines: &[OpenLine]) {
         let mut last: Option<Name> = None;
         for line in lines {
-            // One whose data can't be read was told already.
+            // A line whose data can't be read was reported before.
             if line.job.is_some() || line.copy.is_some() || last == Some(line.file) {
                 continue;
             }
@@ -198,7 +202,8 @@ impl<A: Allocator + Copy, R: Files<File = File> + Clock> Teller<'_, '_, A, R> {
         }
     }
 
-    /// Tells of each file that has come, and gives the bytes of all. Whom one belongs to its sender knows.
+    /// Reports each received file, in the log and the statistics. Returns their total size in bytes. Only the sender
+    /// knows the user of a file.
     fn tell_arrived(&self, arrived: &[Arrived]) -> u64 {
         let mut bytes: u64 = 0;
         for file in arrived {
@@ -211,7 +216,7 @@ impl<A: Allocator + Copy, R: Files<File = File> + Clock> Teller<'_, '_, A, R> {
         bytes
     }
 
-    /// Writes how the call went. An end that was called says it where the session is done.
+    /// Writes the result of the call to the status file. A called end writes it only if the session is done.
     fn tell_status(&self, phase: Phase) {
         let time = seconds_since_1970(self.rt);
         let status = match (state_of(phase), self.call.side) {
@@ -232,7 +237,7 @@ impl<A: Allocator + Copy, R: Files<File = File> + Clock> Teller<'_, '_, A, R> {
 }
 
 impl<A: Allocator + Copy, R: Files<File = File> + Clock + Eprint> Teller<'_, '_, A, R> {
-    /// Tells, in the log and to a person who listens, of each file that can't be read, what becomes of it.
+    /// Reports what becomes of each file that can't be read: in the log, and on standard error if the end is loud.
     pub(crate) fn tell_unread(&self, unread: &[Unread], becomes: &str) {
         for one in unread {
             let Ok(line) = unread_line(self.alloc, one, becomes) else {
@@ -247,7 +252,7 @@ impl<A: Allocator + Copy, R: Files<File = File> + Clock + Eprint> Teller<'_, '_,
     }
 }
 
-/// Tells that a system was to be called over a line that could not be opened: another run has it, or nobody answers there.
+/// Writes the status of a call whose line could not be opened: another run has the line, or nobody answers there.
 pub fn tell_no_line<A: Allocator + Copy, R: Files<File = File> + Clock>(
     alloc: A,
     rt: &R,
@@ -267,7 +272,7 @@ pub fn tell_no_line<A: Allocator + Copy, R: Files<File = File> + Clock>(
     }
 }
 
-/// Tells this of a system with which there is no session, or not yet.
+/// Logs this fault about a system with which there is no session, or not yet.
 pub fn tell_fault<A: Allocator + Copy, R: Files<File = File> + Clock + Env + AllocGlobal>(
     alloc: A,
     rt: &R,
@@ -288,7 +293,7 @@ pub fn tell_fault<A: Allocator + Copy, R: Files<File = File> + Clock + Env + All
     }
 }
 
-/// The line that says what becomes of a file that can't be read, and why it can't.
+/// Returns the line that says what becomes of a file that can't be read, and why it can't be read.
 fn unread_line<A: Allocator + Copy>(
     alloc: A,
     one: &Unread,
@@ -300,7 +305,7 @@ fn unread_line<A: Allocator + Copy>(
     reason_line(alloc, what.as_str(), "", "", "", failure)
 }
 
-/// Returns the state of a call whose session ended so.
+/// Returns the state of a call whose session ended in this phase.
 fn state_of(phase: Phase) -> CallState {
     match phase {
         Phase::Ended(End::Done) => CallState::Complete,

@@ -32,36 +32,37 @@ use uug_spool::{
 use uug_spool_disk::{SpoolPaths, list_room, read_source, read_spot, read_whole};
 use uug_talk::{NAME_MAX, Name, split_line};
 
-/// The most bytes of a C. file.
+/// The maximum size of a C. file, in bytes.
 pub(crate) const COMMANDS_MAX: usize = 1_048_576;
 
-/// Only this system may read the text of a command that is run with a file.
+/// The mode of an execution file: only its owner may read and write it.
 const TEXT_MODE: u16 = 0o600;
 
-/// A file that can't be read now, or not be put in its place, and why: a C. file, the data of a job, or one of the public folder.
+/// A file that can't be read now, or can't be put in its place, and the cause. It is a C. file, the data of a job, a
+/// received file, or a file or folder in or below the public folder.
 #[derive(Clone, Copy)]
 pub(crate) struct Unread {
     pub(crate) name: Name,
     pub(crate) cause: Cause,
 }
 
-/// Tells how much a session may still offer.
+/// The work that a session may still offer.
 #[derive(Clone, Copy)]
 struct Budget {
-    /// Limits the bytes.
+    /// The bytes that are left.
     bytes: u64,
-    /// Limits the jobs.
+    /// The number of jobs that is left.
     jobs: usize,
-    /// Limits the greatest file.
+    /// The size limit of each file.
     limit: FileLimit,
-    /// Tells whether nothing is offered yet.
+    /// Set until the first job is taken.
     is_first: bool,
-    /// Tells whether nothing more is.
+    /// Set once a job was not offered: nothing more is.
     is_full: bool,
 }
 
 impl Budget {
-    /// Returns the budget of a session that reads so much of its files.
+    /// Returns the budget of a session with this allowance for its files.
     fn of(allowance: Allowance) -> Self
         ensures { result ≡ record {
           bytes = allowance.bytes;
@@ -80,7 +81,8 @@ impl Budget {
         }
     }
 
-    /// Returns whether a job with a file of this size is offered still. The first is; behind one that is not, none is.
+    /// Takes a job with a file of this size from the budget. Returns whether the job is offered: the first one always
+    /// is, and any other if there is room. Marks the budget as full if it is not offered.
     fn take(&mut self, size: u64) -> bool
         ensures { (result ≡ budget_fits self.old size) × (self.new ≡ budget_after self.old size) }
     {
@@ -93,28 +95,28 @@ impl Budget {
     }
 }
 
-/// The work that waits for a system: the lines of its C. files that are not over, and the files that these send.
+/// The work that waits for a system: the open lines of its C. files, and the files that these lines send.
 #[derive(Drop)]
 pub(crate) struct Work<A: Allocator> {
     /// The names of the C. files that were read.
     pub(crate) names: Vec<Name, A>,
     pub(crate) lines: Vec<OpenLine, A>,
-    /// Their texts.
+    /// The texts of these C. files.
     pub(crate) texts: Vec<CommandText<A>, A>,
-    /// Counts the jobs of these lines that are offered, from the front.
+    /// The number of jobs of these lines that are offered: the first ones.
     pub(crate) offered: usize,
     pub(crate) files: Vec<Stored<A>, A>,
-    /// The commands that these lines have run.
+    /// The commands that these lines run.
     pub(crate) executions: Vec<Execution, A>,
     /// The jobs that are put off because they can't be read.
     pub(crate) unread: Vec<Unread, A>,
     /// The files that are not given because they can't be read.
     pub(crate) ungiven: Vec<Unread, A>,
-    /// Names the markers of what had come.
+    /// The markers of files that earlier sessions received.
     pub(crate) came: Vec<Came<A>, A>,
-    /// Names what had come and was set aside.
+    /// The files that earlier sessions received, and that were set aside.
     pub(crate) aside: Vec<Unread, A>,
-    /// Holds the first bytes of files that were cut off, if the end resumes such files.
+    /// The partial files that the end holds, if it resumes.
     pub(crate) partials: Option<Partials<A>>,
     /// Set if more jobs wait than a session offers.
     pub(crate) is_more: bool,
@@ -140,21 +142,22 @@ impl<A: Allocator + Copy> Work<A> {
     }
 }
 
-/// The parameters that the functions share which read the work of a system.
+/// The shared parameters of the functions that read the work of a system.
 #[derive(Drop)]
 struct WorkReader<'a, A: Allocator, R> {
     alloc: A,
     rt: &'a R,
     paths: &'a SpoolPaths<A>,
-    /// The name of this node, which is in the texts of commands.
+    /// The name of this node, for execution files.
     me: &'a Name,
-    /// The names of the data that is there.
+    /// The names of the data that exists.
     there: &'a [Name],
 }
 
-/// Reads what waits for a system, C. file after C. file and line after line, as long as the files that are offered have so many
-/// bytes together at most; the first file always. Where a grade is named, C. files of lower ones wait. What this node is called
-/// stands in the texts of commands. Lines that a session could not take off the disk are a fault.
+/// Reads the work that waits for a system, C. file after C. file and line after line, until the offered files would
+/// exceed `allowance`, or the jobs `JOBS_MAX`. The first file is always offered. With a `grade`, C. files of lower
+/// grades wait. `me` is the name of this node, for execution files. A line that a session could not remove from the
+/// disk is a fault.
 pub(crate) fn read_work<A: Allocator + Copy, R: Files<File = File> + Alloc + Clone + Drop>(
     alloc: A,
     rt: &R,
@@ -177,7 +180,7 @@ pub(crate) fn read_work<A: Allocator + Copy, R: Files<File = File> + Alloc + Clo
     let mut work = Work::none(alloc);
     let mut budget = Budget::of(allowance);
     for name in names.as_slice() {
-        // those behind are of lower grades
+        // the files after it have the same grade or a lower one
         if budget.is_full || !is_offered(name, grade) {
             break;
         }
@@ -188,8 +191,8 @@ pub(crate) fn read_work<A: Allocator + Copy, R: Files<File = File> + Alloc + Clo
     Ok(work)
 }
 
-/// Returns whether a C. file of this name is offered: its grade is the lowest that is named, or a higher one. All are where none is
-/// named.
+/// Returns whether a C. file of this name is offered: its grade is `lowest` or higher. Without a lowest grade, all are
+/// offered.
 fn is_offered(name: &Name, lowest: Option<&str>) -> bool
     ensures { result ≡ is_offered lowest.entry name.now }
 {
@@ -205,7 +208,7 @@ fn is_offered(name: &Name, lowest: Option<&str>) -> bool
     }
 }
 
-/// The names of the C. files, in the order in which they are taken.
+/// Returns the names of the C. files, in the order in which a session takes them.
 pub(crate) fn work_names<A: Allocator + Copy, R: Files + Alloc + Clone + Drop>(
     alloc: A,
     rt: &R,
@@ -223,7 +226,7 @@ pub(crate) fn work_names<A: Allocator + Copy, R: Files + Alloc + Clone + Drop>(
     Ok(names)
 }
 
-/// Adds a name to names that are in order.
+/// Inserts a name into names that are in the order of `work_order`.
 fn insert<A: Allocator>(names: &mut Vec<Name, A>, name: Name) -> Result<(), AllocError> {
     let place = names
         .iter()
@@ -233,7 +236,7 @@ fn insert<A: Allocator>(names: &mut Vec<Name, A>, name: Name) -> Result<(), Allo
     Ok(())
 }
 
-/// The names of the data that is there.
+/// Returns the names of the data that exists.
 fn data_names<A: Allocator + Copy, R: Files + Alloc + Clone + Drop>(
     alloc: A,
     rt: &R,
@@ -247,8 +250,8 @@ fn data_names<A: Allocator + Copy, R: Files + Alloc + Clone + Drop>(
     Ok(names)
 }
 
-/// Adds what waits in a C. file. One that is gone by now is none, and one that can't be read is put off, as is one with a file that a
-/// person named and that can't be read now.
+/// Adds the work of a C. file. A file that has vanished is skipped. A file that can't be read is put off, and so is one
+/// with a line whose file, named by a user, can't be read now.
 fn add_commands<A: Allocator + Copy, R: Files>(
     work: &mut Work<A>,
     reader: &WorkReader<'_, A, R>,
@@ -267,7 +270,7 @@ fn add_commands<A: Allocator + Copy, R: Files>(
     }
 }
 
-/// Reads the work of a C. file, if it is there. One that is too long is a fault.
+/// Reads the work of a C. file, if it exists. A file of more than `COMMANDS_MAX` bytes is a fault.
 fn read_commands<A: Allocator + Copy, R: Files>(
     reader: &WorkReader<'_, A, R>,
     name: &Name,
@@ -303,7 +306,7 @@ fn read_commands<A: Allocator + Copy, R: Files>(
     Ok(Some(more))
 }
 
-/// Counts the jobs of the lines before which fewer than so many stand in their file.
+/// Counts the jobs of those lines that are among the first `front` lines of their file.
 fn count_jobs(lines: &[OpenLine], front: usize) -> usize {
     lines
         .iter()
@@ -311,7 +314,7 @@ fn count_jobs(lines: &[OpenLine], front: usize) -> usize {
         .count()
 }
 
-/// Appends what waits in one C. file to what waits in those before.
+/// Appends the work of one C. file to the work of those before.
 fn append<A: Allocator>(work: &mut Work<A>, more: &mut Work<A>) -> Result<(), AllocError>
     ensures { OnOk result (IsAppended work.old more.old work.new) }
 {
@@ -325,7 +328,7 @@ fn append<A: Allocator>(work: &mut Work<A>, more: &mut Work<A>) -> Result<(), Al
     Ok(())
 }
 
-/// Notes a file that the system did not let be read. Where memory was refused nothing goes on.
+/// Notes a file that can't be read because a system call failed. Returns the fault if memory ran out instead.
 pub(crate) fn note_unread<A: Allocator>(
     unread: &mut Vec<Unread, A>,
     name: &Name,
@@ -347,7 +350,7 @@ pub(crate) fn note_unread<A: Allocator>(
     }
 }
 
-/// The names of these files.
+/// Returns the names of these files.
 pub(crate) fn names_of<A: Allocator>(
     alloc: A,
     unread: &[Unread],
@@ -361,8 +364,8 @@ pub(crate) fn names_of<A: Allocator>(
     Ok(names)
 }
 
-/// The lines of a C. file that are not over, as a session has them. One whose copy is among the data that can't be read has no
-/// job.
+/// Returns the open lines of a C. file, with the names that a session uses. `there` has the names of the data that
+/// exists. A line whose copy is in `unread`, the names of the data that can't be read, has no job.
 fn lines_in<A: Allocator + Copy>(
     alloc: A,
     name: &Name,
@@ -380,7 +383,8 @@ fn lines_in<A: Allocator + Copy>(
     held_lines(alloc, named.as_slice(), unread)
 }
 
-/// The lines, where those that ask for a file name the public folder as a session does: `uucp` writes its path.
+/// Returns the lines with the targets of requests as a session writes them: `uucp` writes the path of the public
+/// folder, and a session `~`.
 fn named_lines<A: Allocator>(
     alloc: A,
     lines: &[OpenLine],
@@ -427,7 +431,8 @@ fn named_job(job: &Job, public: &[u8]) -> Job
     }
 }
 
-/// A name in the public folder as a session has it. Each other name stays, and so does one that would get too long.
+/// Returns a name in the public folder as a session writes it, with `~` for the folder. Any other name stays as it is,
+/// and so does one that would be too long.
 fn public_name(name: &Name, public: &[u8]) -> Name
     ensures { result ≡ public_name public.now name.now }
 {
@@ -456,7 +461,7 @@ fn behind_public<'a>(name: &'a [u8], public: &[u8]) -> Option<&'a [u8]>
     }
 }
 
-/// The name with this behind a `~`, if that is one.
+/// Returns `~` with this text after it, if that is a valid name.
 fn home_name(rest: &[u8]) -> Option<Name>
     ensures { result ≡ name_of (codes "~" ++ rest.now) }
 {
@@ -471,7 +476,7 @@ fn home_name(rest: &[u8]) -> Option<Name>
     Name::new(path.as_slice()).ok()
 }
 
-/// The bytes of files together.
+/// Returns the total size of files, in bytes.
 pub(crate) fn size_of<A: Allocator>(files: &[Stored<A>]) -> u64 {
     let mut size: u64 = 0;
     for file in files {
@@ -480,8 +485,8 @@ pub(crate) fn size_of<A: Allocator>(files: &[Stored<A>]) -> u64 {
     size
 }
 
-/// Adds the files that the lines of a C. file send, and the commands that they have run, as long as they are offered. So many lines
-/// are.
+/// Adds the files that the lines of a C. file send, and the commands that they run, until the budget is full. Returns
+/// the number of lines that are offered: the first ones.
 fn add_files<A: Allocator + Copy, R: Files>(
     work: &mut Work<A>,
     reader: &WorkReader<'_, A, R>,
@@ -503,7 +508,7 @@ fn add_files<A: Allocator + Copy, R: Files>(
     Ok(number)
 }
 
-/// Adds the files that a line sends, and the command that it has run, if a session offers it.
+/// Adds the files that a line sends, and the command that it runs, if a session can offer the line.
 fn add_line<A: Allocator + Copy, R: Files>(
     work: &mut Work<A>,
     reader: &WorkReader<'_, A, R>,
@@ -520,7 +525,7 @@ fn add_line<A: Allocator + Copy, R: Files>(
             let _ = add_sent(work, reader, &fields, &file, budget)?;
         }
         Ok(Command::Execute(fields, file, command)) => {
-            // Without its data an execution file would wait at the other system for ever.
+            // Without its data an execution file would wait at the other system forever.
             if add_sent(work, reader, &fields, &file, budget)? {
                 add_text(
                     &mut work.files,
@@ -545,8 +550,9 @@ fn add_line<A: Allocator + Copy, R: Files>(
     Ok(())
 }
 
-/// Adds the file that a line sends, if it is offered: its copy, or the file that a person named. A copy that can't be read is put
-/// off; what a person named, and this program may not read, is gone, as far as this system is concerned. Whether there is one.
+/// Adds the file that a line sends, if it is offered: the copy, or the file that a user named. Returns whether it was
+/// added. A copy that can't be read is put off. A file that a user named counts as missing if this program may not read
+/// it.
 fn add_sent<A: Allocator + Copy, R: Files>(
     work: &mut Work<A>,
     reader: &WorkReader<'_, A, R>,
@@ -594,7 +600,7 @@ fn add_sent<A: Allocator + Copy, R: Files>(
     }
 }
 
-/// Adds the execution file of a line that has a command run.
+/// Adds the execution file of a line that runs a command.
 fn add_text<A: Allocator + Copy>(
     files: &mut Vec<Stored<A>, A>,
     alloc: A,
@@ -612,7 +618,7 @@ fn add_text<A: Allocator + Copy>(
     Ok(())
 }
 
-/// A file to give.
+/// Creates a file to give.
 pub(crate) fn stored<A: Allocator>(name: Name, mode: u16, bytes: Vec<u8, A>) -> Stored<A>
     requires { mode ≤ MODE_MAX }
     ensures name { result.name ≡ name }

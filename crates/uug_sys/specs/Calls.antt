@@ -1,4 +1,4 @@
--- Says what a run comes to that is not given up (this project's profile).
+-- The result of a run that is not given up (this project's profile).
 use Rattle.std.specs.Prelude.{◌≡◌, ◌⊎◌, ℕ, List, Option, max}
 use Rattle.uug_conversation.specs.declared.side.Side.{Side}
 use Rattle.uug_conversation.specs.declared.side.Side.TheVariants.{Caller, Called}

@@ -1,4 +1,4 @@
--- A call over a spool: what it is told, and what comes of one that has no line (this project's profile).
+-- A call over a spool: its task, and a call that got no line (this project's profile).
 use Rattle.std.specs.Borrow.{Bor}
 use Rattle.std.specs.Prelude.{◌≡◌, ℕ, Bool, List, Option, Some, None, Result, Err}
 use Rattle.uug_failure.specs.declared.failure.Cause.{Cause}
@@ -11,12 +11,12 @@ use Rattle.uug_sys.specs.SpoolLocks.{is_in_use}
 use Rattle.uug_task.specs.Tasks.{IsTask, thinning_with}
 use Rattle.uug_task.specs.declared.task.CallTask.{CallTask}
 
--- what a log calls a line: the name that is given, else that of the line
+-- the name of a line in the log: the one that is given, or else that of the line
 abbrev pub port_of : (port : Option (Bor (List ℕ))) (line : Bor (List ℕ)) → Bor (List ℕ)
 port_of None line = line
 port_of (Some port) line = port
 
--- a call is told what its task says
+-- the call has what the task of its end says
 pub record IsCallOf (task : CallTask) (call : SpoolCall) : Type 0 where
   pub side : call.side ≡ task.side
   pub spool : call.spool ≡ task.dir
@@ -35,13 +35,13 @@ pub record IsCallOf (task : CallTask) (call : SpoolCall) : Type 0 where
   pub days : call.allowance.days ≡ task.keep_days
   pub is_loud : call.is_loud ≡ task.is_loud
 
--- ---- where there is no line
+-- ---- without a line
 
 abbrev pub line_fault_of : Resource → Cause → Option Bool
 line_fault_of Line cause = Some (is_in_use cause)
 line_fault_of resource cause = None
 
--- Whether a call that ended so came to no line, and then whether another run has that.
+-- Whether another run has the line, if a call with this answer got no line.
 abbrev pub line_fault : Result ℕ RunFault → Option Bool
 line_fault (Err (System failure)) = line_fault_of failure.resource failure.cause
 line_fault answer = None

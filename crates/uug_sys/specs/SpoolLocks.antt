@@ -1,4 +1,4 @@
--- The lock of the other system of an end over a spool, and what is said where another run has it (this project's profile).
+-- The lock of the other system of an end over a spool, and the words if another run has it (this project's profile).
 use Rattle.std.specs.Prelude.{◌≡◌, ◌⊎◌, ◌++◌, ◌∷◌, ℕ, Bool, true, false, List, [], Option, Some, None, Result, Ok, Err, MatchResult, codes, ⊤}
 use Rattle.uug_failure.specs.declared.failure.Cause.{Cause}
 use Rattle.uug_failure.specs.declared.failure.Cause.TheVariants.{InUse}
@@ -15,13 +15,13 @@ use Rattle.uug_talk.specs.Texts.{written_text}
 use Rattle.uug_task.specs.declared.task.CallTask.{CallTask}
 use Rattle.uug_transfer.specs.Writing.{TakesFront, also_taken}
 
--- ---- why there is none
+-- ---- why the end has not got it
 
 abbrev pub is_in_use : Cause → Bool
 is_in_use InUse = true
 is_in_use cause = false
 
--- whether it is another run that has it
+-- whether another run has the lock
 abbrev pub is_locked : RunFault → Bool
 is_locked (System failure) = is_in_use failure.cause
 is_locked _ = false
@@ -30,13 +30,13 @@ abbrev pub is_held : {L : Type 0} → Result L RunFault → Bool
 is_held (Ok lock) = false
 is_held (Err fault) = is_locked fault
 
--- the system makes none in the folder of the locks
+-- the system creates no lock in the folder of the locks, or memory ran out
 abbrev pub IsRefusedLock : RunFault → Type 0
 IsRefusedLock (System failure) = (failure.end ≡ LOCKS) × (failure.resource ≡ Dir) × (is_in_use failure.cause ≡ false)
 IsRefusedLock (Tool fault) = fault ≡ Memory
 IsRefusedLock _ = ⊥
 
--- ---- what comes of that
+-- ---- a call without the lock
 
 abbrev pub file_words : (path : List ℕ) → List ℕ
 file_words path = codes " is locked by " ++ ended (escaped path)
@@ -48,24 +48,25 @@ locked_by system path = codes "uucpair: system " ++ (escaped system ++ file_word
 abbrev pub locked_remark : (locks system : List ℕ) → List ℕ
 locked_remark locks system = locked_by system (lock_path locks system)
 
--- a call is to be made later, which is status 1: it is remarked that the system is locked
+-- the system is to be called later: the status is 1, and the remark says that the system is locked, unless memory ran
+-- out
 abbrev pub CallsLater : CallTask → Result ℕ RunFault → (remark : List ℕ) → Type 0
 CallsLater task answer remark = MatchResult answer
     (λ status. (status ≡ 1) × (remark ≡ locked_remark task.locks.now task.peer.now))
     (λ fault. fault ≡ Tool Memory)
 
--- ---- what a called end says then
+-- ---- the words of a called end without the lock
 
--- its name, as at the beginning of each session, and then that the caller's system is locked
+-- its name, as at the start of each session, and then that the caller's system is locked
 abbrev pub lock_words : (me : List ℕ) → List ℕ
 lock_words me = written_text (called_text me) ++ written_text (codes "RLCK")
 
--- where a line tells how many bytes each of its writes took: the last one took none
+-- the last write took no byte, if the line exposes how many each write took
 abbrev pub TakesNone : (writes writes_after : Option (List ℕ)) → Type 0
 TakesNone None after = ⊤
 TakesNone (Some before) after = (since : List ℕ) × (after ≡ Some ((before ++ since) ++ 0 ∷ []))
 
--- These words are written from the front, and nothing else: all of them, unless a write took none.
+-- A front of these words is written, and nothing else: all of them, unless a write took none.
 pub record Says (words : List ℕ) (taken taken_after writes writes_after : Option (List ℕ)) : Type 0 where
   pub front : TakesFront words taken taken_after
   pub all : (taken_after ≡ also_taken words taken) ⊎ TakesNone writes writes_after

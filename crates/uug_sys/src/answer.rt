@@ -26,10 +26,10 @@ use uug_stream::{Output, ToolFault, write_all};
 use uug_task::{CallTask, Station, System};
 use uug_transfer::SessionObserver;
 
-/// The maximum number of callers that are heard.
+/// The maximum number of callers that are served before one is let in.
 const CALLERS_MAX: u32 = u32::MAX;
 
-/// The result of a caller who was let in, or the reason why no more are heard.
+/// The outcome of a session with a caller or with nobody, or of a socket that failed.
 #[derive(Drop)]
 struct Served<A: Allocator> {
     outcome: Outcome<u8, A>,
@@ -37,12 +37,14 @@ struct Served<A: Allocator> {
     report: HeldOutput<A>,
 }
 
-/// Waits to be called at this socket, and talks with each caller that is let in, one after the other, up to the number
-/// in its task. Of the other callers, whose greeting was refused or broke off, nothing is left but what the observer
-/// has said. If nobody has called in time, it runs the session of an end that nobody has called, and waits for no more.
-/// Returns the greatest status of its sessions, and the remark on the last. A fault ends the run, except a bad line of
-/// jobs, or one on the files of the end, which may be mended before the next call: it is reported at once, and returned
-/// at the end.
+/// Waits for callers at this socket, and talks with each one that is let in, one after the other, up to the number of
+/// sessions in the task. A caller whose greeting is refused or broken off is not let in: its report is dropped, and its
+/// remark is printed. If nobody calls in time, runs a session with nobody, and stops waiting.
+///
+/// Returns the greatest status of the sessions, and the remark on the last. A fault ends the run, except a bad line of
+/// jobs, or a failed system call on the files of the end, which may be mended before the next call. If the task has
+/// more than one session, it is reported at once. The first failed call, or else the first bad line, is returned at the
+/// end.
 pub(crate) fn answer_at<A, R, T, W, O>(
     run: &EndRun<'_, A, R>,
     opened: io::Result<Listening<'_, '_, T, R, A>>,
@@ -69,7 +71,7 @@ where
     }
 }
 
-/// Answers the calls at a socket that listens, as `answer_at` does.
+/// Answers the calls at a listening socket, as `answer_at` does.
 fn answer_calls<A, R, T, W, O>(
     run: &EndRun<'_, A, R>,
     listening: Listening<'_, '_, T, R, A>,
@@ -122,8 +124,8 @@ where
     }
 }
 
-/// The greatest status of the sessions so far, the first failure on the files of one, if there was one, and the first bad
-/// line of jobs.
+/// The result of the sessions so far: the greatest status, the first failed system call on the files of the end, and
+/// the first bad line of jobs.
 #[derive(Clone, Copy)]
 struct Tally {
     status: u8,
@@ -132,7 +134,7 @@ struct Tally {
 }
 
 impl Tally {
-    /// Returns that of no session.
+    /// Returns the tally of no sessions.
     fn none() -> Self
         ensures { result.status ≡ 0 }
     {
@@ -143,8 +145,8 @@ impl Tally {
         }
     }
 
-    /// Counts a session with this answer. A bad line of jobs, or a fault on the files of the end, is reported at once,
-    /// and counts. Any other fault is returned.
+    /// Counts a session with this answer. A bad line of jobs, or a failed system call on the files of the end, is
+    /// counted, and reported at once. Any other fault is returned.
     fn count<A: Allocator + Copy, R: System>(
         &mut self,
         run: &EndRun<'_, A, R>,
@@ -171,7 +173,7 @@ impl Tally {
         }
     }
 
-    /// Adds why a session has ended.
+    /// Adds the fault of a session, if it is the first of its kind.
     fn add(&mut self, fault: &RunFault)
         ensures status { self.new.status ≡ self.old.status }
         ensures failed { is_of_session fault.now ≡ true
@@ -186,7 +188,8 @@ impl Tally {
         }
     }
 
-    /// Returns the result of all sessions.
+    /// Returns the result of all sessions: the first failed system call, or else the first bad line, or else the
+    /// greatest status.
     fn answer(&self) -> Result<u8, RunFault>
         ensures failed { IfSome self.now.failed (λ failure. result ≡ Err (RunFault.System failure)) }
         ensures bad { IfNone self.now.failed (IfSome self.now.bad_line (λ line.
@@ -205,8 +208,8 @@ impl Tally {
     }
 }
 
-/// Returns whether a session ended for a bad line of jobs, or because a call of the system on the files of the end has
-/// failed. Faults of the line, of outputs and of memory don't count.
+/// Returns whether a fault is a bad line of jobs, or a failed system call on the files of the end. Faults of the line,
+/// of outputs and of memory don't count.
 fn is_of_session(fault: &RunFault) -> bool
     ensures { result ≡ is_of_session fault.now }
 {
@@ -217,8 +220,8 @@ fn is_of_session(fault: &RunFault) -> bool
     }
 }
 
-/// Returns whether the failed call of the system was on the folder of the end, or below it. The folder of the end's
-/// locks has another number.
+/// Returns whether the failed system call was on the folder of the end, or below it. The folder of the locks has
+/// another number.
 fn is_of_folder(failure: &SystemFailure) -> bool
     ensures { result ≡ is_of_folder failure.now }
 {
@@ -235,8 +238,8 @@ fn is_in_folder(resource: Resource) -> bool
     }
 }
 
-/// Reports at once, in the log too, why a session has ended, which the next ones don't know. That of an only session is
-/// reported at the end.
+/// Reports the fault of a session at once, on standard error and in the log: the next sessions don't know it. The fault
+/// of an only session is reported at the end.
 fn report_fault<A: Allocator + Copy, R: System>(run: &EndRun<'_, A, R>, fault: RunFault) {
     if run.task.sessions == 1 {
         return;
@@ -250,7 +253,7 @@ fn report_fault<A: Allocator + Copy, R: System>(run: &EndRun<'_, A, R>, fault: R
     }
 }
 
-/// Reports that this line of the jobs is bad, which the next sessions may not know.
+/// Reports a bad line of the jobs, on standard error and in the log: it may be mended before the next session.
 fn report_bad_line<A: Allocator + Copy, R: System>(
     alloc: A,
     rt: &R,
@@ -266,7 +269,7 @@ fn report_bad_line<A: Allocator + Copy, R: System>(
     }
 }
 
-/// Reports which call of the system has failed, and why.
+/// Reports which system call has failed, and why, on standard error and in the log.
 fn report_failure<A: Allocator + Copy, R: System>(
     alloc: A,
     rt: &R,
@@ -280,7 +283,7 @@ fn report_failure<A: Allocator + Copy, R: System>(
     }
 }
 
-/// Returns the maximum number of the end's sessions, one at least.
+/// Returns the maximum number of the end's sessions, at least 1.
 fn sessions_of(station: &Station) -> u32
     ensures { result ≡ max 1 station.now.sessions }
 {
@@ -294,7 +297,8 @@ fn greater(first: u8, second: u8) -> u8
     first.max(second)
 }
 
-/// Serves the next caller that is let in. If none comes in time, closes the socket and runs a session with nobody.
+/// Serves callers until one is let in, or a session has a fault. If no caller arrives in time, closes the socket and
+/// runs a session with nobody.
 fn next_served<A, R, T, W>(
     run: &EndRun<'_, A, R>,
     doorkeeper: &mut Doorkeeper<'_, '_, W, T, R, A>,
@@ -338,7 +342,8 @@ where
     serve(run, Ok(SilentPort), doorkeeper)
 }
 
-/// Reports, in the log too, that a caller who came then has said nothing. Others may wait behind it.
+/// Reports, on standard error and in the log, that a caller who arrived at `since` has sent nothing, and whether others
+/// wait.
 fn tell_silent<A: Allocator + Copy, R: System>(
     run: &EndRun<'_, A, R>,
     since: Option<Instant>,
@@ -352,7 +357,7 @@ fn tell_silent<A: Allocator + Copy, R: System>(
     }
 }
 
-/// Returns the whole seconds since then, or 0 without a clock.
+/// Returns the whole seconds since then, or 0 if the clock fails.
 fn seconds_since<R: Clock>(rt: &R, since: Option<Instant>) -> u64 {
     let Some(since) = since else {
         return 0;
@@ -371,7 +376,7 @@ fn do_others_wait<A: Allocator>(waiters: Option<Waiters<A>>) -> bool {
     }
 }
 
-/// Returns the port of a caller at the door, behind whom others may wait.
+/// Returns the port of a caller at the door. `waiters` watches for other callers.
 fn door_port<A, R, T>(
     run: &EndRun<'_, A, R>,
     stream: T,
@@ -391,7 +396,7 @@ where
     }
 }
 
-/// Runs the session at a port, and holds its report back.
+/// Runs the session at a port, and holds back its report.
 fn serve<A, R, P, T, W>(
     run: &EndRun<'_, A, R>,
     port: Result<P, Cause>,
@@ -414,14 +419,14 @@ where
     Served { outcome, report }
 }
 
-/// Prints the remark on a session before the next one.
+/// Prints the remark on a session on standard error, if there is one.
 fn tell<R: Eprint>(rt: &R, remark: &str) {
     if !remark.is_empty() {
         let _ = eprint!(rt; "{remark}");
     }
 }
 
-/// Returns the result after the socket has failed.
+/// Returns the outcome of a socket that failed.
 fn broken<A: Allocator + Copy>(alloc: A, error: &io::Error) -> Served<A>
     ensures failed { IfErr result.outcome.answer IsSystemFault }
     ensures err { IsErr result.outcome.answer }
@@ -432,14 +437,15 @@ fn broken<A: Allocator + Copy>(alloc: A, error: &io::Error) -> Served<A>
     }
 }
 
-/// Returns the fault that a call of the system on the line has failed.
+/// Returns the fault of a failed system call on the line.
 fn no_socket(error: &io::Error) -> RunFault
     ensures { IsSystemFault result }
 {
     RunFault::System(SystemFailure::on(Resource::Line, Cause::of(error)))
 }
 
-/// Prints the report of a caller. A fault of the session precedes one of the printing.
+/// Prints the report of a session, and returns its answer. If both the session and the printing have a fault, returns
+/// that of the session.
 fn give<A: Allocator, O: Output>(
     answer: Result<u8, RunFault>,
     report: HeldOutput<A>,

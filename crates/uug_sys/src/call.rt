@@ -43,13 +43,17 @@ use uug_talk::Name;
 use uug_task::{CallTask, FinishedEnd, System, Terms, read_terms};
 use uug_transfer::{EndLine, LineName, SessionLine, SessionObserver};
 
-/// Runs one end over its folder and its line, for one session, or at a socket where it is called for several, one after
-/// the other. `docs/OPERATING.md` describes what is in a folder. The folder is locked before anything in it is read; if
-/// another run holds it, that is the fault. A called end releases the lock while it waits, and locks the folder again
-/// when its line is up. It reads the jobs, the number and the files then. Whether the jobs and the number can be read,
-/// and what a session writes can be written, is checked before the line opens. Returns the program's status, or why the
-/// run gave up. The remark says which conversation numbers the ends have if they differ, and why jobs have failed or
-/// were put off.
+/// Runs one end over its folder or spool, and its line, for one session. An end that is called at a socket may have
+/// several, one after the other. `docs/OPERATING.md` describes what is in a folder.
+///
+/// A folder is locked before anything in it is read. If another run holds the lock, that is the fault. Before the line
+/// opens, the run checks that the jobs and the number can be read, and that a session can write its files. A called end
+/// releases the lock while it waits, and locks the folder again when its line is up. Then the jobs, the number and the
+/// files are read for the session.
+///
+/// Returns the program's status, or why the run gave up. The remark says why jobs have failed or were put off, names
+/// the failed system call if that is why the session is not done, and gives the conversation numbers of both ends if
+/// they differ.
 pub fn call_run<'a, A, R, W, O>(
     alloc: A,
     rt: &'a R,
@@ -147,8 +151,8 @@ fn lock_and_look<A: Allocator + Copy, R: System>(
     }
 }
 
-/// Checks that the folder is no spool, that the number and the jobs can be read, that the folders exist that they need,
-/// and that what a session writes there can be written. Then tells of files of jobs that are too large to be sent.
+/// Checks that the folder is not a spool, that the number and the jobs can be read, that the folders that the jobs need
+/// exist, and that a session can write its files. Then reports files of jobs that are too large to be sent.
 fn look<A: Allocator + Copy, R: System>(
     alloc: A,
     rt: &R,
@@ -163,14 +167,14 @@ fn look<A: Allocator + Copy, R: System>(
     let is_numbered = numbers.begins.is_some();
     let seen = see_dir(alloc, rt, lock.dir(), jobs.queue.pending(), is_numbered);
     if seen.is_ok() {
-        // What there is no memory for is left out.
+        // If memory runs out, the rest is not reported.
         let _ = tell_large_files(alloc, rt, task, jobs.queue.pending());
     }
     drop(jobs);
     seen
 }
 
-/// Checks that the folders exist that these jobs need, and that what a session writes can be written.
+/// Checks that the folders that these jobs need exist, and that a session can write its files.
 fn see_dir<A: Allocator + Copy, R: Files<File = File>>(
     alloc: A,
     rt: &R,
@@ -238,8 +242,8 @@ where
     }
 }
 
-/// Returns why the standard streams are no port. A file can't be waited for, which the system reports as
-/// `PermissionDenied`; this becomes `NoStream`.
+/// Returns why the standard streams can't be a port. A file can't be polled, which the system reports as
+/// `PermissionDenied`: the cause is then `NoStream`.
 fn no_port(cause: Cause) -> Cause {
     match cause {
         Cause::Refused(ErrorKind::PermissionDenied, _) => Cause::NoStream,
@@ -264,7 +268,7 @@ where
     }
 }
 
-/// Returns the stream, polled before it is read, or its error.
+/// Wraps a stream so that it is polled before a read, or returns its error.
 fn polled<A, R, T>(alloc: A, rt: &R, stream: io::Result<T>) -> io::Result<PolledStream<T, A>>
 where
     A: Allocator + Copy,
@@ -313,9 +317,8 @@ where
     outcome
 }
 
-/// Talks over a device. An end that waits to be called says nothing before the first byte has come over the device. If
-/// none comes in time, it runs the session of an end that nobody has called. A calling end writes bytes that wake such
-/// an end.
+/// Talks over a device. An end that waits to be called sends nothing before the first byte arrives. If none arrives in
+/// time, it runs a session with nobody. A calling end writes bytes that wake an end that waits.
 fn talk_when_called<A, R, W, O>(
     run: &EndRun<'_, A, R>,
     held: Option<DirLock<A>>,
@@ -358,8 +361,8 @@ fn no_line_for(cause: Cause) -> RunFault
     RunFault::System(SystemFailure::on(Resource::Line, cause))
 }
 
-/// Returns the port over a device, or why there is none. Returns `None` if the end waits to be called there and no call
-/// came.
+/// Returns the port over a device, or why there is none. Returns `None` if the end waits to be called there, and nobody
+/// calls in time.
 fn called<A: Allocator + Copy>(
     port: Result<DevicePort<A>, Cause>,
     wait: Option<u32>,
@@ -375,7 +378,7 @@ fn called<A: Allocator + Copy>(
     }
 }
 
-/// Talks over the end's port, if it has one, with its folder locked.
+/// Talks over the end's port, if it has one, with its folder locked. Over a spool, the other system is locked instead.
 pub(crate) fn talk_over<A, R, P, W, O>(
     run: &EndRun<'_, A, R>,
     held: Option<DirLock<A>>,
@@ -416,8 +419,8 @@ where
     told(run, ended, failure)
 }
 
-/// Returns the outcome of a run whose session has ended so. If the session is not done because a call of the system
-/// failed, on the files of the end or on its line, the log and the remark say which.
+/// Returns the outcome of a run after its session. If the session is not done because a system call failed, on the
+/// files of the end or on its line, the log and the remark name the call.
 fn told<A: Allocator + Copy, R: System>(
     run: &EndRun<'_, A, R>,
     ended: Outcome<Ended, A>,
@@ -436,8 +439,8 @@ fn told<A: Allocator + Copy, R: System>(
     }
 }
 
-/// Returns the status of a session that was not given up, and the failed call of the system that is the reason why it is
-/// not done, if one is: on the files of the end, else on its line.
+/// Returns the status of a session that was not given up, or its fault. If the status is 1, also returns the failed
+/// system call that is the reason, if one is: on the files of the end, or else on its line.
 fn status_and_failure(
     ended: Result<Ended, RunFault>,
     line: Option<SystemFailure>,
@@ -552,7 +555,7 @@ where
     }
 }
 
-/// Reads what the end is made of, which may hear the other end's number first.
+/// Reads the parts of the end. A called end that keeps a number waits for the caller's number first.
 fn read_end<'a, A, R, L, W>(
     run: &EndRun<'a, A, R>,
     lock: &DirLock<A>,
@@ -573,8 +576,8 @@ where
     Ok((numbers, parts))
 }
 
-/// Returns the remark on a session that is over: why jobs have failed or were put off, and which numbers the ends have
-/// if they differ.
+/// Returns the remark on a session that is over: why jobs have failed or were put off, and the numbers of both ends if
+/// they differ. Differing numbers are logged too.
 fn remark_on<A: Allocator + Copy, R: System, S: Spool>(
     run: &EndRun<'_, A, R>,
     numbers: Numbers,
@@ -597,7 +600,7 @@ fn remark_on<A: Allocator + Copy, R: System, S: Spool>(
     with_part(remark, differ)
 }
 
-/// Returns a remark with this part behind it, if there is memory for it.
+/// Returns a remark with this part appended, if there is memory for it.
 fn with_part<A: Allocator>(remark: String<A>, part: Result<String<A>, AllocError>) -> String<A> {
     let mut remark = remark;
     if let Ok(part) = part {
@@ -606,7 +609,7 @@ fn with_part<A: Allocator>(remark: String<A>, part: Result<String<A>, AllocError
     remark
 }
 
-/// Returns the answer of a session, which is 1 if it counts as one that is not done.
+/// Returns the answer of a session. Its status becomes 1 if the session counts as not done because of failed jobs.
 fn answer_with(has_failed: bool, answer: Result<u8, ToolFault>) -> Result<u8, ToolFault>
     ensures { result ≡ answer_with has_failed answer }
 {
@@ -616,7 +619,7 @@ fn answer_with(has_failed: bool, answer: Result<u8, ToolFault>) -> Result<u8, To
     }
 }
 
-/// Returns whether a session with these failed jobs counts as one that is not done.
+/// Returns whether a session with these failed jobs counts as not done.
 fn has_failed(task: &CallTask<'_>, failed: &[Job]) -> bool
     ensures { result ≡ has_failed task.now.is_fail_status failed.now }
 {

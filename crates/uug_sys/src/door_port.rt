@@ -1,4 +1,4 @@
-//! The port of a caller who has not said a byte yet.
+//! The port of a caller at a socket, who may be silent.
 ghost use Rattle.std.specs.Prelude.{◌≡◌, ◌<◌, length, IfOk};
 ghost use Rattle.uug_transfer.specs.ReadOutcomes.{IsWithin};
 
@@ -8,25 +8,25 @@ use uug_failure::Cause;
 use uug_port::{Port, Waiters};
 use uug_transfer::ReadOutcome;
 
-/// The seconds that a caller may be silent while others wait.
+/// The seconds for which a caller may be silent while others wait.
 const DOOR_SECONDS: u64 = 8;
 
-/// The port of a caller at a socket. Until its first byte has come, a silence of `DOOR_SECONDS` is a timeout if others
-/// wait behind it, and after that timeout the port is at its end. If nobody waits it waits as long as any port.
+/// The port of a caller at a socket. Before the caller's first byte, a read times out after `DOOR_SECONDS` if others
+/// wait, and the port is then at its end. If nobody waits, a read waits as long as at any port.
 #[derive(Drop)]
 pub(crate) struct DoorPort<P, A: Allocator> {
     port: P,
-    /// The time that its calls wait.
+    /// The time for which its calls wait.
     time: Duration,
-    /// Those who wait behind the caller.
+    /// The watch for other callers, if there is one.
     waiters: Option<Waiters<A>>,
     is_heard: bool,
-    /// Set once the caller is left, because others wait.
+    /// Set once the caller is given up because others wait.
     is_left: bool,
 }
 
 impl<P: Port, A: Allocator> DoorPort<P, A> {
-    /// Wraps the port of a caller that waits this long, with those who wait behind it.
+    /// Wraps the port of a caller. Its calls wait up to `time`, and `waiters` watches for other callers.
     pub(crate) fn new(port: P, time: Duration, waiters: Option<Waiters<A>>) -> Self {
         DoorPort {
             port,
@@ -37,7 +37,7 @@ impl<P: Port, A: Allocator> DoorPort<P, A> {
         }
     }
 
-    /// Reads while nothing was heard.
+    /// Reads while no byte has arrived yet.
     fn hear(&mut self, buffer: &mut [u8]) -> Result<ReadOutcome, Cause>
         requires room { 0 < length buffer.old }
         ensures size { length buffer.new ≡ length buffer.old }
@@ -53,7 +53,7 @@ impl<P: Port, A: Allocator> DoorPort<P, A> {
         }
     }
 
-    /// Reads once, for as long as this. After a silence the caller is left if others wait.
+    /// Reads once, and waits up to `time`. After a timeout, the caller is given up if others wait.
     fn hear_for(&mut self, buffer: &mut [u8], time: Duration) -> Result<ReadOutcome, Cause>
         requires room { 0 < length buffer.old }
         ensures size { length buffer.new ≡ length buffer.old }

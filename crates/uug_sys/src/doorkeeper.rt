@@ -1,4 +1,4 @@
-//! The observer that notices that a caller has been let in, or has said nothing.
+//! The observer that notices when a caller is let in, or says nothing.
 ghost use Rattle.std.specs.Prelude.{◌≡◌, true, false};
 ghost use Rattle.uug_sys.specs.Callers.{is_silent_end, left_behind};
 
@@ -11,9 +11,9 @@ use uug_port::{Deadline, Listener, Listening, TimedStream, Waiters};
 use uug_session::{End, Phase};
 use uug_transfer::{ReadOutcome, SessionObserver, SessionStatus};
 
-/// Notices that a caller has been let in, once its session is past the greeting, and closes the socket after the last
-/// of them. It passes all that it sees to another observer, except how the line of a silent caller ended: this end may
-/// have hung up. Of such a caller the answering end tells.
+/// An observer that notices when a caller is let in: its session is past the greeting. It closes the socket after the
+/// last caller that may be let in. It passes all that it sees to another observer, except how the line of a silent
+/// caller ended: this end may have hung up. The answering end reports that caller.
 #[derive(Drop)]
 pub(crate) struct Doorkeeper<'a, 'p, W, T, R, A: Allocator> {
     observer: W,
@@ -22,7 +22,7 @@ pub(crate) struct Doorkeeper<'a, 'p, W, T, R, A: Allocator> {
     left: u32,
     /// Set once the caller at the door has been let in.
     has_let_in: bool,
-    /// Set once it has said something.
+    /// Set once it has sent a byte.
     has_said: bool,
     /// Set once a read has found it silent.
     has_paused: bool,
@@ -31,7 +31,7 @@ pub(crate) struct Doorkeeper<'a, 'p, W, T, R, A: Allocator> {
 }
 
 impl<'a, 'p, W, T: Drop, R: Files, A: Allocator> Doorkeeper<'a, 'p, W, T, R, A> {
-    /// Creates the doorkeeper of this socket, who lets in this many callers.
+    /// Creates the doorkeeper of this socket, who lets in up to `callers` callers.
     pub(crate) fn new(observer: W, listening: Listening<'a, 'p, T, R, A>, callers: u32) -> Self
         ensures left { result.left ≡ callers }
         ensures has_let_in { result.has_let_in ≡ false }
@@ -68,7 +68,7 @@ impl<'a, 'p, W, T: Drop, R: Files, A: Allocator> Doorkeeper<'a, 'p, W, T, R, A> 
         self.was_silent
     }
 
-    /// Starts over for a caller who comes to the door.
+    /// Starts over for a caller who has arrived at the door.
     fn open_door(&mut self)
         ensures { self.new ≡ record self.old {
           has_said = false;
@@ -118,7 +118,7 @@ impl<W, T: Listener + Drop, R: Files + Net + Clock, A: Allocator + Copy> Doorkee
     R,
     A,
 > {
-    /// Returns the next caller, if one comes in time. The calls of its stream wait as long as `time`.
+    /// Returns the next caller, if one arrives in time. The calls of its stream wait up to `time`.
     pub(crate) fn next_caller(
         &mut self,
         deadline: &Deadline,
@@ -132,7 +132,7 @@ impl<W, T: Listener + Drop, R: Files + Net + Clock, A: Allocator + Copy> Doorkee
         Ok(Some(stream))
     }
 
-    /// Returns a look at those who wait behind the caller at the door, if the system allows it.
+    /// Returns a watch for other callers, or `None` if the socket is closed or the watch can't be set up.
     pub(crate) fn waiters(&self, alloc: A) -> Option<Waiters<A>> {
         self.listening.waiters(alloc)
     }
@@ -171,7 +171,8 @@ where
     }
 }
 
-/// Returns whether the line of a caller has ended in this phase, after silence and no byte.
+/// Returns whether a caller was silent to the end of its line: there was a timeout and no byte, and the phase says that
+/// the line has ended.
 fn is_silent_end(has_paused: bool, has_said: bool, phase: Phase) -> bool
     ensures { result ≡ is_silent_end has_paused has_said phase }
 {
@@ -181,7 +182,8 @@ fn is_silent_end(has_paused: bool, has_said: bool, phase: Phase) -> bool
     }
 }
 
-/// Returns this status as one of a session that is in its greeting. Observers don't tell how such a session ended.
+/// Returns this status as that of a session in its greeting. Observers do not report how a session in its greeting
+/// ended.
 fn in_greeting(status: SessionStatus) -> SessionStatus
     ensures { result ≡ record status { phase = Phase.Hail } }
 {

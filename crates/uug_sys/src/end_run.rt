@@ -4,7 +4,7 @@ ghost use Rattle.std.specs.Prelude.{◌≡◌};
 use uug_talk::Name;
 use uug_task::{CallTask, Station};
 
-/// The parameters that the functions of a run share: its memory, the system, its task, and its station.
+/// The shared parameters of the functions of a run: the allocator, the system, the end's task, and its station.
 #[derive(Drop)]
 pub(crate) struct EndRun<'a, A, R> {
     pub(crate) alloc: A,
@@ -14,7 +14,7 @@ pub(crate) struct EndRun<'a, A, R> {
 }
 
 impl<'a, A: Copy, R> EndRun<'a, A, R> {
-    /// Returns the same run with this other end.
+    /// Returns the same run, with `peer` as the other end.
     pub(crate) fn with_peer(&self, peer: Name) -> EndRun<'a, A, R>
         ensures task { result.task ≡ self.now.task }
         ensures me { result.station.place.me ≡ self.now.station.place.me }

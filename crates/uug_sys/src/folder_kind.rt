@@ -1,4 +1,4 @@
-//! The kind of a task's folder: that of an end, or a spool of Taylor UUCP.
+//! The kind of a task's folder: that of an end, or a Taylor UUCP spool.
 ghost use Rattle.std.specs.Prelude.{IfErr};
 ghost use Rattle.uug_failure.specs.Faults.{IsFolderFault};
 
@@ -7,7 +7,7 @@ use std::fs;
 use std::rt::Files;
 use uug_failure::{Cause, EndDir, Resource, RunFault};
 
-/// Checks that the folder of an end is no spool: it has `got`, or none of the folders that a spool has.
+/// Checks that the folder of an end is not a spool: it has `got`, or none of the folders of a used spool.
 pub(crate) fn see_no_spool<A: Allocator + Copy, R: Files>(
     alloc: A,
     rt: &R,
@@ -21,8 +21,8 @@ pub(crate) fn see_no_spool<A: Allocator + Copy, R: Files>(
     Err(RunFault::System(dir.failure(Resource::Dir, Cause::IsSpool)))
 }
 
-/// Checks that a spool is not the folder of an end, which has `jobs` or `send`, and none of the folders that a spool
-/// has.
+/// Checks that a spool is not the folder of an end. The folder of an end has the file `jobs`, or the folders `send` and
+/// `got`, and none of the folders of a used spool.
 pub(crate) fn see_no_folder<A: Allocator + Copy, R: Files>(
     alloc: A,
     rt: &R,
@@ -36,7 +36,7 @@ pub(crate) fn see_no_folder<A: Allocator + Copy, R: Files>(
     Err(RunFault::System(dir.failure(Resource::Dir, Cause::NoSpool)))
 }
 
-/// Returns whether a folder has what that of an end has: the file `jobs`, or the folders `send` and `got`.
+/// Returns whether a folder has what the folder of an end has: the file `jobs`, or the folders `send` and `got`.
 fn is_end<A: Allocator + Copy, R: Files>(alloc: A, rt: &R, dir: &str) -> Result<bool, AllocError> {
     let jobs = format!(in alloc; "{dir}/jobs")?;
     if let Ok(found) = fs::metadata(rt, jobs.as_str()) {
@@ -47,7 +47,7 @@ fn is_end<A: Allocator + Copy, R: Files>(alloc: A, rt: &R, dir: &str) -> Result<
     Ok(has_folder(alloc, rt, dir, "send")? && has_folder(alloc, rt, dir, "got")?)
 }
 
-/// Returns whether a folder has one of those that every used spool has.
+/// Returns whether a folder has one of two folders that every used spool has: `.Status` and `.Sequence`.
 fn is_spool<A: Allocator + Copy, R: Files>(
     alloc: A,
     rt: &R,
@@ -56,7 +56,7 @@ fn is_spool<A: Allocator + Copy, R: Files>(
     Ok(has_folder(alloc, rt, dir, ".Status")? || has_folder(alloc, rt, dir, ".Sequence")?)
 }
 
-/// Returns whether a folder has one of this name.
+/// Returns whether a folder has a folder of this name in it.
 fn has_folder<A: Allocator + Copy, R: Files>(
     alloc: A,
     rt: &R,

@@ -4,7 +4,7 @@ ghost use Rattle.std.specs.Prelude.{◌≡◌, [], Some};
 use std::alloc::Allocator;
 use uug_stream::{Output, WriteFailed};
 
-/// The bytes that were written, in memory.
+/// An output that holds what was written in memory.
 #[derive(Drop)]
 pub(crate) struct HeldOutput<A: Allocator> {
     bytes: Vec<u8, A>,

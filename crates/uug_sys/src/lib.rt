@@ -1,4 +1,4 @@
-//! An end over the system: its folder and its line.
+//! One end over the operating system: its folder or spool, and its line.
 #![tactic(auto)]
 
 mod answer;

@@ -1,4 +1,4 @@
-//! The numbers of an end's conversations as its session begins.
+//! The numbers of an end's conversations when its session begins.
 ghost use Rattle.std.specs.Prelude.{◌≡◌, None, Ok, IfErr, MatchOption, MatchResult};
 ghost use Rattle.uug_failure.specs.Faults.{IsBadNumber, IsReadingFault};
 ghost use Rattle.uug_folder.specs.NumberText.{begins_with, number_in};
@@ -12,14 +12,14 @@ use uug_session::{MemorySpool, Place, Queue, Side};
 use uug_task::{CallTask, Station, make_node};
 use uug_transfer::{BufferedNode, EndLine, FaultInjector, SessionLine, SessionObserver};
 
-/// The numbers of an end's conversations as its session begins.
+/// The numbers of an end's conversations when its session begins.
 #[derive(Clone, Copy)]
 pub(crate) struct Numbers {
     /// The number with which it begins, if it keeps one.
     pub(crate) begins: Option<u32>,
     /// The number in its file, if there is a file.
     pub(crate) held: Option<u32>,
-    /// The number that the other end has reported already, if it has reported one.
+    /// The number that the other end has sent already, if it has sent one.
     pub(crate) heard: Option<u32>,
 }
 
@@ -38,7 +38,8 @@ pub(crate) fn read_numbers<A: Allocator + Copy, R: Files>(
     numbers_of(lock.dir(), Some(text.as_slice()), task.is_numbered)
 }
 
-/// Returns the number that an end keeps whose file has this text, if there is a file, and the number in the file.
+/// Returns the number that an end keeps, and the number in its file. `text` is the text of that file, if there is one.
+/// A text that is not a number is a fault.
 fn numbers_of(dir: EndDir<'_>, text: Option<&[u8]>, is_told: bool) -> Result<Numbers, RunFault>
     ensures numbers { MatchResult result
         (λ numbers. MatchOption text.entry
@@ -63,8 +64,8 @@ fn numbers_of(dir: EndDir<'_>, text: Option<&[u8]>, is_told: bool) -> Result<Num
     }
 }
 
-/// Returns the numbers with which the end begins. A called end that keeps one says its first words before that, and
-/// hears its caller. If the caller's number is one behind, it begins with the caller's.
+/// Returns the numbers with which the end begins. A called end that keeps a number first sends its first words, and
+/// waits for its caller's number. If that is the number before its own, it begins with the caller's.
 pub(crate) fn meet<A: Allocator + Copy, R: Files, L: EndLine, W: SessionObserver>(
     alloc: A,
     rt: &R,
@@ -87,7 +88,8 @@ pub(crate) fn meet<A: Allocator + Copy, R: Files, L: EndLine, W: SessionObserver
     })
 }
 
-/// Lets a called end say its first words, and hear its caller's number, for `seconds`.
+/// Sends the first words of a called end, and waits up to `seconds` for its caller's text. Returns the number in that
+/// text, if it has one.
 pub(crate) fn meet_caller<A: Allocator + Copy, L: EndLine, W: SessionObserver>(
     alloc: A,
     place: &Place,

@@ -35,7 +35,7 @@ pub(crate) type SystemEnd<'a, R, A> = TransferEnd<
     A,
 >;
 
-/// The parts of such an end.
+/// The parts of an end over a folder of the system.
 pub(crate) type SystemParts<'a, R, A> = EndParts<
     SystemSpool<'a, R, A>,
     SystemJobs<'a, R, A>,
@@ -43,7 +43,7 @@ pub(crate) type SystemParts<'a, R, A> = EndParts<
     A,
 >;
 
-/// Returns the first failed call of the system on the folder of an end: in `got`, else on its jobs or its number.
+/// Returns the first failed system call on the folder of an end: in `got`, or else on its jobs, or else on its number.
 pub(crate) fn failure_of<R: Files<File = File>, A: Allocator + Copy>(
     end: &SystemEnd<'_, R, A>,
 ) -> Option<SystemFailure>
@@ -102,8 +102,8 @@ where
     Ok(parts)
 }
 
-/// Returns the files that an end with these jobs gives, if the jobs can be removed: those of an end that is called may
-/// be others than when it began to wait.
+/// Checks that these jobs can be removed, and returns the files that the end gives. The jobs of a called end may have
+/// changed since it began to wait.
 fn see_given<A: Allocator + Copy, R: Files<File = File> + Eprint + Alloc + Clone + Drop>(
     alloc: A,
     rt: &R,
@@ -125,7 +125,7 @@ fn see_given<A: Allocator + Copy, R: Files<File = File> + Eprint + Alloc + Clone
     }
 }
 
-/// Says of a calling end that has files, and never had a job, how they are sent.
+/// Reports on standard error how to send files, if a calling end has files to give, but no file of jobs.
 fn tell_unqueued<A: Allocator + Copy, R: Files + Eprint>(
     alloc: A,
     rt: &R,
@@ -145,7 +145,7 @@ fn tell_unqueued<A: Allocator + Copy, R: Files + Eprint>(
     }
 }
 
-/// Returns whether the file of jobs of this folder is there, or may be.
+/// Returns whether this folder has a file of jobs. Returns true if memory runs out.
 fn has_jobs<A: Allocator, R: Files>(alloc: A, rt: &R, dir: &str) -> bool {
     match format!(in alloc; "{dir}/jobs") {
         Ok(path) => fs::metadata(rt, path.as_str()).is_ok(),
@@ -153,8 +153,8 @@ fn has_jobs<A: Allocator, R: Files>(alloc: A, rt: &R, dir: &str) -> bool {
     }
 }
 
-/// Makes the parts of an end over the folder of the task, with these files to give, and the first of these jobs to
-/// offer.
+/// Creates the parts of an end over the folder of the task, with these files to give. The queue has the first of these
+/// jobs.
 #[tactic(auto, using(crate::proofs::FrontLemmas::first_are_front))]
 fn make_parts<'a, A: Allocator + Copy, R: Files<File = File> + Alloc + Clone + Drop>(
     alloc: A,
@@ -200,7 +200,8 @@ fn make_parts<'a, A: Allocator + Copy, R: Files<File = File> + Alloc + Clone + D
     })
 }
 
-/// Returns the spool over the folder of the task, with these files to give, and others that it may give later.
+/// Creates the spool over the folder of the task, with these files to give. `delayed` has the names of files that it
+/// may give later.
 fn make_spool<'a, A: Allocator + Copy, R: Files<File = File> + Alloc + Clone + Drop>(
     alloc: A,
     rt: &'a R,

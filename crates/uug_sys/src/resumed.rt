@@ -1,4 +1,5 @@
-//! Files that were cut off: an end over a folder holds what has come of them, in the folder `partial` below its own.
+//! The partial files of an end over a folder: the first bytes of files that were cut off, in the folder `partial` below
+//! its own.
 ghost use Rattle.std.specs.Prelude.{◌≡◌, IfOk, is_some};
 
 use std::alloc::{AllocError, Allocator};
@@ -12,7 +13,7 @@ use uug_spool_call::hold_left;
 use uug_talk::FileDigest;
 use uug_task::{CallTask, System};
 
-/// Reads what an end holds of files that were cut off, if it resumes such files.
+/// Reads the partial files that an end holds, if it resumes.
 pub(crate) fn read_held<A, R>(
     alloc: A,
     rt: &R,
@@ -31,8 +32,8 @@ where
     Ok(Some(held))
 }
 
-/// Removes what is held of the files that are over, and holds what is left of another one. The log has, too, why that
-/// can't be done.
+/// Removes the partial files of the digests `over`, and saves `left`, the first bytes of the file that was cut off. If
+/// that fails, logs why, and reports it on standard error.
 pub(crate) fn hold_left_in<A: Allocator + Copy, R: System>(
     alloc: A,
     rt: &R,
@@ -47,7 +48,7 @@ pub(crate) fn hold_left_in<A: Allocator + Copy, R: System>(
     }
 }
 
-/// Returns the path of the folder in which an end holds them.
+/// Returns the path of an end's folder of partial files.
 pub(crate) fn partial_path<A: Allocator>(alloc: A, dir: &str) -> Result<String<A>, AllocError> {
     format!(in alloc; "{dir}/partial")
 }

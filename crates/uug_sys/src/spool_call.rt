@@ -34,7 +34,7 @@ use uug_talk::Name;
 use uug_task::{ANY, CallTask, System};
 use uug_transfer::{EndLine, LineName, SessionLine, SessionObserver, SessionStatus};
 
-/// Says in the log that another run talks with the system.
+/// The words in the log if another run talks with the system.
 const LOCKED: &str = "System already locked";
 
 /// Runs an end over a spool. A calling end locks the other system first.
@@ -70,7 +70,7 @@ where
     call_locked(run, line, streams, lock, observer, output)
 }
 
-/// Calls with the lock of the other system, if the end has got it.
+/// Calls the other system, if the end has got its lock, and releases the lock.
 fn call_locked<A, R, W, O>(
     run: &EndRun<'_, A, R>,
     line: LineName<'_>,
@@ -112,8 +112,8 @@ where
     outcome
 }
 
-/// Tells of the files that wait for the other system and are too large to be sent. If any system may call, it is not
-/// known yet which they are.
+/// Reports the files that wait for the other system and are too large to be sent. Reports nothing if any system may
+/// call: it is not known yet which files will be sent.
 fn tell_large_files<A: Allocator + Copy, R: System>(run: &EndRun<'_, A, R>) {
     if run.task.peer != ANY {
         let peer = run.station.place.peer;
@@ -121,8 +121,8 @@ fn tell_large_files<A: Allocator + Copy, R: System>(run: &EndRun<'_, A, R>) {
     }
 }
 
-/// Handles a call of a system whose lock the end has not got. If another run has the lock, the system is to be called
-/// later.
+/// Returns the outcome of a call whose system could not be locked. If another run has the lock, logs that, and returns
+/// status 1: the system is to be called later.
 fn call_later<A: Allocator + Copy, R: System>(
     run: &EndRun<'_, A, R>,
     fault: RunFault,
@@ -156,7 +156,7 @@ fn call_later<A: Allocator + Copy, R: System>(
     }
 }
 
-/// Returns whether another run has the line, if a call with this answer got no line. Else returns `None`.
+/// Returns whether another run has the line, if a call with this answer got no line. Otherwise returns `None`.
 fn line_fault(answer: &Result<u8, RunFault>) -> Option<bool>
     ensures { result ≡ line_fault answer.now }
 {
@@ -169,7 +169,8 @@ fn line_fault(answer: &Result<u8, RunFault>) -> Option<bool>
     }
 }
 
-/// Checks that the spool exists, where the folders in a missing one would be created, and is not the folder of an end.
+/// Checks that the spool exists, and is not the folder of an end. A missing spool would otherwise be created together
+/// with folders in it.
 fn see_spool<A: Allocator + Copy, R: Files>(
     alloc: A,
     rt: &R,
@@ -183,7 +184,7 @@ fn see_spool<A: Allocator + Copy, R: Files>(
     }
 }
 
-/// Talks over the line of an end over a spool. A called end locks the other system during that.
+/// Talks over the line of an end over a spool. A called end locks the other system for the session.
 pub(crate) fn talk_in_spool<A, R, L, W, O>(
     run: &EndRun<'_, A, R>,
     line: &mut SessionLine<L, W, A>,
@@ -217,7 +218,7 @@ where
             }
             ended
         }
-        // One that has said something else is heard no more: it could say a name later.
+        // A caller that has given no name is not read any more: it could give one later.
         None => {
             line.note(over_in(Phase::Ended(End::HungUp)));
             talk_to_nobody(run, output)
@@ -225,7 +226,7 @@ where
     }
 }
 
-/// Returns the status of a session that is over in its greeting, with this phase.
+/// Returns the status of a session that ended in its greeting, with this phase.
 fn over_in(phase: Phase) -> SessionStatus
     ensures { result ≡ record {
       phase = phase;
@@ -246,8 +247,8 @@ fn over_in(phase: Phase) -> SessionStatus
     }
 }
 
-/// Locks the other system. If the lock of a process that is gone was taken over, the log says that the last session with
-/// the system was broken off.
+/// Locks the other system. If that takes over the lock of a process that is gone, logs that the last session with the
+/// system was broken off.
 fn lock_telling<A, R>(
     alloc: A,
     rt: &R,
@@ -269,8 +270,8 @@ where
     lock
 }
 
-/// Locks the system that has called. If another run has the lock, the caller is heard before it hears that: one whose
-/// words are not read may not read ours.
+/// Locks the system that has called. If another run has the lock, the caller's text is read before the caller is
+/// refused: a caller whose text is not read may not read ours.
 fn lock_caller<A, R, L, W>(
     run: &EndRun<'_, A, R>,
     line: &mut SessionLine<L, W, A>,
@@ -285,15 +286,15 @@ where
     let place = &run.station.place;
     let lock = lock_telling(run.alloc, run.rt, run.task, place.peer.as_str());
     if run.task.peer != ANY && is_held(&lock) {
-        // If any may call it was heard already.
+        // If any system may call, the text was read already.
         let _ = meet_caller(run.alloc, place, line, run.station.limits().greeting);
     }
     lock
 }
 
-/// Talks with a system that has called, if the end has its lock. If another run has the lock the caller hears `RLCK`
-/// and is hung up, and the next one may be let in. If there is no lock nothing is written to the line. Nothing is read
-/// there in either case.
+/// Talks with a system that has called, if the end has its lock. If another run has the lock, the caller is sent
+/// `RLCK`, and its line is hung up; the next caller may be let in. If no lock can be created, nothing is written to the
+/// line. In neither case is anything read from it.
 fn talk_locked<A, R, L, O>(
     run: &EndRun<'_, A, R>,
     lock: Result<DeviceLock<A>, RunFault>,
@@ -335,8 +336,8 @@ where
     }
 }
 
-/// Handles a system that has called and whose lock the end has not got. If another run has the lock, the caller hears
-/// `RLCK`, after the words with which each session begins. A greeted line takes those as said already.
+/// Handles a system that has called, but could not be locked. If another run has the lock, sends the words with which
+/// each session begins, and then `RLCK`. A line that has sent the first words already does not send them again.
 fn talk_unlocked<A, R, L, O>(
     run: &EndRun<'_, A, R>,
     fault: RunFault,
@@ -376,7 +377,7 @@ where
     talk_to_nobody(run, output)
 }
 
-/// Says on standard error that another run talks with this system, which has called.
+/// Reports on standard error that another run talks with this system, which has called.
 fn say_locked<A: Allocator + Copy, R: Eprint>(alloc: A, rt: &R, locks: &str, system: Name) {
     if let Ok(remark) = locked_remark(alloc, locks, system.as_str()) {
         let said = remark.as_str();
@@ -384,8 +385,8 @@ fn say_locked<A: Allocator + Copy, R: Eprint>(alloc: A, rt: &R, locks: &str, sys
     }
 }
 
-/// Runs the session of an end that has heard no caller's name, or only the name of one with which another run talks.
-/// That one's folders are not looked at.
+/// Runs a session with nobody, for a caller that has given no name, or the name of a system with which another run
+/// talks. The folders of that system are not looked at.
 fn talk_to_nobody<A, R, O>(run: &EndRun<'_, A, R>, output: &mut O) -> Result<Ended, RunFault>
 where
     A: Allocator + Copy,
@@ -434,8 +435,8 @@ where
     )
 }
 
-/// Returns the system that has called, if it has given a name. If any system of the spool may call, the end hears the
-/// caller first.
+/// Returns the system that has called. If any system of the spool may call, reads the caller's text first, and returns
+/// `None` if that gives no name.
 fn system_at<A, R, L, W>(
     run: &EndRun<'_, A, R>,
     line: &mut SessionLine<L, W, A>,
@@ -452,8 +453,8 @@ where
     name_of_caller(run, line)
 }
 
-/// Says the first words of a called end, and hears who calls. If that is no system of the spool, returns a name that
-/// the caller has not given, and the caller is refused.
+/// Sends the first words of a called end, and returns the name that the caller gives. If the spool has no folder of
+/// that system, returns another name, and the caller is refused. Returns `None` if the caller gives no name.
 fn name_of_caller<A, R, L, W>(
     run: &EndRun<'_, A, R>,
     line: &mut SessionLine<L, W, A>,
@@ -473,7 +474,7 @@ where
     Ok(Some(name_at(&name, is_known)))
 }
 
-/// Returns the name that the end expects of a caller that has given this one: the same if it is known, else another.
+/// Returns the name that the end expects of a caller that has given this one: the same if it is known, or else another.
 fn name_at(name: &Name, is_known: bool) -> Name
     ensures known { is_known ≡ true → result ≡ name.now }
     ensures other { is_known ≡ false → result ≢ name.now }
@@ -535,7 +536,7 @@ fn has_folder<A: Allocator, R: Files>(
     }
 }
 
-/// Returns the name of a line in the log: the one that is named, else that of the line.
+/// Returns the name of a line in the log: `port`, if it is given, or else the name of the line.
 fn port_of<'a>(port: Option<&'a str>, line: &'a str) -> &'a str
     ensures { result ≡ port_of port.entry line.entry }
 {
@@ -545,7 +546,7 @@ fn port_of<'a>(port: Option<&'a str>, line: &'a str) -> &'a str
     }
 }
 
-/// Returns what a task says of a call over a spool.
+/// Returns the task of a call over a spool, from the task of its end.
 fn said_of<'a>(task: &CallTask<'a>) -> SpoolCall<'a>
     ensures { IsCallOf task.now result }
 {

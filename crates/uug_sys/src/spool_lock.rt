@@ -1,4 +1,4 @@
-//! The lock of the other system of an end over a spool, which uucico heeds too, and the reports if another run holds
+//! The lock of the other system of an end over a spool, which uucico respects too, and the reports if another run holds
 //! it.
 ghost use Rattle.std.specs.Prelude.{◌≡◌, ◌++◌, IfErr, IfOk, None, Ok, OnOk, Some, false, string_bytes};
 ghost use Rattle.uug_failure.specs.Faults.{IsFolderFault};
@@ -21,11 +21,11 @@ use uug_talk::{Name, TEXT_START};
 use uug_task::{CallTask, System};
 use uug_transfer::EndLine;
 
-/// The number of the folder of the locks among the folders of one end, the first of which is its own.
+/// The number of the folder of the locks among the folders of one end. The end's own folder has 0.
 const LOCKS: usize = 1;
 
-/// Locks the other system. A lock that can't even be looked at, for example because its folder is no folder, is
-/// refused, and is not another run's.
+/// Locks the other system. If the path of the lock can't be examined, for example because its folder is a file, the
+/// lock counts as refused, not as held by another run.
 pub(crate) fn lock_system<A: Allocator + Copy, R: Files<File = File>>(
     alloc: A,
     rt: &R,
@@ -51,7 +51,8 @@ pub(crate) fn has_lock<A: Allocator, R: Files>(alloc: A, rt: &R, locks: &str, na
     }
 }
 
-/// Returns the lock, if the end has got it. If the system makes none, another run may talk with the other system.
+/// Returns the lock, if the end has got it. It is a fault if the system creates none: another run may talk with the
+/// other system.
 fn got<A: Allocator + Copy, R: Files<File = File>, L>(
     alloc: A,
     rt: &R,
@@ -71,8 +72,9 @@ fn got<A: Allocator + Copy, R: Files<File = File>, L>(
     }
 }
 
-/// Returns why no lock can be made in this folder: why no file can. If a file can be made, the system refuses the link
-/// to its name, or the removal of the lock of a process that is gone.
+/// Returns why no lock can be created in this folder, by trying to create a file there. If that succeeds, the system
+/// refuses the link to the lock's name or the removal of the lock of a process that is gone, or it does not report this
+/// process's number.
 fn why_refused<A: Allocator + Copy, R: Files<File = File>>(
     alloc: A,
     rt: &R,
@@ -87,8 +89,8 @@ fn why_refused<A: Allocator + Copy, R: Files<File = File>>(
     }
 }
 
-/// Says, in the log too, why no lock file can be made in the folder of the task. Only other runs of uucpair are kept off
-/// a device then.
+/// Reports, on standard error and in the log, why no lock file can be created in the folder of the locks. Only other
+/// runs of uucpair are then kept off a device.
 pub(crate) fn tell_unlocked<A: Allocator + Copy, R: System>(alloc: A, rt: &R, task: &CallTask<'_>) {
     if let RunFault::System(failure) = why_refused(alloc, rt, task.locks) {
         if let Ok(line) = locks_line(alloc, task.locks, failure) {
@@ -99,8 +101,8 @@ pub(crate) fn tell_unlocked<A: Allocator + Copy, R: System>(alloc: A, rt: &R, ta
     }
 }
 
-/// Returns the fault that the system refuses to make a lock in this folder, with an error of this kind and number.
-/// Refused memory is no fault of the system's.
+/// Returns the fault that the system refuses to create a lock in this folder, with an error of this kind and number.
+/// `OutOfMemory` without a number is this program's own fault.
 fn refused(locks: &str, kind: ErrorKind, number: Option<i32>) -> RunFault
     ensures refused { IsRefusedLock result }
     ensures no_other { IsFolderFault result }
@@ -127,7 +129,7 @@ fn try_file<A: Allocator, R: Files<File = File>>(alloc: A, rt: &R, folder: &str)
     made
 }
 
-/// Returns whether a lock was not got because another run has it.
+/// Returns whether this fault means that another run has the lock.
 pub(crate) fn is_locked(fault: &RunFault) -> bool
     ensures { result ≡ is_locked fault.now }
 {
@@ -153,7 +155,7 @@ pub(crate) fn is_held<L>(lock: &Result<L, RunFault>) -> bool
     }
 }
 
-/// Returns the remark that a system is locked, and by which file.
+/// Returns the remark that this system is locked, and by which file.
 pub(crate) fn locked_remark<A: Allocator + Copy>(
     alloc: A,
     locks: &str,
@@ -190,7 +192,7 @@ fn add_file<A: Allocator>(text: &mut String<A>, path: &str) -> Result<(), AllocE
     text.push_str("\n")
 }
 
-/// Returns what a called end says to a caller whose system is locked: its name, and `RLCK`.
+/// Returns the texts that a called end sends to a caller whose system is locked: its name, and `RLCK`.
 pub(crate) fn lock_words<A: Allocator>(alloc: A, me: &Name) -> Result<Vec<u8, A>, AllocError>
     ensures { IfOk result (λ words. words.items ≡ lock_words me.now) }
 {
@@ -200,7 +202,7 @@ pub(crate) fn lock_words<A: Allocator>(alloc: A, me: &Name) -> Result<Vec<u8, A>
     Ok(words)
 }
 
-/// Appends a text of a greeting, which has two parts.
+/// Appends a text of a greeting, given in two parts.
 fn add_text<A: Allocator>(
     words: &mut Vec<u8, A>,
     front: &[u8],
