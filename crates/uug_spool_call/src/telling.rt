@@ -83,7 +83,7 @@ impl<A: Allocator + Copy, R: Files<File = File> + Clock> Teller<'_, '_, A, R> {
 
     /// Appends a line to the log, if there is one.
     pub(crate) fn log(&self, user: &[u8], event: &LogEvent<'_>) {
-        let Some(path) = self.call.log else {
+        let Some(path) = self.call.outputs.log else {
             return;
         };
         let head = LogHead {
@@ -100,7 +100,7 @@ impl<A: Allocator + Copy, R: Files<File = File> + Clock> Teller<'_, '_, A, R> {
 
     /// Appends a line to the statistics, if there are any.
     fn count(&self, user: &[u8], course: Course, size: u64) {
-        let Some(path) = self.call.stats else {
+        let Some(path) = self.call.spool.stats else {
             return;
         };
         let head = StatsHead {
@@ -239,7 +239,7 @@ impl<A: Allocator + Copy, R: Files<File = File> + Clock + Eprint> Teller<'_, '_,
                 continue;
             };
             let line = line.as_str();
-            if self.call.is_loud {
+            if self.call.outputs.is_loud {
                 let _ = eprint!(self.rt; "{line}");
             }
             self.log(b"", &LogEvent::Fault(words_of(line).as_bytes()));

@@ -238,7 +238,7 @@ fn is_in_folder(resource: Resource) -> bool
 /// Reports at once, in the log too, why a session has ended, which the next ones don't know. That of an only session is
 /// reported at the end.
 fn report_fault<A: Allocator + Copy, R: System>(run: &EndRun<'_, A, R>, fault: RunFault) {
-    if run.task.sessions == 1 {
+    if run.task.limits.sessions == 1 {
         return;
     }
     match fault {
@@ -273,7 +273,7 @@ fn report_failure<A: Allocator + Copy, R: System>(
     task: &CallTask<'_>,
     failure: SystemFailure,
 ) {
-    if let Ok(line) = reason_line(alloc, "", task.line, task.dir, "", failure) {
+    if let Ok(line) = reason_line(alloc, "", task.line.name, task.dir, "", failure) {
         let line = line.as_str();
         let _ = eprint!(rt; "{line}");
         log_fault(alloc, rt, task, words_of(line));

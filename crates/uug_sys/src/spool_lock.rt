@@ -90,8 +90,8 @@ fn why_refused<A: Allocator + Copy, R: Files<File = File>>(
 /// Says, in the log too, why no lock file can be made in the folder of the task. Only other runs of uucpair are kept off
 /// a device then.
 pub(crate) fn tell_unlocked<A: Allocator + Copy, R: System>(alloc: A, rt: &R, task: &CallTask<'_>) {
-    if let RunFault::System(failure) = why_refused(alloc, rt, task.locks) {
-        if let Ok(line) = locks_line(alloc, task.locks, failure) {
+    if let RunFault::System(failure) = why_refused(alloc, rt, task.line.locks) {
+        if let Ok(line) = locks_line(alloc, task.line.locks, failure) {
             let line = line.as_str();
             let _ = eprint!(rt; "{line}");
             log_fault(alloc, rt, task, words_of(line));
