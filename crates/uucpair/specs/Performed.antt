@@ -38,8 +38,8 @@ pub record Pairs (s : Streams) (answer : Result ℕ RunFault) : Type 0 where
 
 -- the report goes to standard output, which is not the line
 pub record PrintsReport (task : CallTask) : Type 0 where
-  pub no_file : task.report ≡ None
-  pub apart : line_of task.line.now ≢ Some standard
+  pub no_file : task.outputs.report ≡ None
+  pub apart : line_of task.line.name.now ≢ Some standard
 
 -- `call` and `answer`: the same. If a caller prints a report, it is that of an end that has run its session to its end,
 -- and the status is that of this session. Or another run talks with that system, and nothing is printed. A called end

@@ -151,9 +151,9 @@ fn see_outputs<R: Files + AllocGlobal>(rt: &R, call: &CallTask<'_>) -> Result<()
     if !call.may_run() {
         return Ok(());
     }
-    see_output(rt, call.report, REPORT)?;
-    see_output(rt, call.log, LOG)?;
-    see_output(rt, call.stats, STATS)
+    see_output(rt, call.outputs.report, REPORT)?;
+    see_output(rt, call.outputs.log, LOG)?;
+    see_output(rt, call.spool.stats, STATS)
 }
 
 /// Checks that the output of this number, at this path, is not a named pipe.
@@ -255,7 +255,7 @@ fn fault_remark<R: Files + AllocGlobal>(
 ) -> Option<String> {
     match fault {
         RunFault::System(failure) if is_held_line(failure) => {
-            line_held_remark(rt.alloc(), rt, call).ok()
+            line_held_remark(rt.alloc(), rt, &call.line).ok()
         }
         fault => jobs_remark(rt, call.dir, fault),
     }
@@ -293,7 +293,7 @@ fn open_log<'a, R>(rt: &'a R, call: &CallTask<'a>) -> io::Result<Option<SessionL
 where
     R: Files<File = File> + Env + Clock + AllocGlobal,
 {
-    let Some(path) = call.log else {
+    let Some(path) = call.outputs.log else {
         return Ok(None);
     };
     if !call.may_run() {
@@ -304,7 +304,7 @@ where
         Err(_) if call.is_spool => return Ok(None),
         Err(error) => return Err(error),
     };
-    let mut log = SessionLog::new(rt.alloc(), rt, file, call.side, call.peer, call.line);
+    let mut log = SessionLog::new(rt.alloc(), rt, file, call.side, call.peer, call.line.name);
     if call.side == Side::Caller {
         log.begin();
     }
@@ -360,10 +360,11 @@ fn failure_text(
         word = format!(in alloc; "{}", BadNumber)?;
     }
     let reason = if is_refused_lock(&failure) {
-        locks_line(alloc, call.locks, failure)?
+        locks_line(alloc, call.line.locks, failure)?
     } else {
-        let report = call.report.unwrap_or("");
-        reason_line(alloc, report, call.line, call.dir, call.locks, failure)?
+        let report = call.outputs.report.unwrap_or("");
+        let line = call.line;
+        reason_line(alloc, report, line.name, call.dir, line.locks, failure)?
     };
     end_text(alloc, word.as_str(), words_of(reason.as_str()))
 }

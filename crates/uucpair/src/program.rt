@@ -230,8 +230,8 @@ fn greet<R: Eprint + AllocGlobal>(rt: &R, task: Task<'_>, console: Console) {
         Task::Call(call)
             if call.side == Side::Called
                 && (console.is_errors_terminal
-                    || has_no_host(call.line)
-                    || has_no_port(call.line)) => {
+                    || has_no_host(call.line.name)
+                    || has_no_port(call.line.name)) => {
             // A message for which there is no memory is left out.
             let _ = say_waiting(rt, &call);
         }
@@ -250,10 +250,10 @@ fn greet<R: Eprint + AllocGlobal>(rt: &R, task: Task<'_>, console: Console) {
 
 /// Prints at which line an end waits to be called, if it may be run and its line is not standard input and output.
 fn say_waiting<R: Eprint + AllocGlobal>(rt: &R, call: &CallTask<'_>) -> Result<(), AllocError> {
-    if call.line == "-" || !call.may_run() || lacks_spool(call) {
+    if call.line.name == "-" || !call.may_run() || lacks_spool(call) {
         return Ok(());
     }
-    let line = waiting_words(rt.alloc(), call.line)?;
+    let line = waiting_words(rt.alloc(), call.line.name)?;
     let line = line.as_str();
     let _ = eprint!(rt; "uucpair: waiting on {line}\n");
     Ok(())

@@ -19,11 +19,11 @@ where
     A: Allocator + Copy,
     R: Files<File = File> + Env + Clock + AllocGlobal,
 {
-    let Some(path) = task.log else {
+    let Some(path) = task.outputs.log else {
         return;
     };
     if let Ok(file) = LogFile::open(rt, path, task.is_spool) {
-        let mut log = SessionLog::new(alloc, rt, file, task.side, task.peer, task.line);
+        let mut log = SessionLog::new(alloc, rt, file, task.side, task.peer, task.line.name);
         log.fault(text);
     }
 }
@@ -86,7 +86,7 @@ where
     let Some(failure) = failure else {
         return;
     };
-    if let Ok(line) = reason_line(alloc, "", task.line, task.dir, "", *failure) {
+    if let Ok(line) = reason_line(alloc, "", task.line.name, task.dir, "", *failure) {
         log_fault(alloc, rt, task, words_of(line.as_str()));
     }
 }

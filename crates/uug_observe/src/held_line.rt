@@ -7,18 +7,18 @@ use std::rt::Files;
 use uug_disk::lock_holder;
 use uug_locks::{Holder, lock_path};
 use uug_reason::add_escaped;
-use uug_task::CallTask;
+use uug_task::LineOptions;
 
-/// Returns a line for standard error about the device of a task, which another run holds: who that is, as far as its
+/// Returns a remark for standard error on the device of this line, which another run holds: who that is, as far as its
 /// lock file tells, and what to do.
 pub fn line_held_remark<A: Allocator + Copy, R: Files>(
     alloc: A,
     rt: &R,
-    task: &CallTask<'_>,
+    line: &LineOptions<'_>,
 ) -> Result<String<A>, AllocError> {
-    let holder = lock_holder(alloc, rt, task.locks, task.line)?;
-    let path = lock_path(alloc, task.locks, task.line)?;
-    held_remark(alloc, holder, path.as_str(), task.line)
+    let holder = lock_holder(alloc, rt, line.locks, line.name)?;
+    let path = lock_path(alloc, line.locks, line.name)?;
+    held_remark(alloc, holder, path.as_str(), line.name)
 }
 
 /// Returns the line about a device whose lock file at this path has this holder.

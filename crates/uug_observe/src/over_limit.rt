@@ -61,8 +61,13 @@ fn tell_large<A: Allocator + Copy, R: System>(
     let Some(size) = large_size(alloc, rt, task, name)? else {
         return Ok(());
     };
-    let path = path_of(alloc, task, name)?;
-    let line = large_line(alloc, path.as_str(), size, u64::from(task.file_limit))?;
+    let path = path_of(alloc, task.dir, name)?;
+    let line = large_line(
+        alloc,
+        path.as_str(),
+        size,
+        u64::from(task.limits.file_limit),
+    )?;
     let line = line.as_str();
     let _ = eprint!(rt; "{line}");
     log_fault(alloc, rt, task, words_of(line));
@@ -76,22 +81,17 @@ fn large_size<A: Allocator + Copy, R: Files>(
     task: &CallTask<'_>,
     name: &Name,
 ) -> Result<Option<u64>, AllocError> {
-    let path = path_of(alloc, task, name)?;
+    let path = path_of(alloc, task.dir, name)?;
     match fs::metadata(rt, path.as_str()) {
-        Ok(found) if found.is_file() && found.len() > u64::from(task.file_limit) => {
+        Ok(found) if found.is_file() && found.len() > u64::from(task.limits.file_limit) => {
             Ok(Some(found.len()))
         }
         _ => Ok(None),
     }
 }
 
-/// Returns the path of the file of this name in `send` of the folder.
-fn path_of<A: Allocator>(
-    alloc: A,
-    task: &CallTask<'_>,
-    name: &Name,
-) -> Result<String<A>, AllocError> {
-    let dir = task.dir;
+/// Returns the path of the file of this name in `send` of this folder.
+fn path_of<A: Allocator>(alloc: A, dir: &str, name: &Name) -> Result<String<A>, AllocError> {
     let name = name.as_str();
     format!(in alloc; "{dir}/send/{name}")
 }

@@ -20,10 +20,10 @@ where
     A: Allocator + Copy,
     R: Files<File = File> + Env + Clock + AllocGlobal,
 {
-    let Ok(path) = mark_of(alloc, task) else {
+    let Ok(path) = mark_of(alloc, task.dir) else {
         return;
     };
-    if task.log.is_none() {
+    if task.outputs.log.is_none() {
         return;
     }
     if let Err(error) = File::create_new(rt, path.as_str()) {
@@ -33,15 +33,14 @@ where
     }
 }
 
-/// Removes the mark of a session that is over.
-pub fn unmark_session<A: Allocator + Copy, R: Files>(alloc: A, rt: &R, task: &CallTask<'_>) {
-    if let Ok(path) = mark_of(alloc, task) {
+/// Removes the mark of a session that is over from this folder.
+pub fn unmark_session<A: Allocator + Copy, R: Files>(alloc: A, rt: &R, dir: &str) {
+    if let Ok(path) = mark_of(alloc, dir) {
         let _ = fs::remove_file(rt, path.as_str());
     }
 }
 
-/// Returns the path of the mark.
-fn mark_of<A: Allocator>(alloc: A, task: &CallTask<'_>) -> Result<String<A>, AllocError> {
-    let dir = task.dir;
+/// Returns the path of the mark in this folder.
+fn mark_of<A: Allocator>(alloc: A, dir: &str) -> Result<String<A>, AllocError> {
     format!(in alloc; "{dir}/.session")
 }

@@ -83,18 +83,18 @@ impl<'a, R: Eprint + Clock, A: Allocator + Copy> SystemObserver<'a, R, A> {
         log: Option<SessionLog<'a, R, A>>,
     ) -> Result<Self, AllocError> {
         let shows_progress = shows_progress(task, at_terminal);
-        let observer = if task.is_loud || shows_progress || log.is_some() {
-            Some(Observer::new(alloc, task.is_lenient, task.file_limit)?)
+        let observer = if task.outputs.is_loud || shows_progress || log.is_some() {
+            Some(Observer::new(alloc, task.settings.is_lenient, task.limits.file_limit)?)
         } else {
             None
         };
         Ok(SystemObserver {
             alloc,
-            is_lenient: task.is_lenient,
-            file_limit: task.file_limit,
+            is_lenient: task.settings.is_lenient,
+            file_limit: task.limits.file_limit,
             observer,
             tellers: Tellers {
-                is_loud: task.is_loud,
+                is_loud: task.outputs.is_loud,
                 voice: Voice::new(alloc, rt, shows_progress),
                 log,
             },
@@ -268,11 +268,11 @@ impl<R: Eprint + Clock, A: Allocator + Copy> SessionObserver for SystemObserver<
 /// may be its line.
 fn shows_progress(task: &CallTask<'_>, at_terminal: bool) -> bool
     ensures terminal { IsTrue result → IsTrue at_terminal }
-    ensures apart { line_of task.now.line.now ≡ Some standard → IsTrue result
-        → IsTrue task.now.is_loud }
+    ensures apart { line_of task.now.line.name.now ≡ Some standard → IsTrue result
+        → IsTrue task.now.outputs.is_loud }
 {
-    match read_line_name(task.line) {
-        Some(LineName::Standard) => at_terminal && task.is_loud,
+    match read_line_name(task.line.name) {
+        Some(LineName::Standard) => at_terminal && task.outputs.is_loud,
         _ => at_terminal,
     }
 }

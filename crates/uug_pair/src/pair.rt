@@ -6,7 +6,7 @@ ghost use Rattle.uug_folder.specs.JobsText.{IsQueueOf};
 ghost use Rattle.uug_stream.specs.Streams.{CountsFault};
 ghost use Rattle.uug_transfer.specs.FaultInjection.{is_in_range};
 ghost use Rattle.uug_failure.specs.Failures.{fault_with};
-ghost use Rattle.uug_failure.specs.Faults.{IsReadingFault, IsRunFault, IsSessionFault};
+ghost use Rattle.uug_failure.specs.Faults.{IsFolderFault, IsReadingFault, IsRunFault, IsSessionFault};
 ghost use Rattle.uug_pair.specs.Answers.{IsRunAnswer};
 ghost use Rattle.uug_pair.specs.GoneJobs.{GoneJobsWereDone, beginnings_of, kept_by, nodes_of};
 ghost use Rattle.uug_task.specs.Places.{IsPlaceInPair};
@@ -100,6 +100,13 @@ impl<'a> PairRun<'a> {
     }
 }
 
+/// The locks on the folders of both ends.
+#[derive(Drop)]
+struct PairLocks<A: Allocator> {
+    caller: DirLock<A>,
+    called: DirLock<A>,
+}
+
 /// Runs two ends as `pair_run_with_reason` does, without an observer. A fault does not say which system call failed, or
 /// which folder another run holds.
 pub fn pair_run<A: Allocator + Copy, R: Files<File = File> + Net + Alloc + Clone + Drop, O: Output>(
@@ -155,17 +162,28 @@ pub fn pair_run_with_reason<
     let Some(injector) = FaultInjector::new(run.drop_every, run.flip_every) else {
         return Err(RunFault::Tool(ToolFault::Usage));
     };
-    let lock_a = lock_dir(alloc, rt, run.caller_dir())?;
-    let result = match lock_dir(alloc, rt, run.called_dir()) {
-        Ok(lock_b) => {
-            let result = run_locked(alloc, rt, run, &lock_a, &lock_b, injector, observer, output);
-            drop(lock_b);
-            result
-        }
-        Err(fault) => Err(fault),
-    };
-    drop(lock_a);
+    let locks = lock_both(alloc, rt, run)?;
+    let result = run_locked(alloc, rt, run.socket, &locks, injector, observer, output);
+    drop(locks);
     result
+}
+
+/// Locks the folders of both ends.
+fn lock_both<A: Allocator + Copy, R: Files<File = File> + Alloc + Clone + Drop>(
+    alloc: A,
+    rt: &R,
+    run: &PairRun<'_>,
+) -> Result<PairLocks<A>, RunFault>
+    ensures { IfErr result IsFolderFault }
+{
+    let caller = lock_dir(alloc, rt, run.caller_dir())?;
+    match lock_dir(alloc, rt, run.called_dir()) {
+        Ok(called) => Ok(PairLocks { caller, called }),
+        Err(fault) => {
+            drop(caller);
+            Err(fault)
+        }
+    }
 }
 
 /// Runs both ends over their folders, which are locked.
@@ -177,9 +195,8 @@ fn run_locked<
 >(
     alloc: A,
     rt: &R,
-    run: &PairRun<'_>,
-    lock_a: &DirLock<A>,
-    lock_b: &DirLock<A>,
+    socket: &str,
+    locks: &PairLocks<A>,
     injector: FaultInjector,
     observer: W,
     output: &mut O,
@@ -189,15 +206,14 @@ fn run_locked<
         → CountsFault (O.fault_count output.old) (O.fault_count output.new) }
     ensures no_other { IfErr result IsSessionFault }
 {
-    let (dir_a, dir_b) = (run.caller_dir(), run.called_dir());
-    let parts = read_both(alloc, rt, lock_a, lock_b, dir_a, dir_b)?;
+    let parts = read_both(alloc, rt, locks)?;
     let FinishedPair {
         caller,
         called,
         answer,
-    } = run_both(alloc, rt, run.socket, parts, injector, observer, output)?;
-    mark_copies(alloc, rt, dir_a, &caller);
-    mark_copies(alloc, rt, dir_b, &called);
+    } = run_both(alloc, rt, socket, parts, injector, observer, output)?;
+    mark_copies(alloc, rt, locks.caller.dir(), &caller);
+    mark_copies(alloc, rt, locks.called.dir(), &called);
     drop(caller);
     drop(called);
     answer
@@ -360,10 +376,7 @@ fn failure_of<R: Files, A: Allocator + Copy>(end: &SystemEnd<'_, R, A>) -> Optio
 fn read_both<'a, A: Allocator + Copy, R: Files + Alloc + Clone + Drop>(
     alloc: A,
     rt: &'a R,
-    lock_a: &DirLock<A>,
-    lock_b: &DirLock<A>,
-    dir_a: EndDir<'a>,
-    dir_b: EndDir<'a>,
+    locks: &'a PairLocks<A>,
 ) -> Result<PairParts<'a, R, A>, RunFault>
     ensures caller_calm { IfOk result (λ parts. parts.caller.jobs.file.faults.count ≡ 0) }
     ensures called_calm { IfOk result (λ parts. parts.called.jobs.file.faults.count ≡ 0) }
@@ -375,8 +388,8 @@ fn read_both<'a, A: Allocator + Copy, R: Files + Alloc + Clone + Drop>(
         IsQueueOf parts.called.jobs.before.items parts.called.queue) }
     ensures no_other { IfErr result IsReadingFault }
 {
-    let jobs = open_both(alloc, rt, lock_a, lock_b, dir_a, dir_b)?;
-    let files = match read_sends(alloc, rt, lock_a, lock_b) {
+    let jobs = open_both(alloc, rt, locks)?;
+    let files = match read_sends(alloc, rt, locks) {
         Ok(files) => files,
         Err(fault) => {
             drop(jobs);
@@ -385,6 +398,7 @@ fn read_both<'a, A: Allocator + Copy, R: Files + Alloc + Clone + Drop>(
     };
     let (caller_jobs, called_jobs) = jobs;
     let (caller_files, called_files) = files;
+    let (dir_a, dir_b) = (locks.caller.dir(), locks.called.dir());
     let Ok(caller) = make_parts(alloc, rt, Side::Caller, dir_a, caller_jobs, caller_files) else {
         drop(called_jobs);
         drop(called_files);
@@ -403,17 +417,14 @@ fn read_both<'a, A: Allocator + Copy, R: Files + Alloc + Clone + Drop>(
 fn open_both<'a, A: Allocator + Copy, R: Files>(
     alloc: A,
     rt: &'a R,
-    lock_a: &DirLock<A>,
-    lock_b: &DirLock<A>,
-    dir_a: EndDir<'a>,
-    dir_b: EndDir<'a>,
+    locks: &'a PairLocks<A>,
 ) -> Result<(OpenJobs<'a, R, A>, OpenJobs<'a, R, A>), RunFault>
     ensures caller_calm { IfOk result (λ both. both.0.file.file.faults.count ≡ 0) }
     ensures called_calm { IfOk result (λ both. both.1.file.file.faults.count ≡ 0) }
     ensures no_other { IfErr result IsReadingFault }
 {
-    let caller = open_jobs(alloc, rt, lock_a, dir_a)?;
-    match open_jobs(alloc, rt, lock_b, dir_b) {
+    let caller = open_jobs(alloc, rt, &locks.caller, locks.caller.dir())?;
+    match open_jobs(alloc, rt, &locks.called, locks.called.dir()) {
         Ok(called) => Ok((caller, called)),
         Err(fault) => {
             drop(caller);
@@ -426,13 +437,12 @@ fn open_both<'a, A: Allocator + Copy, R: Files>(
 fn read_sends<A: Allocator + Copy, R: Files + Alloc + Clone + Drop>(
     alloc: A,
     rt: &R,
-    lock_a: &DirLock<A>,
-    lock_b: &DirLock<A>,
+    locks: &PairLocks<A>,
 ) -> Result<(Vec<Stored<A>, A>, Vec<Stored<A>, A>), RunFault>
     ensures { IfErr result IsReadingFault }
 {
-    let caller = read_send(alloc, rt, lock_a)?;
-    match read_send(alloc, rt, lock_b) {
+    let caller = read_send(alloc, rt, &locks.caller)?;
+    match read_send(alloc, rt, &locks.called) {
         Ok(called) => Ok((caller, called)),
         Err(fault) => {
             drop(caller);

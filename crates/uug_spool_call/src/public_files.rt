@@ -55,13 +55,13 @@ pub(crate) struct Giver<'a, A: Allocator, R> {
 impl<'a, A: Allocator, R> Giver<'a, A, R> {
     /// Returns the parameters for the end of a call.
     pub(crate) fn new(alloc: A, rt: &'a R, paths: &'a SpoolPaths<A>, call: &SpoolCall<'a>) -> Self
-        ensures { result.folders ≡ call.now.rules.gives }
+        ensures { result.folders ≡ call.now.spool.rules.gives }
     {
         Giver {
             alloc,
             rt,
             paths,
-            folders: call.rules.gives,
+            folders: call.spool.rules.gives,
             most: call.allowance.bytes,
         }
     }

@@ -29,9 +29,9 @@ pub(crate) fn read_held<A, R>(
 where
     A: Allocator + Copy,
     R: Files + Clock + Alloc + Clone + Drop,
-    ensures { IfOk result (λ held. is_some held ≡ call.now.is_resuming) }
+    ensures { IfOk result (λ held. is_some held ≡ call.now.settings.is_resuming) }
 {
-    if !call.is_resuming {
+    if !call.settings.is_resuming {
         return Ok(None);
     }
     let path = paths.partial(alloc)?;

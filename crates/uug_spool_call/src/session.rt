@@ -159,11 +159,11 @@ where
         (node_in end.buffered)) }
     ensures resuming { IfOk result (λ end. is_some
         (⟦<SpoolFiles<'a, 'p, R, A> as Spool>⟧.holdings (spool_in end.buffered)).partials
-        ≡ call.now.is_resuming) }
+        ≡ call.now.settings.is_resuming) }
     ensures no_other { IfErr result IsFolderFault }
 {
     refuse_links(alloc, rt, call, paths)?;
-    let taken = String::from_str(alloc, call.rules.takes)?;
+    let taken = String::from_str(alloc, call.spool.rules.takes)?;
     let mut ungiven = Vec::new(alloc);
     let listing = look_at_public(&mut ungiven, alloc, rt, paths)?;
     let PublicListing {
@@ -183,7 +183,14 @@ where
         taken,
     };
     let Arrivals { came, aside } = finish_arrivals(alloc, rt, paths, &mut public)?;
-    let mut work = read_work(alloc, rt, paths, &place.me, call.allowance, call.grade)?;
+    let mut work = read_work(
+        alloc,
+        rt,
+        paths,
+        &place.me,
+        call.allowance,
+        call.spool.grade,
+    )?;
     if work.is_more {
         tell_more(alloc, rt, call, paths);
     }

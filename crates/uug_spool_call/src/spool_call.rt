@@ -9,8 +9,7 @@ use uug_mailbox::split_last;
 use uug_session::Side;
 use uug_spool_disk::SpoolPaths;
 use uug_talk::Name;
-use uug_task::FolderRules;
-use uug_transfer::Thinning;
+use uug_task::{Outputs, SessionSettings, SpoolOptions};
 
 /// The task of a call over a spool.
 #[derive(Clone, Copy)]
@@ -18,31 +17,17 @@ pub struct SpoolCall<'a> {
     /// The side of this end: it calls, or is called.
     pub side: Side,
     /// The path of the spool.
-    pub spool: &'a str,
-    /// The path of the public folder; `uucppublic` beside the spool where none is named.
-    pub public: Option<&'a str>,
-    /// The log, where one is named.
-    pub log: Option<&'a str>,
-    /// The statistics, where they are named.
-    pub stats: Option<&'a str>,
-    /// The lowest grade of the jobs that it offers, where one is named.
-    pub grade: Option<&'a str>,
+    pub dir: &'a str,
     /// The name of its line in the log and the statistics.
     pub port: &'a str,
-    /// The folders of which it gives files, and into which it takes files that it does not ask for.
-    pub rules: FolderRules<'a>,
-    /// True if it refuses what it can't read, and goes on.
-    pub is_lenient: bool,
-    /// True if it announces digests of its files, and compares those that it reads.
-    pub tells_digests: bool,
-    /// True if it holds what has come of a file that is cut off, and goes on there in its next session.
-    pub is_resuming: bool,
-    /// The packets that it leaves out of those it emits.
-    pub thinning: Thinning,
+    /// The settings of its session.
+    pub settings: SessionSettings,
     /// The allowance for the files that it reads for a session.
     pub allowance: Allowance,
-    /// True if it says on standard error what it puts off.
-    pub is_loud: bool,
+    /// Its outputs.
+    pub outputs: Outputs<'a>,
+    /// The options of its spool.
+    pub spool: SpoolOptions<'a>,
 }
 
 /// Returns the paths of the folders of a system.
@@ -51,16 +36,16 @@ pub(crate) fn paths_of<A: Allocator + Copy>(
     call: &SpoolCall<'_>,
     system: Name,
 ) -> Result<SpoolPaths<A>, AllocError>
-    ensures spool { IfOk result (λ paths. string_bytes paths.spool ≡ call.now.spool.now) }
+    ensures spool { IfOk result (λ paths. string_bytes paths.spool ≡ call.now.dir.now) }
     ensures system { IfOk result (λ paths. paths.system ≡ system) }
     ensures public { IfOk result (λ paths.
-        string_bytes paths.public ≡ public_path call.now.spool.now call.now.public) }
+        string_bytes paths.public ≡ public_path call.now.dir.now call.now.spool.public) }
 {
-    match call.public {
-        Some(public) => SpoolPaths::new(alloc, call.spool, system, without_slash(public)),
+    match call.spool.public {
+        Some(public) => SpoolPaths::new(alloc, call.dir, system, without_slash(public)),
         None => {
-            let public = public_beside(alloc, call.spool)?;
-            SpoolPaths::new(alloc, call.spool, system, public.as_str())
+            let public = public_beside(alloc, call.dir)?;
+            SpoolPaths::new(alloc, call.dir, system, public.as_str())
         }
     }
 }

@@ -80,7 +80,7 @@ impl<'a, 'p, R: Files<File = File>, A: Allocator + Copy> SpoolEnd<'a, 'p, R, A> 
         // received.
         ensures holdings { IfOk result (λ end.
             ⟦<SpoolFiles<'a, 'p, R, A> as Spool>⟧.holdings (spool_in end.buffered)
-            ≡ mail_holdings call.now.is_lenient call.now.tells_digests
+            ≡ mail_holdings call.now.settings.is_lenient call.now.settings.tells_digests
             call.now.allowance.limit.bytes (shown_public public) work.partials (map kept_of work.files.items)) }
         ensures kept { IfOk result (λ end.
             ⟦<SpoolFiles<'a, 'p, R, A> as Spool>⟧.kept (spool_in end.buffered) ≡ []) }
@@ -127,7 +127,7 @@ impl<'a, 'p, R: Files<File = File>, A: Allocator + Copy> SpoolEnd<'a, 'p, R, A> 
         } = work;
         let folder = SpoolFolder::new(SpoolDisk::new(alloc, rt, paths), came);
         let spool = files_over(alloc, call, folder, files, public, partials, notes);
-        let injector = FaultInjector::without_faults(call.thinning);
+        let injector = FaultInjector::without_faults(call.settings.thinning());
         match begin_end(alloc, call.side, place, queue, spool, injector) {
             Ok(buffered) => Ok(SpoolEnd {
                 buffered,
@@ -198,14 +198,14 @@ fn files_over<'a, 'p, R: Files<File = File>, A: Allocator + Copy>(
     notes: PartialNotes<'a, R, A>,
 ) -> SpoolFiles<'a, 'p, R, A>
     ensures holdings { ⟦<SpoolFiles<'a, 'p, R, A> as Spool>⟧.holdings result
-        ≡ mail_holdings call.now.is_lenient call.now.tells_digests
+        ≡ mail_holdings call.now.settings.is_lenient call.now.settings.tells_digests
         call.now.allowance.limit.bytes (shown_public public) partials (map kept_of files.items) }
     ensures kept { ⟦<SpoolFiles<'a, 'p, R, A> as Spool>⟧.kept result ≡ [] }
     ensures folder { result.folder ≡ folder.entry }
 {
     let settings = MailSettings {
-        is_lenient: call.is_lenient,
-        tells_digests: call.tells_digests,
+        is_lenient: call.settings.is_lenient,
+        tells_digests: call.settings.tells_digests,
         limit: call.allowance.limit,
     };
     MailSpool::new(alloc, files, public, folder, partials, notes, settings)

@@ -85,7 +85,7 @@ impl<A: Allocator + Copy, R: Files<File = File> + Clock> Teller<'_, '_, A, R> {
 
     /// Appends a line to the log, if one is named.
     pub(crate) fn log(&self, user: &[u8], event: &LogEvent<'_>) {
-        let Some(path) = self.call.log else {
+        let Some(path) = self.call.outputs.log else {
             return;
         };
         let head = LogHead {
@@ -102,7 +102,7 @@ impl<A: Allocator + Copy, R: Files<File = File> + Clock> Teller<'_, '_, A, R> {
 
     /// Appends a line to the statistics, if they are named.
     fn count(&self, user: &[u8], course: Course, size: u64) {
-        let Some(path) = self.call.stats else {
+        let Some(path) = self.call.spool.stats else {
             return;
         };
         let head = StatsHead {
@@ -244,7 +244,7 @@ impl<A: Allocator + Copy, R: Files<File = File> + Clock + Eprint> Teller<'_, '_,
                 continue;
             };
             let line = line.as_str();
-            if self.call.is_loud {
+            if self.call.outputs.is_loud {
                 let _ = eprint!(self.rt; "{line}");
             }
             self.log(b"", &LogEvent::Fault(words_of(line).as_bytes()));

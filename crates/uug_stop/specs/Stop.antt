@@ -126,8 +126,8 @@ NamesFolder dir remark (CommandLine error) = ⊥
 -- the file of the output of this number of one end: 1 is its log, 2 the statistics, else its report
 abbrev pub output_of : CallTask → (number : ℕ) → List ℕ
 output_of call number =
-    if number == 1 then word_or_empty call.log else
-    (if number == 2 then word_or_empty call.stats else word_or_empty call.report)
+    if number == 1 then word_or_empty call.outputs.log else
+    (if number == 2 then word_or_empty call.spool.stats else word_or_empty call.outputs.report)
 
 -- what another run holds: the line, or the folder of this number
 abbrev pub held_by_another : Places → (end : ℕ) → Resource → List ℕ
@@ -188,8 +188,8 @@ abbrev pub is_refused_lock : SystemFailure → Bool
 is_refused_lock failure = is_refused_in failure.end failure.resource failure.cause
 
 abbrev pub StopsOnSystem : (is_refused_lock : Bool) → CallTask → SystemFailure → (remark : List ℕ) → Stop → Type 0
-StopsOnSystem true call failure remark stop = SaysReason (locks_line call.locks.now failure) stop
-StopsOnSystem false call failure remark stop = StopsOnCause (places (output_of call failure.end) call.line.now call.dir.now call.locks.now) failure remark failure.cause stop
+StopsOnSystem true call failure remark stop = SaysReason (locks_line call.line.locks.now failure) stop
+StopsOnSystem false call failure remark stop = StopsOnCause (places (output_of call failure.end) call.line.name.now call.dir.now call.line.locks.now) failure remark failure.cause stop
 
 -- The message of one end reports bad usage, a bad line of its jobs, or the failed system call. Its two folders are its
 -- own and that of the locks.

@@ -94,12 +94,11 @@ fn stop_of_system(
         (string_bytes remark) result }
 {
     if is_refused_lock(&failure) {
-        return says_reason(locks_line(alloc, call.locks, failure));
+        return says_reason(locks_line(alloc, call.line.locks, failure));
     }
     let output = output_named(call, failure.end);
-    stop_of_cause(
-        alloc, output, call.line, call.dir, call.locks, failure, remark,
-    )
+    let (line, locks) = (call.line.name, call.line.locks);
+    stop_of_cause(alloc, output, line, call.dir, locks, failure, remark)
 }
 
 /// Returns whether the system refused to create a lock file for one end.
@@ -159,9 +158,9 @@ fn output_named<'a>(call: &CallTask<'a>, number: usize) -> &'a str
     ensures { result.now ≡ output_of call.now number }
 {
     let path = match number {
-        LOG => call.log,
-        STATS => call.stats,
-        _ => call.report,
+        LOG => call.outputs.log,
+        STATS => call.spool.stats,
+        _ => call.outputs.report,
     };
     path.unwrap_or("")
 }

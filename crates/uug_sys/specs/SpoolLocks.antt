@@ -52,7 +52,7 @@ locked_remark locks system = locked_by system (lock_path locks system)
 -- out
 abbrev pub CallsLater : CallTask → Result ℕ RunFault → (remark : List ℕ) → Type 0
 CallsLater task answer remark = MatchResult answer
-    (λ status. (status ≡ 1) × (remark ≡ locked_remark task.locks.now task.peer.now))
+    (λ status. (status ≡ 1) × (remark ≡ locked_remark task.line.locks.now task.peer.now))
     (λ fault. fault ≡ Tool Memory)
 
 -- ---- the words of a called end without the lock

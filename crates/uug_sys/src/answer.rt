@@ -241,7 +241,7 @@ fn is_in_folder(resource: Resource) -> bool
 /// Reports the fault of a session at once, on standard error and in the log: the next sessions don't know it. The fault
 /// of an only session is reported at the end.
 fn report_fault<A: Allocator + Copy, R: System>(run: &EndRun<'_, A, R>, fault: RunFault) {
-    if run.task.sessions == 1 {
+    if run.task.limits.sessions == 1 {
         return;
     }
     match fault {
@@ -276,7 +276,7 @@ fn report_failure<A: Allocator + Copy, R: System>(
     task: &CallTask<'_>,
     failure: SystemFailure,
 ) {
-    if let Ok(line) = reason_line(alloc, "", task.line, task.dir, "", failure) {
+    if let Ok(line) = reason_line(alloc, "", task.line.name, task.dir, "", failure) {
         let line = line.as_str();
         let _ = eprint!(rt; "{line}");
         log_fault(alloc, rt, task, words_of(line));

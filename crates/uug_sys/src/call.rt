@@ -162,7 +162,7 @@ fn look<A: Allocator + Copy, R: System>(
     ensures { IfErr result IsReadingFault }
 {
     see_no_spool(alloc, rt, lock.dir())?;
-    let numbers = read_numbers(alloc, rt, task, lock)?;
+    let numbers = read_numbers(alloc, rt, &task.settings, lock)?;
     let jobs = open_jobs(alloc, rt, lock, task.end_dir())?;
     let is_numbered = numbers.begins.is_some();
     let seen = see_dir(alloc, rt, lock.dir(), jobs.queue.pending(), is_numbered);
@@ -299,7 +299,7 @@ where
     ensures reported { IfOk result.answer (λ status. IsReported run.now.task.now.side status
         (O.written output.old) (O.written output.new)) }
 {
-    let lock = match lock_device(run.alloc, run.rt, run.task.locks, path) {
+    let lock = match lock_device(run.alloc, run.rt, run.task.line.locks, path) {
         Ok(lock) => lock,
         Err(fault) => {
             drop(held);
@@ -431,7 +431,7 @@ fn told<A: Allocator + Copy, R: System>(
     let Outcome { answer, remark } = ended;
     let (answer, failure) = status_and_failure(answer, line);
     log_failure(run.alloc, run.rt, run.task, &failure);
-    let (line, dir) = (run.task.line, run.task.dir);
+    let (line, dir) = (run.task.line.name, run.task.dir);
     let failed = failure_remark(run.alloc, line, dir, failure);
     Outcome {
         answer,
@@ -476,11 +476,11 @@ where
         (O.written output.old) (O.written output.new)) }
     ensures named { result.answer ≢ Err (RunFault.Tool ToolFault.Device) }
 {
-    match lock_again(run.alloc, run.rt, run.task, held) {
+    match lock_again(run.alloc, run.rt, run.task.end_dir(), held) {
         Ok(lock) => {
             mark_session(run.alloc, run.rt, run.task);
             let outcome = talk_locked(run, &lock, line, output);
-            unmark_session(run.alloc, run.rt, run.task);
+            unmark_session(run.alloc, run.rt, run.task.dir);
             drop(lock);
             outcome
         }
@@ -488,18 +488,18 @@ where
     }
 }
 
-/// Returns the lock on an end's folder, and takes it again if the end released it while it waited.
+/// Returns the lock on this folder of an end, and takes it again if the end released it while it waited.
 fn lock_again<A: Allocator + Copy, R: Files<File = File> + Alloc + Clone + Drop>(
     alloc: A,
     rt: &R,
-    task: &CallTask<'_>,
+    dir: EndDir<'_>,
     held: Option<DirLock<A>>,
 ) -> Result<DirLock<A>, RunFault>
     ensures { IfErr result IsFolderFault }
 {
     match held {
         Some(lock) => Ok(lock),
-        None => lock_dir(alloc, rt, task.end_dir()),
+        None => lock_dir(alloc, rt, dir),
     }
 }
 
@@ -533,7 +533,14 @@ where
         Err(fault) => return Outcome::of(alloc, Err(fault)),
     };
     let limits = run.station.limits();
-    let Ok(finished) = parts.run(alloc, task.side, task.thinning(), line, limits, output) else {
+    let Ok(finished) = parts.run(
+        alloc,
+        task.side,
+        task.settings.thinning(),
+        line,
+        limits,
+        output,
+    ) else {
         return Outcome::of(alloc, Err(RunFault::Tool(ToolFault::Memory)));
     };
     let FinishedEnd { end, answer } = finished;
@@ -589,7 +596,7 @@ fn remark_on<A: Allocator + Copy, R: System, S: Spool>(
     let (failed, pending) = (queue.failed(), queue.pending());
     let given_up = failed_remark(alloc, task.dir, large, node.spool(), failed);
     let remark = with_part(String::new(alloc), given_up);
-    let put_off = put_off_remark(alloc, phase, task.tells_digests, pending);
+    let put_off = put_off_remark(alloc, phase, task.settings.tells_digests, pending);
     let remark = with_part(remark, put_off);
     let differ = numbers_remark(alloc, phase, numbers.begins, numbers.heard);
     if let Ok(line) = &differ {

@@ -9,7 +9,7 @@ use uug_disk::{DirLock, read_text};
 use uug_failure::{Cause, EndDir, EndText, Resource, RunFault};
 use uug_folder::{BadNumber, number_at_start, number_beside, read_number_text};
 use uug_session::{MemorySpool, Place, Queue, Side};
-use uug_task::{CallTask, Station, make_node};
+use uug_task::{CallTask, SessionSettings, Station, make_node};
 use uug_transfer::{BufferedNode, EndLine, FaultInjector, SessionLine, SessionObserver};
 
 /// The numbers of an end's conversations when its session begins.
@@ -27,15 +27,15 @@ pub(crate) struct Numbers {
 pub(crate) fn read_numbers<A: Allocator + Copy, R: Files>(
     alloc: A,
     rt: &R,
-    task: &CallTask<'_>,
+    settings: &SessionSettings,
     lock: &DirLock<A>,
 ) -> Result<Numbers, RunFault>
     ensures { IfErr result IsReadingFault }
 {
     let Some(text) = read_text(alloc, rt, lock.dir(), EndText::Number)? else {
-        return numbers_of(lock.dir(), None, task.is_numbered);
+        return numbers_of(lock.dir(), None, settings.is_numbered);
     };
-    numbers_of(lock.dir(), Some(text.as_slice()), task.is_numbered)
+    numbers_of(lock.dir(), Some(text.as_slice()), settings.is_numbered)
 }
 
 /// Returns the number that an end keeps, and the number in its file. `text` is the text of that file, if there is one.
@@ -76,7 +76,7 @@ pub(crate) fn meet<A: Allocator + Copy, R: Files, L: EndLine, W: SessionObserver
 ) -> Result<Numbers, RunFault>
     ensures { IfErr result IsReadingFault }
 {
-    let numbers = read_numbers(alloc, rt, task, lock)?;
+    let numbers = read_numbers(alloc, rt, &task.settings, lock)?;
     if task.side == Side::Caller || numbers.begins.is_none() {
         return Ok(numbers);
     }

@@ -74,7 +74,7 @@ where
         parts.place ≡ record place { number = numbers.begins }) }
     ensures jobs { IfOk result (λ parts. IsFrontOf parts.jobs.before.items parts.queue) }
     ensures resuming { IfOk result (λ parts.
-        is_some parts.spool.partials ≡ task.now.is_resuming) }
+        is_some parts.spool.partials ≡ task.now.settings.is_resuming) }
     ensures no_other { IfErr result IsReadingFault }
 {
     place.number = numbers.begins;
@@ -117,7 +117,7 @@ fn see_given<A: Allocator + Copy, R: Files<File = File> + Eprint + Alloc + Clone
 {
     match see_jobs(alloc, rt, lock.dir(), jobs) {
         Ok(()) => {
-            let given = read_given(alloc, rt, lock, jobs, task.allowance());
+            let given = read_given(alloc, rt, lock, jobs, task.limits.allowance());
             tell_unqueued(alloc, rt, task, &given);
             given
         }
@@ -169,10 +169,10 @@ fn make_parts<'a, A: Allocator + Copy, R: Files<File = File> + Alloc + Clone + D
     ensures place { IfOk result (λ parts. parts.place ≡ place) }
     ensures jobs { IfOk result (λ parts. parts.jobs.file.file ≡ jobs.entry.file.file) }
     ensures queue { IfOk result (λ parts. IsFrontOf parts.jobs.before.items parts.queue) }
-    ensures lenient { IfOk result (λ parts. parts.spool.lenient ≡ task.now.is_lenient) }
-    ensures digests { IfOk result (λ parts. parts.spool.digests ≡ task.now.tells_digests) }
+    ensures lenient { IfOk result (λ parts. parts.spool.lenient ≡ task.now.settings.is_lenient) }
+    ensures digests { IfOk result (λ parts. parts.spool.digests ≡ task.now.settings.tells_digests) }
     ensures limit { IfOk result (λ parts.
-        IsTask task.now → parts.spool.limit.bytes ≡ task.now.file_limit) }
+        IsTask task.now → parts.spool.limit.bytes ≡ task.now.limits.file_limit) }
     ensures files { IfOk result (λ parts. parts.spool.files.files ≡ given.files.items) }
     ensures delayed { IfOk result (λ parts. parts.spool.delayed ≡ given.delayed.items) }
     ensures number { IfOk result (λ parts. parts.number.file.faults.count ≡ 0) }
@@ -209,10 +209,10 @@ fn make_spool<'a, A: Allocator + Copy, R: Files<File = File> + Alloc + Clone + D
     files: Vec<Stored<A>, A>,
     delayed: Vec<Name, A>,
 ) -> Result<SystemSpool<'a, R, A>, AllocError>
-    ensures lenient { IfOk result (λ spool. spool.lenient ≡ task.now.is_lenient) }
-    ensures digests { IfOk result (λ spool. spool.digests ≡ task.now.tells_digests) }
+    ensures lenient { IfOk result (λ spool. spool.lenient ≡ task.now.settings.is_lenient) }
+    ensures digests { IfOk result (λ spool. spool.digests ≡ task.now.settings.tells_digests) }
     ensures limit { IfOk result (λ spool.
-        IsTask task.now → spool.limit.bytes ≡ task.now.file_limit) }
+        IsTask task.now → spool.limit.bytes ≡ task.now.limits.file_limit) }
     ensures files { IfOk result (λ spool. spool.files.files ≡ files.items) }
     ensures delayed { IfOk result (λ spool. spool.delayed ≡ delayed.items) }
 {
@@ -220,9 +220,9 @@ fn make_spool<'a, A: Allocator + Copy, R: Files<File = File> + Alloc + Clone + D
     let path = partial_path(alloc, task.dir)?;
     let notes = PartialNotes::new(alloc, rt, path);
     let files = FolderSpool::new(alloc, files, folder);
-    let mut spool = LocalNames::new(alloc, files, notes, task.allowance().limit);
+    let mut spool = LocalNames::new(alloc, files, notes, task.limits.allowance().limit);
     spool.set_delayed(delayed);
-    spool.set_lenient(task.is_lenient);
-    spool.set_digests(task.tells_digests);
+    spool.set_lenient(task.settings.is_lenient);
+    spool.set_digests(task.settings.tells_digests);
     Ok(spool)
 }

@@ -22,13 +22,13 @@ pub(crate) fn read_held<A, R>(
 where
     A: Allocator + Copy,
     R: Files + Clock + Alloc + Clone + Drop,
-    ensures { IfOk result (λ held. is_some held ≡ task.now.is_resuming) }
+    ensures { IfOk result (λ held. is_some held ≡ task.now.settings.is_resuming) }
 {
-    if !task.is_resuming {
+    if !task.settings.is_resuming {
         return Ok(None);
     }
     let path = partial_path(alloc, task.dir)?;
-    let held = read_partials(alloc, rt, path.as_str(), task.allowance())?;
+    let held = read_partials(alloc, rt, path.as_str(), task.limits.allowance())?;
     Ok(Some(held))
 }
 

@@ -23,7 +23,7 @@ use std::fs::File;
 use std::rt::{Env, Files};
 use std::time::Clock;
 use uug_disk::DeviceLock;
-use uug_failure::{Ended, Outcome, Resource, RunFault};
+use uug_failure::{EndDir, Ended, Outcome, Resource, RunFault};
 use uug_observe::BROKEN_OFF;
 use uug_port::{PortLine, SilentPort, StandardStreams};
 use uug_session::{End, Phase, Side};
@@ -59,7 +59,7 @@ where
     ensures sessions { run.now.task.now.side ≡ Side.Called → IfOk result.answer (λ status.
         AreReported Side.Called status (O.written output.old) (O.written output.new)) }
 {
-    if let Err(fault) = see_spool(run.alloc, run.rt, run.task) {
+    if let Err(fault) = see_spool(run.alloc, run.rt, run.task.end_dir()) {
         return Outcome::of(run.alloc, Err(fault));
     }
     if run.task.side == Side::Called {
@@ -147,7 +147,7 @@ fn call_later<A: Allocator + Copy, R: System>(
         run.station.place.peer,
         LOCKED,
     );
-    match locked_remark(run.alloc, task.locks, task.peer) {
+    match locked_remark(run.alloc, task.line.locks, task.peer) {
         Ok(remark) => Outcome {
             answer: Ok(1),
             remark,
@@ -174,13 +174,13 @@ fn line_fault(answer: &Result<u8, RunFault>) -> Option<bool>
 fn see_spool<A: Allocator + Copy, R: Files>(
     alloc: A,
     rt: &R,
-    task: &CallTask<'_>,
+    dir: EndDir<'_>,
 ) -> Result<(), RunFault>
     ensures { IfErr result IsFolderFault }
 {
-    match fs::metadata(rt, task.dir) {
-        Ok(_) => see_no_folder(alloc, rt, task.end_dir()),
-        Err(error) => Err(RunFault::of(&error, task.end_dir(), Resource::Dir)),
+    match fs::metadata(rt, dir.path) {
+        Ok(_) => see_no_folder(alloc, rt, dir),
+        Err(error) => Err(RunFault::of(&error, dir, Resource::Dir)),
     }
 }
 
@@ -260,8 +260,8 @@ where
     R: Files<File = File> + Clock + Env + AllocGlobal,
     ensures { IfErr result IsFolderFault }
 {
-    let is_left = has_lock(alloc, rt, task.locks, system);
-    let lock = lock_system(alloc, rt, task.locks, system);
+    let is_left = has_lock(alloc, rt, task.line.locks, system);
+    let lock = lock_system(alloc, rt, task.line.locks, system);
     if is_left && lock.is_ok() {
         if let Ok(system) = Name::new(system.as_bytes()) {
             tell_fault(alloc, rt, &said_of(task), system, BROKEN_OFF);
@@ -371,7 +371,7 @@ where
     }
     let (alloc, rt, place) = (run.alloc, run.rt, run.station.place);
     tell_fault(alloc, rt, &said_of(run.task), place.peer, LOCKED);
-    say_locked(alloc, rt, run.task.locks, place.peer);
+    say_locked(alloc, rt, run.task.line.locks, place.peer);
     let words = lock_words(alloc, &place.me)?;
     let _ = say(line, words.as_slice());
     talk_to_nobody(run, output)
@@ -552,18 +552,11 @@ fn said_of<'a>(task: &CallTask<'a>) -> SpoolCall<'a>
 {
     SpoolCall {
         side: task.side,
-        spool: task.dir,
-        public: task.public,
-        log: task.log,
-        stats: task.stats,
-        grade: task.grade,
-        port: port_of(task.port, task.line),
-        rules: task.rules,
-        is_lenient: task.is_lenient,
-        tells_digests: task.tells_digests,
-        is_resuming: task.is_resuming,
-        thinning: task.thinning(),
-        allowance: task.allowance(),
-        is_loud: task.is_loud,
+        dir: task.dir,
+        port: port_of(task.spool.port, task.line.name),
+        settings: task.settings,
+        allowance: task.limits.allowance(),
+        outputs: task.outputs,
+        spool: task.spool,
     }
 }

@@ -92,8 +92,8 @@ fn why_refused<A: Allocator + Copy, R: Files<File = File>>(
 /// Reports, on standard error and in the log, why no lock file can be created in the folder of the locks. Only other
 /// runs of uucpair are then kept off a device.
 pub(crate) fn tell_unlocked<A: Allocator + Copy, R: System>(alloc: A, rt: &R, task: &CallTask<'_>) {
-    if let RunFault::System(failure) = why_refused(alloc, rt, task.locks) {
-        if let Ok(line) = locks_line(alloc, task.locks, failure) {
+    if let RunFault::System(failure) = why_refused(alloc, rt, task.line.locks) {
+        if let Ok(line) = locks_line(alloc, task.line.locks, failure) {
             let line = line.as_str();
             let _ = eprint!(rt; "{line}");
             log_fault(alloc, rt, task, words_of(line));

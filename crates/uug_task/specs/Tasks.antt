@@ -36,17 +36,17 @@ has_place is_spool peer = not is_spool || is_system_name peer
 
 -- a task that may be run: its numbers are in their ranges, and its line and its names are valid
 pub record IsTask (task : CallTask) : Type 0 where
-  pub seconds : (0 < task.seconds) × (task.seconds ≤ SECONDS_MAX)
-  pub speed : IfSome task.speed IsSpeed
-  pub wait : IfSome task.wait (λ wait. (0 < wait) × (wait ≤ WAIT_MAX))
-  pub sessions : (0 < task.sessions) × (task.sessions ≤ SESSIONS_MAX)
-  pub window : IsWindow task.window
-  pub size : IsSize task.size
-  pub most : MOST_MIN ≤ task.most
-  pub file_limit : IsLimit task.file_limit
-  pub keep_days : (0 < task.keep_days) × (task.keep_days ≤ KEEP_MAX)
-  pub line : line_of task.line.now ≢ None
-  pub turns : IfSome (line_of task.line.now) (λ line. IsTrue (may_have task.sessions task.side line))
+  pub seconds : (0 < task.line.seconds) × (task.line.seconds ≤ SECONDS_MAX)
+  pub speed : IfSome task.line.speed IsSpeed
+  pub wait : IfSome task.line.wait (λ wait. (0 < wait) × (wait ≤ WAIT_MAX))
+  pub sessions : (0 < task.limits.sessions) × (task.limits.sessions ≤ SESSIONS_MAX)
+  pub window : IsWindow task.settings.window
+  pub size : IsSize task.settings.size
+  pub most : MOST_MIN ≤ task.limits.most
+  pub file_limit : IsLimit task.limits.file_limit
+  pub keep_days : (0 < task.limits.keep_days) × (task.limits.keep_days ≤ KEEP_MAX)
+  pub line : line_of task.line.name.now ≢ None
+  pub turns : IfSome (line_of task.line.name.now) (λ line. IsTrue (may_have task.limits.sessions task.side line))
   pub me : IsName task.me.now
   pub peer : IsName task.peer.now
   pub place : IsTrue (has_place task.is_spool task.peer.now)
@@ -62,17 +62,17 @@ pub record Announces (window size : ℕ) (quiet short : Bool) (a : Announced) : 
 -- The line, the names, the announcement and the waiting times are those of the task. The other end may have as much on
 -- the way as this one allows it. No number is read yet.
 pub record IsSaidBy (task : CallTask) (terms : Terms) : Type 0 where
-  pub line : line_of task.line.now ≡ Some (shown terms.line)
+  pub line : line_of task.line.name.now ≡ Some (shown terms.line)
   pub me : terms.station.place.me ≡ task.me.now
   pub peer : terms.station.place.peer ≡ task.peer.now
-  pub announces : Announces task.window task.size task.is_quiet task.is_short (announced terms.station.place.announce)
+  pub announces : Announces task.settings.window task.settings.size task.settings.is_quiet task.settings.is_short (announced terms.station.place.announce)
   pub number : terms.station.place.number ≡ None
-  pub timeout : terms.station.pace.timeout ≡ task.seconds
-  pub speed : terms.station.pace.speed ≡ task.speed
-  pub theirs : terms.station.pace.theirs ≡ packets_of task.window task.size
-  pub wait : terms.station.wait ≡ task.wait
-  pub sessions : terms.station.sessions ≡ task.sessions
-  pub within : (0 < task.seconds) × (task.seconds ≤ SECONDS_MAX)
+  pub timeout : terms.station.pace.timeout ≡ task.line.seconds
+  pub speed : terms.station.pace.speed ≡ task.line.speed
+  pub theirs : terms.station.pace.theirs ≡ packets_of task.settings.window task.settings.size
+  pub wait : terms.station.wait ≡ task.line.wait
+  pub sessions : terms.station.sessions ≡ task.limits.sessions
+  pub within : (0 < task.line.seconds) × (task.line.seconds ≤ SECONDS_MAX)
 
 -- what an end leaves out of what it emits, by whether it acknowledges each data packet on its own
 abbrev pub thinning_with : (every_ack : Bool) → Thinning

@@ -11,6 +11,11 @@ use Rattle.clap.specs.declared.parser.matches.ArgMatches.{ArgMatches}
 use Rattle.uug_words.specs.Tools.{uucpair}
 use Rattle.uug_conversation.specs.declared.side.Side.{Side}
 use Rattle.uug_conversation.specs.declared.side.Side.TheVariants.{Caller, Called}
+use Rattle.uug_task.specs.declared.limits.Limits.{Limits}
+use Rattle.uug_task.specs.declared.line_options.LineOptions.{LineOptions}
+use Rattle.uug_task.specs.declared.outputs.Outputs.{Outputs}
+use Rattle.uug_task.specs.declared.session_settings.SessionSettings.{SessionSettings}
+use Rattle.uug_task.specs.declared.spool_options.SpoolOptions.{SpoolOptions}
 use Rattle.uug_task.specs.declared.task.CallTask.{CallTask}
 use Rattle.uug_disk.specs.declared.queue.QueueTask.{QueueTask}
 use Rattle.uug_pending.specs.declared.cancel.CancelTask.{CancelTask}
@@ -136,40 +141,60 @@ peer_by Caller is_spool None = []
 abbrev pub peer_in : Side → Entries → Text
 peer_in side entries = peer_by side (is_given entries (codes "spool")) (first_of (codes "peer") entries)
 
+-- what one end is told of its line
+pub record IsLineIn (entries : Entries) (line : LineOptions) : Type 0 where
+  pub name : line.name.now ≡ text_in entries (codes "LINE")
+  pub seconds : line.seconds ≡ number_or_zero entries (codes "timeout")
+  pub speed : line.speed ≡ number_in entries (codes "speed")
+  pub wait : line.wait ≡ number_in entries (codes "wait")
+  pub locks : line.locks.now ≡ text_in entries (codes "locks")
+
+-- what it is told of its sessions
+pub record AreSettingsIn (entries : Entries) (settings : SessionSettings) : Type 0 where
+  pub window : settings.window ≡ number_or_zero entries (codes "window")
+  pub size : settings.size ≡ size_in entries
+  pub is_quiet : settings.is_quiet ≡ not (is_given entries (codes "no-quiet"))
+  pub is_short : settings.is_short ≡ not (is_given entries (codes "fill-commands"))
+  pub is_lenient : settings.is_lenient ≡ not (is_given entries (codes "strict"))
+  pub tells_digests : settings.tells_digests ≡ not (is_given entries (codes "no-digest"))
+  pub is_resuming : settings.is_resuming ≡ not (is_given entries (codes "no-resume"))
+  pub is_every_ack : settings.is_every_ack ≡ is_given entries (codes "every-ack")
+  pub is_numbered : settings.is_numbered ≡ is_given entries (codes "number")
+
+-- what it is told of its limits
+pub record AreLimitsIn (entries : Entries) (limits : Limits) : Type 0 where
+  pub sessions : limits.sessions ≡ number_or_one entries (codes "sessions")
+  pub most : limits.most ≡ number_or_zero entries (codes "most")
+  pub file_limit : limits.file_limit ≡ number_or_zero entries (codes "file-limit")
+  pub keep_days : limits.keep_days ≡ number_or_zero entries (codes "keep-partials")
+
+-- what it is told of its outputs
+pub record AreOutputsIn (entries : Entries) (outputs : Outputs) : Type 0 where
+  pub is_loud : outputs.is_loud ≡ is_given entries (codes "verbose")
+  pub report : IsWordIn entries (codes "report") outputs.report
+  pub log : IsWordIn entries (codes "log") outputs.log
+
+-- what it is told of a spool
+pub record IsSpoolIn (entries : Entries) (spool : SpoolOptions) : Type 0 where
+  pub public : IsWordIn entries (codes "public") spool.public
+  pub stats : IsWordIn entries (codes "stats") spool.stats
+  pub grade : IsWordIn entries (codes "grade") spool.grade
+  pub port : IsWordIn entries (codes "port-name") spool.port
+  pub gives : spool.rules.gives.now ≡ text_in entries (codes "give")
+  pub takes : spool.rules.takes.now ≡ text_in entries (codes "take")
+
 -- what one end is run over
 pub record IsEndIn (entries : Entries) (task : CallTask) : Type 0 where
-  pub line : task.line.now ≡ text_in entries (codes "LINE")
   pub dir : task.dir.now ≡ text_in entries (codes "DIR")
   pub me : task.me.now ≡ text_in entries (codes "me")
   pub peer : task.peer.now ≡ peer_in task.side entries
-  pub window : task.window ≡ number_or_zero entries (codes "window")
-  pub size : task.size ≡ size_in entries
-  pub seconds : task.seconds ≡ number_or_zero entries (codes "timeout")
-  pub speed : task.speed ≡ number_in entries (codes "speed")
-  pub wait : task.wait ≡ number_in entries (codes "wait")
-  pub sessions : task.sessions ≡ number_or_one entries (codes "sessions")
-  pub is_quiet : task.is_quiet ≡ not (is_given entries (codes "no-quiet"))
-  pub is_short : task.is_short ≡ not (is_given entries (codes "fill-commands"))
-  pub is_lenient : task.is_lenient ≡ not (is_given entries (codes "strict"))
-  pub tells_digests : task.tells_digests ≡ not (is_given entries (codes "no-digest"))
-  pub is_resuming : task.is_resuming ≡ not (is_given entries (codes "no-resume"))
-  pub is_every_ack : task.is_every_ack ≡ is_given entries (codes "every-ack")
-  pub is_numbered : task.is_numbered ≡ is_given entries (codes "number")
-  pub is_loud : task.is_loud ≡ is_given entries (codes "verbose")
-  pub locks : task.locks.now ≡ text_in entries (codes "locks")
-  pub report : IsWordIn entries (codes "report") task.report
-  pub log : IsWordIn entries (codes "log") task.log
-  pub most : task.most ≡ number_or_zero entries (codes "most")
-  pub file_limit : task.file_limit ≡ number_or_zero entries (codes "file-limit")
-  pub keep_days : task.keep_days ≡ number_or_zero entries (codes "keep-partials")
+  pub line : IsLineIn entries task.line
+  pub settings : AreSettingsIn entries task.settings
+  pub limits : AreLimitsIn entries task.limits
+  pub outputs : AreOutputsIn entries task.outputs
   pub is_spool : task.is_spool ≡ is_given entries (codes "spool")
+  pub spool : IsSpoolIn entries task.spool
   pub is_fail_status : task.is_fail_status ≡ is_given entries (codes "fail-status")
-  pub public : IsWordIn entries (codes "public") task.public
-  pub stats : IsWordIn entries (codes "stats") task.stats
-  pub grade : IsWordIn entries (codes "grade") task.grade
-  pub port : IsWordIn entries (codes "port-name") task.port
-  pub gives : task.rules.gives.now ≡ text_in entries (codes "give")
-  pub takes : task.rules.takes.now ≡ text_in entries (codes "take")
 
 pub record AsksForPair (tool : Text) (entries : Entries) (task : PairTask) : Type 0 where
   pub pairs : tool ≡ codes "pair"

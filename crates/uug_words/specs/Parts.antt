@@ -13,20 +13,20 @@ use Rattle.uug_words.specs.declared.part.Part.TheVariants.{Seconds, Speed, Wait,
 
 -- this part is as in a task that may be run
 abbrev pub IsRight : CallTask → Part → Type 0
-IsRight task Seconds = (0 < task.seconds) × (task.seconds ≤ SECONDS_MAX)
-IsRight task Speed = IfSome task.speed IsSpeed
-IsRight task Wait = IfSome task.wait (λ wait. (0 < wait) × (wait ≤ WAIT_MAX))
-IsRight task Sessions = (0 < task.sessions) × (task.sessions ≤ SESSIONS_MAX)
-IsRight task Window = IsWindow task.window
-IsRight task Size = IsSize task.size
-IsRight task Most = MOST_MIN ≤ task.most
-IsRight task FileLimit = IsLimit task.file_limit
-IsRight task KeepDays = (0 < task.keep_days) × (task.keep_days ≤ KEEP_MAX)
-IsRight task Line = line_of task.line.now ≢ None
+IsRight task Seconds = (0 < task.line.seconds) × (task.line.seconds ≤ SECONDS_MAX)
+IsRight task Speed = IfSome task.line.speed IsSpeed
+IsRight task Wait = IfSome task.line.wait (λ wait. (0 < wait) × (wait ≤ WAIT_MAX))
+IsRight task Sessions = (0 < task.limits.sessions) × (task.limits.sessions ≤ SESSIONS_MAX)
+IsRight task Window = IsWindow task.settings.window
+IsRight task Size = IsSize task.settings.size
+IsRight task Most = MOST_MIN ≤ task.limits.most
+IsRight task FileLimit = IsLimit task.limits.file_limit
+IsRight task KeepDays = (0 < task.limits.keep_days) × (task.limits.keep_days ≤ KEEP_MAX)
+IsRight task Line = line_of task.line.name.now ≢ None
 IsRight task Me = IsName task.me.now
 IsRight task Peer = IsName task.peer.now
 IsRight task Place = IsName task.peer.now → IsTrue (has_place task.is_spool task.peer.now)
-IsRight task Turns = IfSome (line_of task.line.now) (λ line. IsTrue (may_have task.sessions task.side line))
+IsRight task Turns = IfSome (line_of task.line.name.now) (λ line. IsTrue (may_have task.limits.sessions task.side line))
 
 abbrev pub RightTimes : CallTask → Type 0
 RightTimes task = IsRight task Seconds × IsRight task Speed × IsRight task Wait × IsRight task Sessions

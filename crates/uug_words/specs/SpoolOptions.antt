@@ -1,6 +1,7 @@
 -- Defines the options of one end that need a spool (this project's profile).
 use Rattle.std.specs.Prelude.{◌==◌, ◌&&◌, ℕ, Bool, not, List, [], codes, is_some, length, if◌then◌else◌}
 use Rattle.std.specs.Str.{bytes_eq}
+use Rattle.uug_task.specs.declared.spool_options.SpoolOptions.{SpoolOptions}
 use Rattle.uug_task.specs.declared.task.CallTask.{CallTask}
 
 -- the first of `--give` and `--take` whose list of open folders is not the default
@@ -10,13 +11,13 @@ folder_option gives takes =
     (if not (bytes_eq takes (codes "~")) then codes "--take" else [])
 
 -- the first that is given, and nothing where none is
-abbrev pub spool_option : CallTask → List ℕ
-spool_option task =
-    if is_some task.public then codes "--public" else
-    (if is_some task.stats then codes "--stats" else
-    (if is_some task.grade then codes "--grade" else
-    (if is_some task.port then codes "--port-name" else folder_option task.rules.gives.now task.rules.takes.now)))
+abbrev pub spool_option : SpoolOptions → List ℕ
+spool_option options =
+    if is_some options.public then codes "--public" else
+    (if is_some options.stats then codes "--stats" else
+    (if is_some options.grade then codes "--grade" else
+    (if is_some options.port then codes "--port-name" else folder_option options.rules.gives.now options.rules.takes.now)))
 
 -- an end without a spool is given such an option
 abbrev pub lacks_spool : CallTask → Bool
-lacks_spool task = not task.is_spool && not (length (spool_option task) == 0)
+lacks_spool task = not task.is_spool && not (length (spool_option task.spool) == 0)

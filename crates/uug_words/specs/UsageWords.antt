@@ -67,25 +67,25 @@ line_words line = if length line == 0 then codes "the line has no name" else (es
 
 -- the words for each wrong part
 abbrev pub part_words : CallTask → Part → List ℕ
-part_words task Seconds = range_words (codes "timeout") (Some task.seconds) (codes "1 to 600")
-part_words task Speed = range_words (codes "speed") task.speed (codes "300 to 10000000")
-part_words task Wait = range_words (codes "wait") task.wait (codes "1 to 1000000000")
-part_words task Sessions = range_words (codes "sessions") (Some task.sessions) (codes "1 to 1000000")
-part_words task Window = range_words (codes "window") (Some task.window) (codes "1 to 7")
-part_words task Size = range_words (codes "size") (Some task.size) (codes "32, 64, 128, 256, 512, 1024, 2048 or 4096")
-part_words task Most = range_words (codes "most") (Some task.most) (codes "1048576 or more")
-part_words task FileLimit = range_words (codes "file-limit") (Some task.file_limit) (codes "1 to 268435456")
-part_words task KeepDays = range_words (codes "keep-partials") (Some task.keep_days) (codes "1 to 3650")
-part_words task Line = line_words task.line.now
+part_words task Seconds = range_words (codes "timeout") (Some task.line.seconds) (codes "1 to 600")
+part_words task Speed = range_words (codes "speed") task.line.speed (codes "300 to 10000000")
+part_words task Wait = range_words (codes "wait") task.line.wait (codes "1 to 1000000000")
+part_words task Sessions = range_words (codes "sessions") (Some task.limits.sessions) (codes "1 to 1000000")
+part_words task Window = range_words (codes "window") (Some task.settings.window) (codes "1 to 7")
+part_words task Size = range_words (codes "size") (Some task.settings.size) (codes "32, 64, 128, 256, 512, 1024, 2048 or 4096")
+part_words task Most = range_words (codes "most") (Some task.limits.most) (codes "1048576 or more")
+part_words task FileLimit = range_words (codes "file-limit") (Some task.limits.file_limit) (codes "1 to 268435456")
+part_words task KeepDays = range_words (codes "keep-partials") (Some task.limits.keep_days) (codes "1 to 3650")
+part_words task Line = line_words task.line.name.now
 part_words task Me = name_words task.me.now
 part_words task Peer = peer_words task.peer.now
 part_words task Place = place_words task.peer.now
-part_words task Turns = range_words (codes "sessions") (Some task.sessions) (codes "1: only at a socket there may be more")
+part_words task Turns = range_words (codes "sessions") (Some task.limits.sessions) (codes "1: only at a socket there may be more")
 
 -- the option that is given without the spool that it needs, if one is
 abbrev pub spool_words : CallTask → List ℕ
 spool_words task =
-    if lacks_spool task then spool_option task ++ codes " is for a spool: give --spool too, or leave it out" else []
+    if lacks_spool task then spool_option task.spool ++ codes " is for a spool: give --spool too, or leave it out" else []
 
 -- The remark on a task. If the task may be run, it says at most that an option lacks a spool. Else it names the first
 -- wrong part.

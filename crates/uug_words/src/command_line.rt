@@ -2,7 +2,7 @@
 ghost use Rattle.std.specs.Prelude.{◌≡◌, IfErr, IfOk, codes, map, true};
 ghost use Rattle.clap.specs.Words.{Text, kind_of, takes};
 ghost use Rattle.clap.specs.declared.error.kind.ErrorKind.TheVariants.{OutOfMemory};
-ghost use Rattle.uug_words.specs.Asked.{Asks, AsksIn, IsEndIn, IsFileIn, IsPairIn, IsQueueIn, IsStatusIn, IsToolName, IsWordIn, NamesScan, entries_of, is_given, number_in, peer_in, size_in, text_in, usual_size};
+ghost use Rattle.uug_words.specs.Asked.{AreLimitsIn, AreOutputsIn, AreSettingsIn, Asks, AsksIn, IsEndIn, IsFileIn, IsLineIn, IsPairIn, IsQueueIn, IsSpoolIn, IsStatusIn, IsToolName, IsWordIn, NamesScan, entries_of, is_given, number_in, peer_in, size_in, text_in, usual_size};
 ghost use Rattle.uug_words.specs.Tools.{uucpair};
 
 use crate::tools::command;
@@ -13,7 +13,9 @@ use std::convert::AsStr;
 use uug_conversation::Side;
 use uug_disk::QueueTask;
 use uug_pending::{CancelTask, StatusTask};
-use uug_task::{ANY, CallTask, FolderRules};
+use uug_task::{
+    ANY, CallTask, FolderRules, Limits, LineOptions, Outputs, SessionSettings, SpoolOptions,
+};
 
 /// The default packet size of an end, in bytes. With smaller packets more corrupted bytes pass the checksum.
 const SIZE: u32 = 1_024;
@@ -136,24 +138,26 @@ fn peer<'a>(side: Side, matches: &ArgMatches<'a>) -> &'a str
     }
 }
 
-/// Returns the task of one end, from the words after `call` or `answer`. All of them are required, or have a default,
-/// except the name of the other end. Without that name and without `--spool` a task may not be run.
-fn end_task<'a>(side: Side, matches: &ArgMatches<'a>) -> CallTask<'a>
-    ensures side { result.side ≡ side }
-    ensures says { IsEndIn (entries_of matches.now) result }
+/// Returns the options of the line of one end.
+fn line_options<'a>(matches: &ArgMatches<'a>) -> LineOptions<'a>
+    ensures { IsLineIn (entries_of matches.now) result }
 {
-    CallTask {
-        side,
-        line: text(matches, "LINE"),
-        dir: text(matches, "DIR"),
-        me: text(matches, "me"),
-        peer: peer(side, matches),
-        window: number(matches, "window").unwrap_or(0),
-        size: size(matches),
+    LineOptions {
+        name: text(matches, "LINE"),
         seconds: number(matches, "timeout").unwrap_or(0),
         speed: number(matches, "speed"),
         wait: number(matches, "wait"),
-        sessions: number(matches, "sessions").unwrap_or(1),
+        locks: text(matches, "locks"),
+    }
+}
+
+/// Returns the settings of the sessions of one end.
+fn session_settings(matches: &ArgMatches<'_>) -> SessionSettings
+    ensures { AreSettingsIn (entries_of matches.now) result }
+{
+    SessionSettings {
+        window: number(matches, "window").unwrap_or(0),
+        size: size(matches),
         is_quiet: !is_given(matches, "no-quiet"),
         is_short: !is_given(matches, "fill-commands"),
         is_lenient: !is_given(matches, "strict"),
@@ -161,14 +165,37 @@ fn end_task<'a>(side: Side, matches: &ArgMatches<'a>) -> CallTask<'a>
         is_resuming: !is_given(matches, "no-resume"),
         is_every_ack: is_given(matches, "every-ack"),
         is_numbered: is_given(matches, "number"),
-        is_loud: is_given(matches, "verbose"),
-        locks: text(matches, "locks"),
-        report: word(matches, "report"),
-        log: word(matches, "log"),
+    }
+}
+
+/// Returns the limits of one end.
+fn limits(matches: &ArgMatches<'_>) -> Limits
+    ensures { AreLimitsIn (entries_of matches.now) result }
+{
+    Limits {
+        sessions: number(matches, "sessions").unwrap_or(1),
         most: number(matches, "most").unwrap_or(0),
         file_limit: number(matches, "file-limit").unwrap_or(0),
         keep_days: number(matches, "keep-partials").unwrap_or(0),
-        is_spool: is_given(matches, "spool"),
+    }
+}
+
+/// Returns the outputs of one end.
+fn outputs<'a>(matches: &ArgMatches<'a>) -> Outputs<'a>
+    ensures { AreOutputsIn (entries_of matches.now) result }
+{
+    Outputs {
+        is_loud: is_given(matches, "verbose"),
+        report: word(matches, "report"),
+        log: word(matches, "log"),
+    }
+}
+
+/// Returns the options of one end that only a spool has.
+fn spool_options<'a>(matches: &ArgMatches<'a>) -> SpoolOptions<'a>
+    ensures { IsSpoolIn (entries_of matches.now) result }
+{
+    SpoolOptions {
         public: word(matches, "public"),
         stats: word(matches, "stats"),
         grade: word(matches, "grade"),
@@ -177,6 +204,26 @@ fn end_task<'a>(side: Side, matches: &ArgMatches<'a>) -> CallTask<'a>
             gives: text(matches, "give"),
             takes: text(matches, "take"),
         },
+    }
+}
+
+/// Returns the task of one end, from the words after `call` or `answer`. All of them are required, or have a default,
+/// except the name of the other end. Without that name and without `--spool` a task may not be run.
+fn end_task<'a>(side: Side, matches: &ArgMatches<'a>) -> CallTask<'a>
+    ensures side { result.side ≡ side }
+    ensures says { IsEndIn (entries_of matches.now) result }
+{
+    CallTask {
+        side,
+        dir: text(matches, "DIR"),
+        me: text(matches, "me"),
+        peer: peer(side, matches),
+        line: line_options(matches),
+        settings: session_settings(matches),
+        limits: limits(matches),
+        outputs: outputs(matches),
+        is_spool: is_given(matches, "spool"),
+        spool: spool_options(matches),
         is_fail_status: is_given(matches, "fail-status"),
     }
 }

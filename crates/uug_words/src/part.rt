@@ -98,16 +98,16 @@ fn is_right(task: &CallTask<'_>, part: Part) -> bool
     ensures { IsTrue result ↔ IsRight task.now part }
 {
     match part {
-        Part::Seconds => is_within(Some(task.seconds), 1, SECONDS_MAX),
-        Part::Speed => is_within(task.speed, SPEED_MIN, SPEED_MAX),
-        Part::Wait => is_within(task.wait, 1, WAIT_MAX),
-        Part::Sessions => is_within(Some(task.sessions), 1, SESSIONS_MAX),
-        Part::Window => is_within(Some(task.window), 1, u32::from(WINDOW_MAX)),
-        Part::Size => is_size(task.size),
-        Part::Most => task.most >= MOST_MIN,
-        Part::FileLimit => is_within(Some(task.file_limit), 1, FILE_LIMIT_MAX as u32),
-        Part::KeepDays => is_within(Some(task.keep_days), 1, KEEP_MAX),
-        Part::Line => read_line_name(task.line).is_some(),
+        Part::Seconds => is_within(Some(task.line.seconds), 1, SECONDS_MAX),
+        Part::Speed => is_within(task.line.speed, SPEED_MIN, SPEED_MAX),
+        Part::Wait => is_within(task.line.wait, 1, WAIT_MAX),
+        Part::Sessions => is_within(Some(task.limits.sessions), 1, SESSIONS_MAX),
+        Part::Window => is_within(Some(task.settings.window), 1, u32::from(WINDOW_MAX)),
+        Part::Size => is_size(task.settings.size),
+        Part::Most => task.limits.most >= MOST_MIN,
+        Part::FileLimit => is_within(Some(task.limits.file_limit), 1, FILE_LIMIT_MAX as u32),
+        Part::KeepDays => is_within(Some(task.limits.keep_days), 1, KEEP_MAX),
+        Part::Line => read_line_name(task.line.name).is_some(),
         Part::Me => Name::new(task.me.as_bytes()).is_ok(),
         Part::Peer => Name::new(task.peer.as_bytes()).is_ok(),
         Part::Place => is_place(task),
@@ -140,8 +140,8 @@ fn is_place(task: &CallTask<'_>) -> bool
 fn has_turns(task: &CallTask<'_>) -> bool
     ensures { IsTrue result ↔ IsRight task.now Part.Turns }
 {
-    match read_line_name(task.line) {
-        Some(line) => may_have(task.sessions, task.side, line),
+    match read_line_name(task.line.name) {
+        Some(line) => may_have(task.limits.sessions, task.side, line),
         None => true,
     }
 }

@@ -2,29 +2,29 @@
 ghost use Rattle.std.specs.Prelude.{◌≡◌};
 ghost use Rattle.uug_words.specs.SpoolOptions.{folder_option, lacks_spool, spool_option};
 
-use uug_task::CallTask;
+use uug_task::{CallTask, SpoolOptions};
 
 /// Returns whether an option that needs a spool is given to an end without one.
 pub fn lacks_spool(task: &CallTask<'_>) -> bool
     ensures { result ≡ lacks_spool task.now }
 {
-    !task.is_spool && !spool_option(task).is_empty()
+    !task.is_spool && !spool_option(&task.spool).is_empty()
 }
 
-/// Returns the first of the options of a task that only a spool has, or an empty text if none is given.
-pub(crate) fn spool_option(task: &CallTask<'_>) -> &'static str
-    ensures { result.now ≡ spool_option task.now }
+/// Returns the first of these options that is given, or an empty text if none is.
+pub(crate) fn spool_option(options: &SpoolOptions<'_>) -> &'static str
+    ensures { result.now ≡ spool_option options.now }
 {
-    if task.public.is_some() {
+    if options.public.is_some() {
         "--public"
-    } else if task.stats.is_some() {
+    } else if options.stats.is_some() {
         "--stats"
-    } else if task.grade.is_some() {
+    } else if options.grade.is_some() {
         "--grade"
-    } else if task.port.is_some() {
+    } else if options.port.is_some() {
         "--port-name"
     } else {
-        folder_option(task.rules.gives, task.rules.takes)
+        folder_option(options.rules.gives, options.rules.takes)
     }
 }
 

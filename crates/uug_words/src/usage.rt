@@ -38,7 +38,7 @@ fn add_spool_lack<A: Allocator>(text: &mut String<A>, task: &CallTask<'_>) -> Re
         (string_bytes text.new ≡ string_bytes text.old ++ spool_words task.now) }
 {
     if lacks_spool(task) {
-        let option = spool_option(task);
+        let option = spool_option(&task.spool);
         write!(
             text,
             "{option} is for a spool: give --spool too, or leave it out"
@@ -136,28 +136,38 @@ fn add_part<A: Allocator>(
         (string_bytes text.new ≡ string_bytes text.old ++ part_words task.now part) }
 {
     match part {
-        Part::Seconds => add_range(text, "timeout", Some(task.seconds), "1 to 600"),
-        Part::Speed => add_range(text, "speed", task.speed, "300 to 10000000"),
-        Part::Wait => add_range(text, "wait", task.wait, "1 to 1000000000"),
-        Part::Sessions => add_range(text, "sessions", Some(task.sessions), "1 to 1000000"),
-        Part::Window => add_range(text, "window", Some(task.window), "1 to 7"),
+        Part::Seconds => add_range(text, "timeout", Some(task.line.seconds), "1 to 600"),
+        Part::Speed => add_range(text, "speed", task.line.speed, "300 to 10000000"),
+        Part::Wait => add_range(text, "wait", task.line.wait, "1 to 1000000000"),
+        Part::Sessions => add_range(text, "sessions", Some(task.limits.sessions), "1 to 1000000"),
+        Part::Window => add_range(text, "window", Some(task.settings.window), "1 to 7"),
         Part::Size => add_range(
             text,
             "size",
-            Some(task.size),
+            Some(task.settings.size),
             "32, 64, 128, 256, 512, 1024, 2048 or 4096",
         ),
-        Part::Most => add_range(text, "most", Some(task.most), "1048576 or more"),
-        Part::FileLimit => add_range(text, "file-limit", Some(task.file_limit), "1 to 268435456"),
-        Part::KeepDays => add_range(text, "keep-partials", Some(task.keep_days), "1 to 3650"),
-        Part::Line => add_line(text, task.line),
+        Part::Most => add_range(text, "most", Some(task.limits.most), "1048576 or more"),
+        Part::FileLimit => add_range(
+            text,
+            "file-limit",
+            Some(task.limits.file_limit),
+            "1 to 268435456",
+        ),
+        Part::KeepDays => add_range(
+            text,
+            "keep-partials",
+            Some(task.limits.keep_days),
+            "1 to 3650",
+        ),
+        Part::Line => add_line(text, task.line.name),
         Part::Me => add_name(text, task.me),
         Part::Peer => add_peer(text, task.peer),
         Part::Place => add_place(text, task.peer),
         Part::Turns => add_range(
             text,
             "sessions",
-            Some(task.sessions),
+            Some(task.limits.sessions),
             "1: only at a socket there may be more",
         ),
     }
