@@ -275,11 +275,11 @@ row "a call over a line that is too fast" 2 "${usage}speed 10000001 is not 300 t
 begins=yes row "a call that waits to be called" 2 "uucpair: --wait is for answer: " "" call l a --me a --peer b --wait 5 </dev/null
 row "an answer that doesn't wait" 2 "${usage}wait 0 is not 1 to 1000000000$line_feed" "" answer l a --me a --peer b --wait 0 </dev/null
 row "an answer that waits too long" 2 "${usage}wait 1000000001 is not 1 to 1000000000$line_feed" "" answer l a --me a --peer b --wait 1000000001 </dev/null
-row "a call to a port that is none" 2 "${usage}tcp:h:x has no port of 0 to 65535: give tcp:HOST:PORT, the port as a number$line_feed" "" call tcp:h:x a --me a --peer b </dev/null
+row "a call to a port that is none" 2 "${usage}tcp:h:x has no port number (0 to 65535): give tcp:HOST:PORT$line_feed" "" call tcp:h:x a --me a --peer b </dev/null
 row "a call to a socket without a path" 2 "${usage}unix: has no path$line_feed" "" call unix: a --me a --peer b </dev/null
-row "a call over a line without a name" 2 "${usage}the line has no name$line_feed" "" call "" a --me a --peer b </dev/null
+row "a call over a line without a name" 2 "${usage}LINE is empty$line_feed" "" call "" a --me a --peer b </dev/null
 row "an answer with a name that is none" 2 \
-    "${usage}\"a b\" is no name of a system: 1 to 200 printing characters without a space$line_feed" "" answer l a --me "a b" --peer b </dev/null
+    "${usage}\"a b\" is not a system name: 1 to 200 printable characters without spaces$line_feed" "" answer l a --me "a b" --peer b </dev/null
 row "an answer without the name of the other end" 2 \
     "${usage}the name of the other end is missing: --peer$line_feed" "" answer l a --me a </dev/null
 begins=yes row "a call without the name of the other end" 2 "error: " "" call l a --spool --me a </dev/null
@@ -293,9 +293,9 @@ helps "help on scan" "scan    Reads bytes"
 helps "help on play" "play    Reads a script"
 helps "help on pair" "pair    Moves files"
 helps "help on call" "call    Calls another system"
-helps "help on answer" "answer  Waits for the call"
+helps "help on answer" "answer  Waits for another"
 helps "help on queue" "queue   Queues a job"
-helps "help on status" "status  Shows the jobs"
+helps "help on status" "status  Shows the pending"
 begins=yes row "help of scan" 2 "Reads bytes" "" scan --help </dev/null
 helps "a line of a listing" "  DATA N ACK N SIZE N VALID N"
 helps "a line of a detailed listing" "  CONTROL BAD checksum"
@@ -309,7 +309,7 @@ begins=yes row "help of pair" 2 "Moves files" "" pair --help </dev/null
 helps "a line of jobs" "request SOURCE TARGET USER"
 helps "the statuses of pair" "Status: 0 both sessions are done"
 helps "an example of pair" "uucpair pair line a b --drop-every 7"
-begins=yes row "help of status" 2 "Shows the jobs" "" status --help </dev/null
+begins=yes row "help of status" 2 "Shows the pending" "" status --help </dev/null
 helps "a line of a status" "  failed JOB: WHY"
 helps "the statuses of status" "Status: 0 done, 2 bad usage or bad jobs"
 begins=yes row "help of call" 2 "Calls another system" "" call --help </dev/null
@@ -317,7 +317,7 @@ helps "a name of a line" "  tcp:HOST:PORT  "
 helps "the statuses of call" "Status: 0 the session is done"
 helps "an example of call" "uucpair call unix:line a --me alpha --peer beta"
 helps "the log of a call" "--log <FILE>"
-begins=yes row "help of answer" 2 "Waits for the call" "" answer --help </dev/null
+begins=yes row "help of answer" 2 "Waits for another" "" answer --help </dev/null
 row "the version" 0 "" "uucpair 0.1.0$line_feed" --version </dev/null
 row "the version in short" 0 "" "uucpair 0.1.0$line_feed" -V </dev/null
 

@@ -868,7 +868,7 @@ for words in "queue a" "queue a send a/send/x" "queue a request x" "queue a --ca
 done
 mapfile -t many < <(for ((i = 0; i < 1024; i++)); do echo "send x y me"; done)
 folders "${many[@]}"
-mistake "a job too many" 2 "$jobs 1025"$'\n'"a/jobs: 1024 jobs wait, the most that may: call, or cancel one" queue a send a/send/x
+mistake "a job too many" 2 "$jobs 1025"$'\n'"a/jobs: the limit of 1024 jobs is reached: call, or cancel one" queue a send a/send/x
 
 # Two jobs with one target.
 folders
@@ -894,11 +894,11 @@ remarked() {
     fi
 }
 
-refuses="has a dot in front: uucpair at the other end refuses such a target, Taylor UUCP takes it"
+refuses="has a leading dot: uucpair at the other end refuses such a target, Taylor UUCP takes it"
 remarked "a target with a dot in front" ".y $refuses" send a/send/x .y
 public='~'
 remarked "a target with a dot in front in the public folder" "$public/.y $refuses" send a/send/x "$public/.y"
-remarked "a target here with a dot in front" ".y has a dot in front: no such target is taken here, so the job will be given up" \
+remarked "a target here with a dot in front" ".y has a leading dot: this end takes no such target, so the job will be given up" \
     request y .y
 remarked "a target with a dot in its middle" "" send a/send/x x.y
 
@@ -908,16 +908,16 @@ folders
 misspoken "no words behind call" call -- "  --me <NAME>" "  --peer <NAME>" "  <LINE>" "  <DIR>"
 misspoken "no name of the other end" call unix:s a --me alpha -- "  --peer <NAME>"
 misspoken "an option that there is not" call unix:s a --me alpha --peer beta --baud 9600 -- "error: unexpected argument '--baud' found" \
-    "uucpair: set the speed of a device by stty; --speed is for the timers"
+    "uucpair: set a device speed with stty; --speed is for the timers"
 misspoken "a port apart" call unix:s a --me alpha --peer beta --port 540 -- "error: unexpected argument '--port' found" \
     "uucpair: the port is part of LINE: tcp:HOST:PORT"
-misspoken "an order without its command" send a x -- "uucpair: queue a file by: uucpair queue DIR send FILE"
+misspoken "an order without its command" send a x -- "uucpair: to queue a file: uucpair queue DIR send FILE"
 misspoken "a file behind a call" call unix:s a --me alpha --peer beta send x -- "error: unexpected argument 'send' found" \
-    "uucpair: queue a file by: uucpair queue DIR send FILE"
+    "uucpair: to queue a file: uucpair queue DIR send FILE"
 misspoken "a timeout that is no whole number" call unix:s a --me alpha --peer beta --timeout 0.5 -- \
     "error: invalid value '0.5' for '--timeout <SECONDS>': invalid digit found in string"
 misspoken "an option in front of its command" -v call unix:s a --me alpha --peer beta -- "error: unexpected argument '-v' found" \
-    "uucpair: options go behind the command: uucpair call .. -v"
+    "uucpair: options go after the command: uucpair call .. -v"
 misspoken "an option of answer behind call" call unix:s a --me alpha --peer beta --wait 60 -- "error: unexpected argument '--wait' found" \
     "uucpair: --wait is for answer: a call waits as long as --timeout says"
 misspoken "sessions of a call" call unix:s a --me alpha --peer beta --sessions=2 -- "error: unexpected argument '--sessions' found" \
@@ -950,7 +950,7 @@ call_of unix:s a --keep-partials 0
 mistake "no day" 2 "${usage}keep-partials 0 is not 1 to 3650" "${call[@]}"
 mistake "no time to be called" 2 "${usage}wait 0 is not 1 to 1000000000" answer unix:s a --me alpha --peer beta --wait 0
 call_of tcp:127.0.0.1 a
-no_port="has no port of 0 to 65535: give tcp:HOST:PORT, the port as a number"
+no_port="has no port number (0 to 65535): give tcp:HOST:PORT"
 mistake "no port" 2 "${usage}tcp:127.0.0.1 $no_port" "${call[@]}"
 call_of tcp:h:70000 a
 mistake "a port that is too great" 2 "${usage}tcp:h:70000 $no_port" "${call[@]}"
@@ -961,8 +961,8 @@ mistake "no host" 2 "${usage}tcp::540 has no host" "${call[@]}"
 call_of unix: a
 mistake "no path of a socket" 2 "${usage}unix: has no path" "${call[@]}"
 call_of "" a
-mistake "no line" 2 "${usage}the line has no name" "${call[@]}"
-no_name="is no name of a system: 1 to 200 printing characters without a space"
+mistake "no line" 2 "${usage}LINE is empty" "${call[@]}"
+no_name="is not a system name: 1 to 200 printable characters without spaces"
 mistake "a name with a blank" 2 "${usage}\"Foo bar\" $no_name" call unix:s a --me "Foo bar" --peer beta
 mistake "an empty name" 2 "${usage}\"\" $no_name" call unix:s a --me "" --peer beta
 mistake "an empty name of the other end" 2 "${usage}the name of the other end is missing: --peer" \

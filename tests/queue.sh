@@ -91,7 +91,7 @@ forms() {
     row "a cancel in bad jobs" 2 "" "$bad" "$work/e" --cancel 1
     holds "bad jobs stay" "$work/e/jobs" $'send x y u\nbad'
     for ((i = 0; i < 1024; i++)); do echo "request q q u"; done >"$work/e/jobs"
-    row "a job too many" 2 "" "bad jobs at line 1025"$'\n'"uucpair: $work/e/jobs: 1024 jobs wait, the most that may: call, or cancel one" "$work/e" send "$work/x"
+    row "a job too many" 2 "" "bad jobs at line 1025"$'\n'"uucpair: $work/e/jobs: the limit of 1024 jobs is reached: call, or cancel one" "$work/e" send "$work/x"
     # The copy before is gone with its job.
     [ -z "$(ls -A "$work/e/send")" ] || {
         failed=$((failed + 1))

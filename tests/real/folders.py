@@ -514,8 +514,8 @@ def lines_that_are_none(one):
         ended = one.run(ends.words("call", line, "--locks", "."))
         one.row(line.replace(str(port), "PORT"), (ended.status, ended.out, ended.err),
                 (3, "", said("device fault", f"{line}: {why}")))
-    for line, why in (("tcp:127.0.0.1", "tcp:127.0.0.1 has no port of 0 to 65535: give tcp:HOST:PORT, the port as a number"), ("tcp::540", "tcp::540 has no host"),
-            ("unix:", "unix: has no path"), ("", "the line has no name")):
+    for line, why in (("tcp:127.0.0.1", "tcp:127.0.0.1 has no port number (0 to 65535): give tcp:HOST:PORT"), ("tcp::540", "tcp::540 has no host"),
+            ("unix:", "unix: has no path"), ("", "LINE is empty")):
         one.row(f"bad usage: {line}", one.run(ends.words("call", line)).all(), (2, "", said("bad usage", why)))
     ends.give("alpha", x="x\n")
     ends.jobs("alpha", "send x x me")

@@ -1038,7 +1038,7 @@ def names_that_lead_elsewhere(one):
         for name in (".", "..", ".Status", "../x", "x/y"):
             ended = one.run(nodes.words(verb, "alpha", one.line, name, *more))
             one.row(f"{verb} of {name}", ended.all(),
-                    (2, "", said("bad usage", f'"{name}" is no name of a system in a spool: it has no slash, and no dot in front')))
+                    (2, "", said("bad usage", f'"{name}" is not a system name for a spool: no slash, no leading dot')))
     made = [name for name in names_in(one.work) if name not in there and not name.startswith((".out", ".err"))]
     one.row("nothing is made", (made, names_in(nodes.at("alpha")), names_in(nodes.at("alpha", "spool"))),
             ([], ["lock", "pub", "spool", "src"], []))

@@ -475,10 +475,10 @@ def mistakes_about_a_spool(one):
                 fault("can't read none", "none: no such file or directory"))
     one.row("an empty name", status(one, "--spool", "--peer", "", folder=spool).all(), usage("the name of the other end is missing: --peer"))
     one.row("two words", status(one, "--spool", "--peer", "a b", folder=spool).all(),
-            usage('"a b" is no name of a system: 1 to 200 printing characters without a space'))
+            usage('"a b" is not a system name: 1 to 200 printable characters without spaces'))
     for name in (".", "..", ".Status", "../x", "x/y"):
         one.row(f"the name {name}", status(one, "--spool", "--peer", name, folder=spool).all(),
-                usage(f'"{name}" is no name of a system in a spool: it has no slash, and no dot in front'))
+                usage(f'"{name}" is not a system name for a spool: no slash, no leading dot'))
     there = files_below(nodes.at("alpha"))
     for words, out in (((), "0 pending, 0 held, 0 failed\n"), (("--json",), EMPTY)):
         one.row(f"a system that is not known {words}", shown_at(one, nodes, "alpha", *words, peer="delta").all(),
