@@ -388,10 +388,10 @@ row "a spool whose other system is locked" 1 "uucpair: system b is locked by $sp
     call unix:"$socket" "$spool" --spool --me a --peer b --locks "$spool" </dev/null
 holds "the status of a system that is locked" "$spool/.Status/b" "$(cat "$work/status")$line_feed"
 row "a spool whose folder of locks is a file" 3 \
-    "uucpair: device fault${line_feed}uucpair: no lock file can be made (--locks): $spool/LCK..b: not a directory$line_feed" "" \
+    "uucpair: device fault${line_feed}uucpair: no lock file can be created (--locks): $spool/LCK..b: not a directory$line_feed" "" \
     call unix:"$socket" "$spool" --spool --me a --peer b --locks "$spool/LCK..b" </dev/null
 row "a spool whose folder of locks is not there" 3 \
-    "uucpair: device fault${line_feed}uucpair: no lock file can be made (--locks): $spool/none: no such file or directory$line_feed" "" \
+    "uucpair: device fault${line_feed}uucpair: no lock file can be created (--locks): $spool/none: no such file or directory$line_feed" "" \
     call unix:"$socket" "$spool" --spool --me a --peer b --locks "$spool/none" </dev/null
 # hears NAME WORDS [OPTION]..: what a caller `b` hears of an end over a spool
 hears() {

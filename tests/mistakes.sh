@@ -84,7 +84,7 @@ mistake "nobody listens at a port" 3 "${fault}tcp:127.0.0.1:1: connection refuse
 call_of tcp:nobody.invalid:540 a
 mistake "no such host" 3 "${fault}tcp:nobody.invalid:540: unknown host" "${call[@]}"
 call_of tcp:127.0.0.1:0 a
-mistake "port 0" 3 "${fault}tcp:127.0.0.1:0: connection refused (port 0 is none: give 1 to 65535)" "${call[@]}"
+mistake "port 0" 3 "${fault}tcp:127.0.0.1:0: connection refused (0 is not a port: give 1 to 65535)" "${call[@]}"
 brackets="unknown host (an IPv6 address has no brackets: tcp:::1:540)"
 call_of "tcp:[::1]:4000" a
 mistake "an IPv6 address in brackets" 3 "${fault}tcp:[::1]:4000: $brackets" "${call[@]}"
@@ -100,7 +100,7 @@ fi
 call_of /dev/ttyNONE a
 mistake "no such device" 3 "${fault}/dev/ttyNONE: no such file or directory" "${call[@]}"
 call_of a unix:line
-exchanged="(LINE and DIR look exchanged: give LINE first)"
+exchanged="(LINE and DIR look swapped: give LINE first)"
 mistake "line and folder exchanged" 3 "${fault}unix:line: no such file or directory $exchanged" "${call[@]}"
 call_of a /dev/ttyNONE
 mistake "a device and a folder exchanged" 3 "${fault}/dev/ttyNONE: no such file or directory $exchanged" "${call[@]}"
@@ -123,7 +123,7 @@ chmod 777 "$work/old"
 call_of ./old a
 mistake "a socket without unix:" 3 "${fault}./old: error 6 (for a socket give unix:PATH)" "${call[@]}"
 mistake "an address of another machine" 3 \
-    "${fault}tcp:192.0.2.1:54000: address not available (no address of this machine; 0.0.0.0 is all of them)" \
+    "${fault}tcp:192.0.2.1:54000: address not available (not an address of this machine; 0.0.0.0 is all of them)" \
     answer tcp:192.0.2.1:54000 a --me alpha --peer beta
 call_of unix:old a
 mistake "a socket at which nobody listens" 3 "${fault}unix:old: connection refused" "${call[@]}"
@@ -140,7 +140,7 @@ mistake "one folder for both ends" 2 "$one_folder" pair s a a
 mistake "one folder of two names for both ends" 2 "$one_folder" pair s a ./a/ -v
 mistake "one folder for both ends, and each packet lost" 2 "${usage}drop-every 1 is not 2 to 1000000" pair s a a --drop-every 1
 call_of - a
-mistake "standard input that is no line" 3 "${fault}-: standard input or output is no socket, pipe or terminal" "${call[@]}"
+mistake "standard input that is no line" 3 "${fault}-: standard input or output is not a socket, pipe or terminal" "${call[@]}"
 : >"$work/device"
 chmod 0 "$work/device"
 call_of ./device a
@@ -188,7 +188,7 @@ exec {held}>&-
 
 # unlocked NAME LOCKS WHY: a call over the device in whose folder of locks no file can be made says so, on standard error and in the log.
 unlocked() {
-    local ended=0 want="no lock file can be made (--locks): $2: $3"
+    local ended=0 want="no lock file can be created (--locks): $2: $3"
     rm -f "$work/Log"
     (cd "$work" && "${as_user[@]}" timeout 60 "$program" call ./line a --me alpha --peer beta --timeout 1 --locks "$2" --log Log) \
         >"$work/printed" 2>"$work/said" </dev/null || ended=$?
@@ -200,7 +200,7 @@ unlocked() {
     fi
 }
 
-no_lock="no lock file can be made (--locks): none: no such file or directory"
+no_lock="no lock file can be created (--locks): none: no such file or directory"
 unlocked "no folder of locks" none "no such file or directory"
 unlocked "a file for the folder of locks" device "not a directory"
 mkdir "$work/spool"
@@ -249,7 +249,7 @@ mistake "no folder for what comes" 3 \
 mkdir "$work/a/got"
 mv "$work/a/send" "$work/a/sent"
 mistake "no folder for what is sent" 3 \
-    "${fault}a/send: no such file or directory (make it: the files of jobs are there)" "${call[@]}"
+    "${fault}a/send: no such file or directory (make it: the files of jobs go there)" "${call[@]}"
 mv "$work/a/sent" "$work/a/send"
 chmod 0 "$work/a/jobs"
 mistake "no right to the jobs" 3 "${fault}a/jobs: permission denied" "${call[@]}"
@@ -270,7 +270,7 @@ chmod -R a+rX "$work/spool"
 call_of unix:none spool
 mistake "a spool for a folder" 3 "${fault}spool: it is a spool of Taylor UUCP: give --spool" "${call[@]}"
 call_of unix:none a
-mistake "a folder for a spool" 3 "${fault}a: it has jobs or send, and is no spool: leave out --spool" "${call[@]}" --spool
+mistake "a folder for a spool" 3 "${fault}a: not a spool, as it has jobs or send: leave out --spool" "${call[@]}" --spool
 
 # ---- jobs
 
@@ -281,14 +281,14 @@ mistake "a word that is no order" 2 "$jobs 2"$'\n''a/jobs: line 2: "put" is neit
 folders "send x ~/y me" "send x"
 mistake "too few words" 2 "$jobs 2"$'\n'"a/jobs: line 2: TARGET and USER are missing" "${call[@]}"
 folders "send my file ~/y me"
-mistake "a blank in the name of a file" 2 "$jobs 1"$'\n''a/jobs: line 1: "me" is one word too many: a name has no space in it' \
+mistake "a blank in the name of a file" 2 "$jobs 1"$'\n''a/jobs: line 1: "me" is one word too many: names have no spaces' \
     "${call[@]}"
 folders $'send x ~/y me\r'
-mistake "a line of another system" 2 "$jobs 1"$'\n'"a/jobs: line 1: it ends in CR LF: let the lines end in LF alone" "${call[@]}"
+mistake "a line of another system" 2 "$jobs 1"$'\n'"a/jobs: line 1: it ends in CR LF: end lines with LF alone" "${call[@]}"
 folders $'send x\t~/y me'
-mistake "a tab between words" 2 "$jobs 1"$'\n'"a/jobs: line 1: a tab is in it: only spaces stand between words" "${call[@]}"
+mistake "a tab between words" 2 "$jobs 1"$'\n'"a/jobs: line 1: it has a tab: separate words with spaces only" "${call[@]}"
 folders $'send x ~/\a me'
-mistake "a target that is no name" 2 "$jobs 1"$'\n''a/jobs: line 1: "~/\x07" is no name: 1 to 200 printing characters' "${call[@]}"
+mistake "a target that is no name" 2 "$jobs 1"$'\n''a/jobs: line 1: "~/\x07" is not a name: 1 to 200 printable characters' "${call[@]}"
 folders "send x ~/y me"
 echo "get x y me" >"$work/b/jobs"
 mistake "the same of the called end of a pair" 2 "$jobs 1"$'\n''b/jobs: line 1: "get" is neither send nor request' pair s a b -v
@@ -320,7 +320,7 @@ failing() {
 
 failing "no such file" "no file a/send/none" "send none ~/y me"
 failing "a file that is too large" "a/send/large is larger than --file-limit" "send large ~/y me" \
-    "a/send/large: 1048577 bytes, and the limit is 1048576 (--file-limit); the job will be given up"
+    "a/send/large: 1048577 bytes, over the limit of 1048576 (--file-limit); the job will be given up"
 failing "a path for a file" "a source is a name: NAME or ~/NAME, without a dot in front" "send send/x ~/y me"
 failing "a file that is hidden" "a source is a name: NAME or ~/NAME, without a dot in front" "send .x ~/y me"
 no_target="refused by the other end: in a folder a target is a name, NAME or ~/NAME, without a dot in front"
@@ -376,7 +376,7 @@ folders "send large ~/y me" "send x x me" "send large ~/z me"
 head -c 1048577 /dev/zero >"$work/a/send/large"
 chmod a+r "$work/a/send/large"
 call_of unix:none a --file-limit 1048576
-mistake "a file that is too large, and nobody there" 3 "a/send/large: 1048577 bytes, and the limit is 1048576 (--file-limit); \
+mistake "a file that is too large, and nobody there" 3 "a/send/large: 1048577 bytes, over the limit of 1048576 (--file-limit); \
 the job will be given up"$'\n'"${fault}unix:none: no such file or directory" "${call[@]}"
 
 # counted STATUS WORD..: a call of which a job fails ends so.
@@ -411,7 +411,7 @@ call_of unix:line a
 (cd "$work" && "${as_user[@]}" timeout 60 "$program" "${call[@]}") >"$work/called" 2>&1 </dev/null || true
 ended=0
 wait "$answerer" || ended=$?
-closed="uucpair: the other end ended the session before all was done (it may not have stored a file: see what it says)"
+closed="uucpair: the other end ended the session early (it may not have stored a file: see what it says)"
 if [ "$ended" -eq 1 ] && [ "$(cat "$work/said")" = "uucpair: b/got/y: no such file or directory" ] \
     && [ "$(head -n 1 "$work/called")" = "$closed" ]; then
     passed=$((passed + 1))
@@ -483,7 +483,7 @@ unhappy "an end that is busy" refused 'the other end refused: "RLCK" (it is busy
 folders "send x ~/y me"
 speaker '\x10Shere=beta\0' '\x10RLOGIN\0'
 unhappy "an end that does not know us" refused \
-    'the other end refused: "RLOGIN" (it does not let the name of --me in, or not by this login)' "${alpha[@]}"
+    'the other end refused: "RLOGIN" (it does not admit the name of --me, or not with this login)' "${alpha[@]}"
 
 # parting [TEXT]: an end at the socket `line` that hangs up when it is called, behind this text.
 parting() {
@@ -526,7 +526,7 @@ unhappy "an end that can't hear" gaveup "heard \"Shere=beta\", and then no answe
 folders "send x ~/y me"
 speaker '\r'
 unhappy "another end that calls" gaveup \
-    'heard 1 bytes and no text: "\x0d" (line ends alone: both ends call, or a terminal is not raw: stty raw -echo)' "${alpha[@]}"
+    'heard 1 bytes and no text: "\x0d" (only line breaks: both ends call, or a terminal is not raw: stty raw -echo)' "${alpha[@]}"
 folders "send x ~/y me"
 refusing "a stranger who calls" 'heard "Sgamma", expected "alpha"' \
     unhappy "a name that the other end does not know" refused \
@@ -593,7 +593,7 @@ sys.stdout.buffer.write(bytes(range(256)) * 40)' >"$work/b/send/bytes"
 }
 
 narrowed "a line of seven bits" seven \
-    "N bytes came after the greeting, all of seven bits (the line has to pass eight: stty raw pass8, at both ends)" ""
+    "N bytes came after the greeting, all seven-bit (the line has to pass eight bits: stty raw pass8, at both ends)" ""
 narrowed "flow control that drops bytes" flow "N bytes came after the greeting, none of them XON or XOFF \
 (flow control may drop these: stty raw -ixon -ixoff, at both ends)" "request bytes y me"
 narrowed "a line that drops what comes behind the greeting" all \
@@ -612,13 +612,13 @@ while stream.recv(4096):
 
 folders
 refusing "a caller that hangs up at once" \
-    "the caller hung up, and said nothing (it may expect another name than that of --me)" saying ''
+    "the caller hung up, and said nothing (it may expect a name other than --me)" saying ''
 folders
 refusing "a caller that hangs up behind its name" \
     'heard "Salpha", and then the caller hung up (it may lack protocol g)' saying '\x10Salpha\0'
 folders
 refusing "another end that answers" \
-    'heard "Shere=alpha", expected "alpha" (one end has to call, and both answer; or a terminal echoes: stty raw -echo)' \
+    'heard "Shere=alpha", expected "alpha" (both ends answer, and one has to call; or a terminal echoes: stty raw -echo)' \
     saying '\x10Shere=alpha\0'
 folders
 refusing "a terminal that echoes" \
@@ -626,7 +626,7 @@ refusing "a terminal that echoes" \
     saying '\r^PShere=beta^@'
 folders
 refusing "a terminal that is not raw" \
-    'heard 1 bytes and no text: "\x0a" (line ends alone: both ends call, or a terminal is not raw: stty raw -echo)' saying '\n'
+    'heard 1 bytes and no text: "\x0a" (only line breaks: both ends call, or a terminal is not raw: stty raw -echo)' saying '\n'
 
 folders "send x ~/y me"
 speaker '\x10Shere=beta\0'

@@ -77,7 +77,7 @@ forms() {
     row "a folder that is not there" 3 "" "device fault"$'\n'"uucpair: $work/gone: no such file or directory" "$work/gone"
     row "a folder that is not there" 3 "" "device fault"$'\n'"uucpair: $work/gone: no such file or directory" "$work/gone" request q
     mkdir "$work/bare"
-    row "no send" 3 "" "device fault"$'\n'"uucpair: $work/bare/send: no such file or directory (make it: the files of jobs are there)" "$work/bare" send "$work/x"
+    row "no send" 3 "" "device fault"$'\n'"uucpair: $work/bare/send: no such file or directory (make it: the files of jobs go there)" "$work/bare" send "$work/x"
     row "a request needs none" 0 "queued request q q me" "" "$work/bare" request q --user me
     # A name that a job has whose file is not there is taken too; a line without its line feed gets one.
     mkdir -p "$work/e/send"
@@ -102,7 +102,7 @@ forms() {
     long=$(head -c 200 /dev/zero | tr '\0' n)
     : >"$work/$long"
     row "a long name" 0 "queued send $long $long me" "" "$d" send "$work/$long" --user me
-    row "a long name that is taken" 3 "" "device fault"$'\n'"uucpair: $d/send/$long: it exists already" "$d" send "$work/$long" --user me
+    row "a long name that is taken" 3 "" "device fault"$'\n'"uucpair: $d/send/$long: it already exists" "$d" send "$work/$long" --user me
     echo "forms: $passed of $((passed + failed)) rows passed"
 }
 

@@ -65,7 +65,7 @@ def folders_that_are_not_there(one):
         broken(one, "no got", at, *move("got"), "{at}/got: no such file or directory (make it; only a spool, with --spool, has none)")
         for end in ("alpha", "beta"):
             shutil.rmtree(one.path(end))
-        broken(one, "no send", at, *move("send"), "{at}/send: no such file or directory (make it: the files of jobs are there)")
+        broken(one, "no send", at, *move("send"), "{at}/send: no such file or directory (make it: the files of jobs go there)")
         for end in ("alpha", "beta"):
             shutil.rmtree(one.path(end))
 

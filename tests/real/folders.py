@@ -169,8 +169,8 @@ def terminals_over_which_no_session_begins(one):
     """Where both ends answer or call, or a terminal is not raw, each end says what to do."""
     Ends(one)
     os.mkdir(one.path("locks"))
-    ends_alone = "(line ends alone: both ends call, or a terminal is not raw: stty raw -echo)"
-    both = "(one end has to call, and both answer; or a terminal echoes: stty raw -echo)"
+    ends_alone = "(only line breaks: both ends call, or a terminal is not raw: stty raw -echo)"
+    both = "(both ends answer, and one has to call; or a terminal echoes: stty raw -echo)"
     raw = "a terminal has to be raw: stty raw -echo"
     for what, verbs, cooked, hints in (
         ("both answer", ("answer", "answer"), None, (both, both)),
@@ -510,7 +510,7 @@ def lines_that_are_none(one):
     for line, why in ((f"tcp:127.0.0.1:{port}", "connection refused"), (f"tcp:{port}", "connection refused"),
             ("tcp:nobody.invalid:540", "unknown host"),
                       ("unix:none", "no such file or directory"), ("/dev/ttyNONE", "no such file or directory"),
-                      ("-", "standard input or output is no socket, pipe or terminal")):
+                      ("-", "standard input or output is not a socket, pipe or terminal")):
         ended = one.run(ends.words("call", line, "--locks", "."))
         one.row(line.replace(str(port), "PORT"), (ended.status, ended.out, ended.err),
                 (3, "", said("device fault", f"{line}: {why}")))

@@ -826,7 +826,7 @@ def the_lock_is_held(one):
     one.row("the first is well", (caller.end().status, called.end().status), (0, 0))
     os.rmdir(nodes.at("alpha", "lock"))
     one.row("no folder of locks", nodes.call("alpha").all(), (3, "", said("device fault",
-            f"no lock file can be made (--locks): {nodes.at('alpha', 'lock')}: no such file or directory")))
+            f"no lock file can be created (--locks): {nodes.at('alpha', 'lock')}: no such file or directory")))
 
 
 @scene()
