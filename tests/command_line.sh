@@ -197,7 +197,7 @@ verdict clean
 '
 undone_reasons='send caller z y u: no such file
 request caller x y u: no such file at the other end
-send caller x y u: put off: the other end takes it later
+send caller x y u: put off: the other end will take it later
 '
 
 # The called end keeps a number, and the caller tells another one.
@@ -247,7 +247,7 @@ row "a play with an end that is quiet on repeats does not settle" 1 "" \
 row "an end that is quiet twice" 2 "uucpair: bad script at line 2$line_feed" "" \
     play < <(printf 'quiet caller\nquiet caller\n')
 row "an end whose commands are short twice" 2 \
-    "uucpair: bad script at line 2${line_feed}uucpair: the end is set up, numbered, quiet, short, lenient, telling digests, resuming or limited already, or has 1024 jobs$line_feed" "" \
+    "uucpair: bad script at line 2${line_feed}uucpair: the end has this setting already, or 1024 jobs$line_feed" "" \
     play -v < <(printf 'short caller\nshort caller\n')
 row "an end that is lenient twice" 2 "uucpair: bad script at line 2$line_feed" "" \
     play < <(printf 'lenient called\nlenient called\n')
@@ -283,7 +283,7 @@ row "an answer with a name that is none" 2 \
 row "an answer without the name of the other end" 2 \
     "${usage}the name of the other end is missing: --peer$line_feed" "" answer l a --me a </dev/null
 begins=yes row "a call without the name of the other end" 2 "error: " "" call l a --spool --me a </dev/null
-row "an order with a cancel" 2 "${usage}a job is queued or cancelled, not both$line_feed" "" queue a send x --cancel 1 </dev/null
+row "an order with a cancel" 2 "${usage}queue a job or cancel one, not both$line_feed" "" queue a send x --cancel 1 </dev/null
 begins=yes row "a cancel of nothing" 2 "error: " "" queue a --cancel </dev/null
 begins=yes row "a status of nothing" 2 "error: " "" status --json </dev/null
 begins=yes row "a status of two folders" 2 "error: " "" status a b </dev/null
@@ -341,7 +341,7 @@ row "a scan of a folder by name" 3 "$device" "" scan "$work" </dev/null
 row "a detailed scan of a folder by name" 3 "$folder" "" scan -v "$work" </dev/null
 row "a play of a folder by name" 3 "$device" "" play "$work" </dev/null
 row "what is wrong with a folder by name" 3 "$folder" "" play -v "$work" </dev/null
-reading="uucpair: reading standard input, up to Ctrl-D$line_feed"
+reading="uucpair: reading standard input, until Ctrl-D$line_feed"
 by=at_a_terminal row "a scan at a terminal" 0 "$reading" "REST 0$line_feed" scan
 by=at_a_terminal row "a detailed scan at a terminal" 0 "$reading" "REST 0 AT 0 LENGTH 0$line_feed" scan -v
 by=at_a_terminal row "a play at a terminal" 2 "${reading}uucpair: bad script at line 1$line_feed" "" play
@@ -480,7 +480,7 @@ helps "how it ends" " s: send ~/x y: done 0 bytes in "
 helps "what was lost" " bytes rejects 0 repeats 0 damaged 0"
 folders "send x /etc/y u"
 answer_in_the_background
-row "a call with a path for a target" 0 "uucpair: send x /etc/y u: refused by the other end: in a folder a target is a name, NAME or ~/NAME, without a dot in front$line_feed" \
+row "a call with a path for a target" 0 "uucpair: send x /etc/y u: refused by the other end: in a folder a target is a name, NAME or ~/NAME, without a leading dot$line_feed" \
     "caller done pending 0 struck 0 failed 1${line_feed}caller failed send x /etc/y u$line_feed" \
     call "unix:$socket" "$a" --me a --peer b </dev/null
 wait "$answerer" || true
@@ -503,7 +503,7 @@ row "a call with the number that is kept" 0 "" "caller done pending 0 struck 0 f
 wait "$answerer" || true
 holds "the caller's number after it" "$a/number" "2$line_feed"
 rm "$a/number"
-mend_numbers=" (write the same number to both files number, or remove both, while neither end runs)"
+mend_numbers=" (write the same number to both number files, or remove both, while neither end runs)"
 answer_in_the_background --wait 4
 row "a call of a stranger who knows the names" 1 "uucpair: this end keeps no number$mend_numbers$line_feed" "caller badsequence pending 0 struck 0 failed 0$line_feed" \
     call "unix:$socket" "$a" --me a --peer b </dev/null

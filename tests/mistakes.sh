@@ -183,7 +183,7 @@ rm -f "$work/LCK..line"
 exec {held}<>"$work/line"
 flock "$held"
 mistake "a device that another program has opened" 3 \
-    "${fault}./line is in use"$'\n'"it has no lock file: who has opened it is told by fuser ./line" "${call[@]}"
+    "${fault}./line is in use"$'\n'"it has no lock file: fuser ./line shows who has it open" "${call[@]}"
 exec {held}>&-
 
 # unlocked NAME LOCKS WHY: a call over the device in whose folder of locks no file can be made says so, on standard error and in the log.
@@ -321,14 +321,14 @@ failing() {
 failing "no such file" "no file a/send/none" "send none ~/y me"
 failing "a file that is too large" "a/send/large is larger than --file-limit" "send large ~/y me" \
     "a/send/large: 1048577 bytes, over the limit of 1048576 (--file-limit); the job will be given up"
-failing "a path for a file" "a source is a name: NAME or ~/NAME, without a dot in front" "send send/x ~/y me"
-failing "a file that is hidden" "a source is a name: NAME or ~/NAME, without a dot in front" "send .x ~/y me"
-no_target="refused by the other end: in a folder a target is a name, NAME or ~/NAME, without a dot in front"
+failing "a path for a file" "a source is a name: NAME or ~/NAME, without a leading dot" "send send/x ~/y me"
+failing "a file that is hidden" "a source is a name: NAME or ~/NAME, without a leading dot" "send .x ~/y me"
+no_target="refused by the other end: in a folder a target is a name, NAME or ~/NAME, without a leading dot"
 failing "a target below a folder" "$no_target" "send x ~/dir/y me"
 failing "a target that is hidden" "$no_target" "send x ~/.y me"
-failing "a target here that is hidden" "a target is a name: NAME or ~/NAME, without a dot in front" "request y .y me"
+failing "a target here that is hidden" "a target is a name: NAME or ~/NAME, without a leading dot" "request y .y me"
 failing "no such file at the other end" \
-    "not given by the other end: no such file in its send, or one that may not go; or not to be put in its place here" \
+    "not given by the other end: no such file in its send, or barred there; or it can't be put in its place here" \
     "request none ~/y me"
 
 # A caller that has no job, and a file in `send`.
@@ -339,7 +339,7 @@ wait_for_socket "$work/line" || true
 call_of unix:line a
 (cd "$work" && "${as_user[@]}" timeout 60 "$program" "${call[@]}") >"$work/printed" 2>"$work/said" </dev/null || true
 wait "$answerer" || true
-if [ "$(cat "$work/said")" = "uucpair: no job sends the files in a/send: make one by uucpair queue DIR send FILE" ]; then
+if [ "$(cat "$work/said")" = "uucpair: no job sends the files in a/send (queue one: uucpair queue DIR send FILE)" ]; then
     passed=$((passed + 1))
 else
     failed=$((failed + 1))
@@ -639,7 +639,7 @@ refusing "a name in capitals" 'heard "SALPHA", expected "alpha"' \
     unhappy "the same at the end that calls" refused \
     'the other end refused: "RYou are unknown to me" (it does not know the name of this end)' --me ALPHA --peer beta
 folders "send x ~/y me"
-mend_numbers=" (write the same number to both files number, or remove both, while neither end runs)"
+mend_numbers=" (write the same number to both number files, or remove both, while neither end runs)"
 speaker '\x10Shere=beta\0' '\x10RBADSEQ\0'
 unhappy "an end that keeps a number" badsequence "this end keeps no number$mend_numbers" "${alpha[@]}"
 

@@ -55,7 +55,7 @@ forms() {
     row "a cancel by its line" 0 "cancelled request q q u" "" "$d" --cancel 'request q q u'
     row "a cancel of no job" 1 "" "\"request q q u\": no such job: give a number from 1 to 4, or a line of the list" "$d" --cancel 'request q q u'
     row "a cancel beyond the list" 1 "" "\"5\": no such job: give a number from 1 to 4, or a line of the list" "$d" --cancel 5
-    row "a cancel with an order" 2 "" "a job is queued or cancelled, not both" "$d" send "$work/x" --cancel 1
+    row "a cancel with an order" 2 "" "queue a job or cancel one, not both" "$d" send "$work/x" --cancel 1
     row "the list then" 0 $'send x x me\nsend x.1 y me\nrequest ~/q q me\nrequest ~/q r me' "" "$d"
     (
         unset USER LOGNAME
@@ -68,11 +68,11 @@ forms() {
     row "a folder" 3 "" "can't read $work/files"$'\n'"uucpair: $work/files: not a regular file" "$d" send "$work/files"
     mkfifo "$work/pipe"
     row "a pipe" 3 "" "can't read $work/pipe"$'\n'"uucpair: $work/pipe: not a regular file" "$d" send "$work/pipe"
-    row "a hidden file" 2 "" "without a space or a dot in front" "$d" send "$work/.hidden"
-    row "a file with a space" 2 "" "without a space or a dot in front" "$d" send "$work/a b"
+    row "a hidden file" 2 "" "without spaces or a leading dot" "$d" send "$work/.hidden"
+    row "a file with a space" 2 "" "without spaces or a leading dot" "$d" send "$work/a b"
     row "no file is named" 2 "" "FILE is missing: uucpair queue DIR send FILE" "$d" send
-    row "a bad target" 2 "" "without a space" "$d" send "$work/x" 'a b'
-    row "a bad user" 2 "" "without a space" "$d" send "$work/x" --user 'a b'
+    row "a bad target" 2 "" "without spaces" "$d" send "$work/x" 'a b'
+    row "a bad user" 2 "" "without spaces" "$d" send "$work/x" --user 'a b'
     row "another order" 2 "" "\"fetch\" is neither send nor request: uucpair queue DIR send FILE, or uucpair queue DIR request FILE" "$d" fetch x
     row "a folder that is not there" 3 "" "device fault"$'\n'"uucpair: $work/gone: no such file or directory" "$work/gone"
     row "a folder that is not there" 3 "" "device fault"$'\n'"uucpair: $work/gone: no such file or directory" "$work/gone" request q

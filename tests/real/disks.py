@@ -200,7 +200,7 @@ def a_file_that_cant_be_opened_for_a_moment(one):
     called = ends.answer(one.line, front=traced(one, *refused))
     cable = Cable(one)
     caller = ends.call(cable.line)
-    later = "put off: the other end gives it later, or another file came than it told of"
+    later = "put off: the other end will give it later, or the digest was wrong"
     one.row("call", caller.all(), (0, report("caller", pending=1, struck=1), said(f"request late late me: {later}")))
     called = called.end()
     one.row("answer", (called.status, called.out), (0, report("called")))

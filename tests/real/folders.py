@@ -10,9 +10,9 @@ from datetime import datetime, timedelta, timezone
 
 from suite import Ends, FRONT, filler, free_port, masked, names_in, report, said, scene, text_of, too_large, wait_until, write
 
-MEND_NUMBERS = " (write the same number to both files number, or remove both, while neither end runs)"
-NOT_GIVEN = ("not given by the other end: no such file in its send, or one that may not go; "
-             "or not to be put in its place here")
+MEND_NUMBERS = " (write the same number to both number files, or remove both, while neither end runs)"
+NOT_GIVEN = ("not given by the other end: no such file in its send, or barred there; "
+             "or it can't be put in its place here")
 
 
 def prepare(one, numbered=7):
@@ -29,7 +29,7 @@ def prepare(one, numbered=7):
 CALLER = report("caller", struck=4, failed=["send none n me", "request gone g you"])
 CALLED = report("called", struck=2, failed=["send y .hidden me"])
 CALLER_SAID = said("send none n me: no file alpha/send/none", f"request gone g you: {NOT_GIVEN}")
-PATH = "refused by the other end: in a folder a target is a name, NAME or ~/NAME, without a dot in front"
+PATH = "refused by the other end: in a folder a target is a name, NAME or ~/NAME, without a leading dot"
 CALLED_SAID = said(f"send y .hidden me: {PATH}")
 
 
@@ -61,7 +61,7 @@ def judge(one, ends, caller, called, lines, streams=("out", "out")):
     one.row("alpha's folder", ends.state("alpha"), {
         "jobs": "# mine\n", "number": "8\n", "got/r2": "asked of beta\n", "got/y": filler("y", 5000),
         "failed": "# no such file to send, or it is too large\nsend none n me\n"
-                  "# not given by the other end, or not to be put in its place here\nrequest gone g you\n",
+                  "# not given by the other end, or can't be put in its place here\nrequest gone g you\n",
     })
     one.row("beta's folder", ends.state("beta"), {
         "jobs": "", "number": "8\n", "got/x": "of alpha\n", "got/empty": "", "got/long": filler("long", 9000),
