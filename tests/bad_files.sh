@@ -68,7 +68,7 @@ prepare() {
         ;;
     no_text)
         : >"$work/$at/send/"$'\xff'
-        wants_told="/$at/send/? is not given: its name is no text"
+        wants_told="/$at/send/? is not given: its name is not text"
         ;;
     no_name)
         : >"$work/$at/send/"$'a\x1b[2J'
@@ -95,7 +95,7 @@ prepare() {
         mkdir "$work/$at/got/f"
         echo "request y f u" >>"$work/$at/jobs"
         wants_failed="$(side "$at") failed request y f u"
-        wants_told="uucpair: request y f u: not given by the other end: no such file in its send, or one that may not go; or not to be put in its place here"
+        wants_told="uucpair: request y f u: not given by the other end: no such file in its send, or barred there; or it can't be put in its place here"
         ;;
     long)
         name=$(printf 'n%.0s' {1..100})

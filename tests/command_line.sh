@@ -197,7 +197,7 @@ verdict clean
 '
 undone_reasons='send caller z y u: no such file
 request caller x y u: no such file at the other end
-send caller x y u: put off: the other end takes it later
+send caller x y u: put off: the other end will take it later
 '
 
 # The called end keeps a number, and the caller tells another one.
@@ -247,7 +247,7 @@ row "a play with an end that is quiet on repeats does not settle" 1 "" \
 row "an end that is quiet twice" 2 "uucpair: bad script at line 2$line_feed" "" \
     play < <(printf 'quiet caller\nquiet caller\n')
 row "an end whose commands are short twice" 2 \
-    "uucpair: bad script at line 2${line_feed}uucpair: the end is set up, numbered, quiet, short, lenient, telling digests, resuming or limited already, or has 1024 jobs$line_feed" "" \
+    "uucpair: bad script at line 2${line_feed}uucpair: the end has this setting already, or 1024 jobs$line_feed" "" \
     play -v < <(printf 'short caller\nshort caller\n')
 row "an end that is lenient twice" 2 "uucpair: bad script at line 2$line_feed" "" \
     play < <(printf 'lenient called\nlenient called\n')
@@ -275,15 +275,15 @@ row "a call over a line that is too fast" 2 "${usage}speed 10000001 is not 300 t
 begins=yes row "a call that waits to be called" 2 "uucpair: --wait is for answer: " "" call l a --me a --peer b --wait 5 </dev/null
 row "an answer that doesn't wait" 2 "${usage}wait 0 is not 1 to 1000000000$line_feed" "" answer l a --me a --peer b --wait 0 </dev/null
 row "an answer that waits too long" 2 "${usage}wait 1000000001 is not 1 to 1000000000$line_feed" "" answer l a --me a --peer b --wait 1000000001 </dev/null
-row "a call to a port that is none" 2 "${usage}tcp:h:x has no port of 0 to 65535: give tcp:HOST:PORT, the port as a number$line_feed" "" call tcp:h:x a --me a --peer b </dev/null
+row "a call to a port that is none" 2 "${usage}tcp:h:x has no port number (0 to 65535): give tcp:HOST:PORT$line_feed" "" call tcp:h:x a --me a --peer b </dev/null
 row "a call to a socket without a path" 2 "${usage}unix: has no path$line_feed" "" call unix: a --me a --peer b </dev/null
-row "a call over a line without a name" 2 "${usage}the line has no name$line_feed" "" call "" a --me a --peer b </dev/null
+row "a call over a line without a name" 2 "${usage}LINE is empty$line_feed" "" call "" a --me a --peer b </dev/null
 row "an answer with a name that is none" 2 \
-    "${usage}\"a b\" is no name of a system: 1 to 200 printing characters without a space$line_feed" "" answer l a --me "a b" --peer b </dev/null
+    "${usage}\"a b\" is not a system name: 1 to 200 printable characters without spaces$line_feed" "" answer l a --me "a b" --peer b </dev/null
 row "an answer without the name of the other end" 2 \
     "${usage}the name of the other end is missing: --peer$line_feed" "" answer l a --me a </dev/null
 begins=yes row "a call without the name of the other end" 2 "error: " "" call l a --spool --me a </dev/null
-row "an order with a cancel" 2 "${usage}a job is queued or cancelled, not both$line_feed" "" queue a send x --cancel 1 </dev/null
+row "an order with a cancel" 2 "${usage}queue a job or cancel one, not both$line_feed" "" queue a send x --cancel 1 </dev/null
 begins=yes row "a cancel of nothing" 2 "error: " "" queue a --cancel </dev/null
 begins=yes row "a status of nothing" 2 "error: " "" status --json </dev/null
 begins=yes row "a status of two folders" 2 "error: " "" status a b </dev/null
@@ -293,9 +293,9 @@ helps "help on scan" "scan    Reads bytes"
 helps "help on play" "play    Reads a script"
 helps "help on pair" "pair    Moves files"
 helps "help on call" "call    Calls another system"
-helps "help on answer" "answer  Waits for the call"
+helps "help on answer" "answer  Waits for another"
 helps "help on queue" "queue   Queues a job"
-helps "help on status" "status  Shows the jobs"
+helps "help on status" "status  Shows the pending"
 begins=yes row "help of scan" 2 "Reads bytes" "" scan --help </dev/null
 helps "a line of a listing" "  DATA N ACK N SIZE N VALID N"
 helps "a line of a detailed listing" "  CONTROL BAD checksum"
@@ -309,7 +309,7 @@ begins=yes row "help of pair" 2 "Moves files" "" pair --help </dev/null
 helps "a line of jobs" "request SOURCE TARGET USER"
 helps "the statuses of pair" "Status: 0 both sessions are done"
 helps "an example of pair" "uucpair pair line a b --drop-every 7"
-begins=yes row "help of status" 2 "Shows the jobs" "" status --help </dev/null
+begins=yes row "help of status" 2 "Shows the pending" "" status --help </dev/null
 helps "a line of a status" "  failed JOB: WHY"
 helps "the statuses of status" "Status: 0 done, 2 bad usage or bad jobs"
 begins=yes row "help of call" 2 "Calls another system" "" call --help </dev/null
@@ -317,7 +317,7 @@ helps "a name of a line" "  tcp:HOST:PORT  "
 helps "the statuses of call" "Status: 0 the session is done"
 helps "an example of call" "uucpair call unix:line a --me alpha --peer beta"
 helps "the log of a call" "--log <FILE>"
-begins=yes row "help of answer" 2 "Waits for the call" "" answer --help </dev/null
+begins=yes row "help of answer" 2 "Waits for another" "" answer --help </dev/null
 row "the version" 0 "" "uucpair 0.1.0$line_feed" --version </dev/null
 row "the version in short" 0 "" "uucpair 0.1.0$line_feed" -V </dev/null
 
@@ -341,7 +341,7 @@ row "a scan of a folder by name" 3 "$device" "" scan "$work" </dev/null
 row "a detailed scan of a folder by name" 3 "$folder" "" scan -v "$work" </dev/null
 row "a play of a folder by name" 3 "$device" "" play "$work" </dev/null
 row "what is wrong with a folder by name" 3 "$folder" "" play -v "$work" </dev/null
-reading="uucpair: reading standard input, up to Ctrl-D$line_feed"
+reading="uucpair: reading standard input, until Ctrl-D$line_feed"
 by=at_a_terminal row "a scan at a terminal" 0 "$reading" "REST 0$line_feed" scan
 by=at_a_terminal row "a detailed scan at a terminal" 0 "$reading" "REST 0 AT 0 LENGTH 0$line_feed" scan -v
 by=at_a_terminal row "a play at a terminal" 2 "${reading}uucpair: bad script at line 1$line_feed" "" play
@@ -388,10 +388,10 @@ row "a spool whose other system is locked" 1 "uucpair: system b is locked by $sp
     call unix:"$socket" "$spool" --spool --me a --peer b --locks "$spool" </dev/null
 holds "the status of a system that is locked" "$spool/.Status/b" "$(cat "$work/status")$line_feed"
 row "a spool whose folder of locks is a file" 3 \
-    "uucpair: device fault${line_feed}uucpair: no lock file can be made (--locks): $spool/LCK..b: not a directory$line_feed" "" \
+    "uucpair: device fault${line_feed}uucpair: no lock file can be created (--locks): $spool/LCK..b: not a directory$line_feed" "" \
     call unix:"$socket" "$spool" --spool --me a --peer b --locks "$spool/LCK..b" </dev/null
 row "a spool whose folder of locks is not there" 3 \
-    "uucpair: device fault${line_feed}uucpair: no lock file can be made (--locks): $spool/none: no such file or directory$line_feed" "" \
+    "uucpair: device fault${line_feed}uucpair: no lock file can be created (--locks): $spool/none: no such file or directory$line_feed" "" \
     call unix:"$socket" "$spool" --spool --me a --peer b --locks "$spool/none" </dev/null
 # hears NAME WORDS [OPTION]..: what a caller `b` hears of an end over a spool
 hears() {
@@ -480,7 +480,7 @@ helps "how it ends" " s: send ~/x y: done 0 bytes in "
 helps "what was lost" " bytes rejects 0 repeats 0 damaged 0"
 folders "send x /etc/y u"
 answer_in_the_background
-row "a call with a path for a target" 0 "uucpair: send x /etc/y u: refused by the other end: in a folder a target is a name, NAME or ~/NAME, without a dot in front$line_feed" \
+row "a call with a path for a target" 0 "uucpair: send x /etc/y u: refused by the other end: in a folder a target is a name, NAME or ~/NAME, without a leading dot$line_feed" \
     "caller done pending 0 struck 0 failed 1${line_feed}caller failed send x /etc/y u$line_feed" \
     call "unix:$socket" "$a" --me a --peer b </dev/null
 wait "$answerer" || true
@@ -503,7 +503,7 @@ row "a call with the number that is kept" 0 "" "caller done pending 0 struck 0 f
 wait "$answerer" || true
 holds "the caller's number after it" "$a/number" "2$line_feed"
 rm "$a/number"
-mend_numbers=" (write the same number to both files number, or remove both, while neither end runs)"
+mend_numbers=" (write the same number to both number files, or remove both, while neither end runs)"
 answer_in_the_background --wait 4
 row "a call of a stranger who knows the names" 1 "uucpair: this end keeps no number$mend_numbers$line_feed" "caller badsequence pending 0 struck 0 failed 0$line_feed" \
     call "unix:$socket" "$a" --me a --peer b </dev/null

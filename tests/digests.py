@@ -234,14 +234,14 @@ def a_job_whose_file_came_changed(program, work):
     said, printed, _, log, jobs = caller(program, work, b"send x y u\n", [], lambda peer: taken(peer, b"CN4"))
     return (said == f"S x y u - D.0 0644 \"\" 0x00000006 sha256:{hashlib.sha256(TEXT).hexdigest()}" and jobs == "send x y u\n"
             and "caller done pending 1 struck 0 failed 0\n" in printed and "send x y: wrong digest 6 bytes" in printed
-            and "uucpair: send x y u: put off: the other end takes it later, or another file came there than was sent\n" in printed
+            and "uucpair: send x y u: put off: the other end will take it later, or the digest was wrong there\n" in printed
             and "ERROR: send x y: wrong digest" in log)
 
 
 def a_job_of_an_end_that_tells_none(program, work):
     said, printed, _, log, jobs = caller(program, work, b"send x y u\n", ["--no-digest"], lambda peer: taken(peer, b"CN4"))
     return (said == "S x y u - D.0 0644" and jobs == "send x y u\n" and "send x y: put off 6 bytes" in printed
-            and "uucpair: send x y u: put off: the other end takes it later\n" in printed and "ERROR: send x y: put off" in log)
+            and "uucpair: send x y u: put off: the other end will take it later\n" in printed and "ERROR: send x y: put off" in log)
 
 
 def a_job_that_is_done(program, work):
@@ -253,7 +253,7 @@ def a_file_that_was_asked_for_differs(program, work):
     talk = lambda peer: given(peer, telling(b"hullo\n"), TEXT)
     said, printed, kept, log, jobs = caller(program, work, b"request x y u\n", [], talk)
     return (said == "CN4" and kept == {} and jobs == "request x y u\n" and "request x y: wrong digest 6 bytes" in printed
-            and "uucpair: request x y u: put off: the other end gives it later, or another file came than it told of\n" in printed
+            and "uucpair: request x y u: put off: the other end will give it later, or the digest was wrong\n" in printed
             and "ERROR: request x y: wrong digest" in log)
 
 

@@ -48,12 +48,12 @@ send gone g me
 send x .hidden me
 request none n me
 send y y me'
-told='# no such file to send, or it is too large
+told="# no such file to send, or it is too large
 send gone g me
 # refused by the other end
 send x .hidden me
-# not given by the other end, or not to be put in its place here
-request none n me'
+# not given by the other end, or can't be put in its place here
+request none n me"
 
 tells() {
     new_folders

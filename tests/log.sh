@@ -52,7 +52,7 @@ answer_at --log far.log
 call_at --log near.log
 end_of "$answerer" 20
 fault=
-[ "$(cat near.err)" = "uucpair: request none none me: not given by the other end: no such file in its send, or one that may not go; or not to be put in its place here
+[ "$(cat near.err)" = "uucpair: request none none me: not given by the other end: no such file in its send, or barred there; or it can't be put in its place here
 uucpair: send none ~/n me: no file near/send/none" ] || fault="the caller said $(cat near.err);"
 logged "a caller" near.log "uucpair far - Calling system far (port unix:line)
 uucpair far - Sending x (15 bytes)
@@ -60,7 +60,7 @@ uucpair far - Receiving y (7 bytes)
 uucpair far - ERROR: request none none: refused
 uucpair far - ERROR: 2 jobs were given up
 uucpair far - Call complete (0 seconds 22 bytes 0 bps)
-uucpair far - ERROR: request none none me: not given by the other end: no such file in its send, or one that may not go; or not to be put in its place here
+uucpair far - ERROR: request none none me: not given by the other end: no such file in its send, or barred there; or it can't be put in its place here
 uucpair far - ERROR: send none ~/n me: no file near/send/none" "$fault"
 logged "a called end" far.log "uucpair - - Incoming call (login - port unix:line)
 uucpair near - Receiving ~/x (15 bytes)
@@ -100,7 +100,7 @@ answer_at
 call_at --log near.log
 end_of "$answerer" 20
 fault=
-refused="send x ~/.x me: refused by the other end: in a folder a target is a name, NAME or ~/NAME, without a dot in front"
+refused="send x ~/.x me: refused by the other end: in a folder a target is a name, NAME or ~/NAME, without a leading dot"
 [ "$(cat near.err)" = "uucpair: $refused" ] || fault="the caller said $(cat near.err);"
 grep -qF " ERROR: $refused" near.log || fault="$fault the log has $(cat near.log)"
 report "why a job was refused" "$fault"

@@ -84,7 +84,7 @@ mistake "nobody listens at a port" 3 "${fault}tcp:127.0.0.1:1: connection refuse
 call_of tcp:nobody.invalid:540 a
 mistake "no such host" 3 "${fault}tcp:nobody.invalid:540: unknown host" "${call[@]}"
 call_of tcp:127.0.0.1:0 a
-mistake "port 0" 3 "${fault}tcp:127.0.0.1:0: connection refused (port 0 is none: give 1 to 65535)" "${call[@]}"
+mistake "port 0" 3 "${fault}tcp:127.0.0.1:0: connection refused (0 is not a port: give 1 to 65535)" "${call[@]}"
 brackets="unknown host (an IPv6 address has no brackets: tcp:::1:540)"
 call_of "tcp:[::1]:4000" a
 mistake "an IPv6 address in brackets" 3 "${fault}tcp:[::1]:4000: $brackets" "${call[@]}"
@@ -100,7 +100,7 @@ fi
 call_of /dev/ttyNONE a
 mistake "no such device" 3 "${fault}/dev/ttyNONE: no such file or directory" "${call[@]}"
 call_of a unix:line
-exchanged="(LINE and DIR look exchanged: give LINE first)"
+exchanged="(LINE and DIR look swapped: give LINE first)"
 mistake "line and folder exchanged" 3 "${fault}unix:line: no such file or directory $exchanged" "${call[@]}"
 call_of a /dev/ttyNONE
 mistake "a device and a folder exchanged" 3 "${fault}/dev/ttyNONE: no such file or directory $exchanged" "${call[@]}"
@@ -123,7 +123,7 @@ chmod 777 "$work/old"
 call_of ./old a
 mistake "a socket without unix:" 3 "${fault}./old: error 6 (for a socket give unix:PATH)" "${call[@]}"
 mistake "an address of another machine" 3 \
-    "${fault}tcp:192.0.2.1:54000: address not available (no address of this machine; 0.0.0.0 is all of them)" \
+    "${fault}tcp:192.0.2.1:54000: address not available (not an address of this machine; 0.0.0.0 is all of them)" \
     answer tcp:192.0.2.1:54000 a --me alpha --peer beta
 call_of unix:old a
 mistake "a socket at which nobody listens" 3 "${fault}unix:old: connection refused" "${call[@]}"
@@ -140,7 +140,7 @@ mistake "one folder for both ends" 2 "$one_folder" pair s a a
 mistake "one folder of two names for both ends" 2 "$one_folder" pair s a ./a/ -v
 mistake "one folder for both ends, and each packet lost" 2 "${usage}drop-every 1 is not 2 to 1000000" pair s a a --drop-every 1
 call_of - a
-mistake "standard input that is no line" 3 "${fault}-: standard input or output is no socket, pipe or terminal" "${call[@]}"
+mistake "standard input that is no line" 3 "${fault}-: standard input or output is not a socket, pipe or terminal" "${call[@]}"
 : >"$work/device"
 chmod 0 "$work/device"
 call_of ./device a
@@ -183,12 +183,12 @@ rm -f "$work/LCK..line"
 exec {held}<>"$work/line"
 flock "$held"
 mistake "a device that another program has opened" 3 \
-    "${fault}./line is in use"$'\n'"it has no lock file: who has opened it is told by fuser ./line" "${call[@]}"
+    "${fault}./line is in use"$'\n'"it has no lock file: fuser ./line shows who has it open" "${call[@]}"
 exec {held}>&-
 
 # unlocked NAME LOCKS WHY: a call over the device in whose folder of locks no file can be made says so, on standard error and in the log.
 unlocked() {
-    local ended=0 want="no lock file can be made (--locks): $2: $3"
+    local ended=0 want="no lock file can be created (--locks): $2: $3"
     rm -f "$work/Log"
     (cd "$work" && "${as_user[@]}" timeout 60 "$program" call ./line a --me alpha --peer beta --timeout 1 --locks "$2" --log Log) \
         >"$work/printed" 2>"$work/said" </dev/null || ended=$?
@@ -200,7 +200,7 @@ unlocked() {
     fi
 }
 
-no_lock="no lock file can be made (--locks): none: no such file or directory"
+no_lock="no lock file can be created (--locks): none: no such file or directory"
 unlocked "no folder of locks" none "no such file or directory"
 unlocked "a file for the folder of locks" device "not a directory"
 mkdir "$work/spool"
@@ -249,7 +249,7 @@ mistake "no folder for what comes" 3 \
 mkdir "$work/a/got"
 mv "$work/a/send" "$work/a/sent"
 mistake "no folder for what is sent" 3 \
-    "${fault}a/send: no such file or directory (make it: the files of jobs are there)" "${call[@]}"
+    "${fault}a/send: no such file or directory (make it: the files of jobs go there)" "${call[@]}"
 mv "$work/a/sent" "$work/a/send"
 chmod 0 "$work/a/jobs"
 mistake "no right to the jobs" 3 "${fault}a/jobs: permission denied" "${call[@]}"
@@ -270,7 +270,7 @@ chmod -R a+rX "$work/spool"
 call_of unix:none spool
 mistake "a spool for a folder" 3 "${fault}spool: it is a spool of Taylor UUCP: give --spool" "${call[@]}"
 call_of unix:none a
-mistake "a folder for a spool" 3 "${fault}a: it has jobs or send, and is no spool: leave out --spool" "${call[@]}" --spool
+mistake "a folder for a spool" 3 "${fault}a: not a spool, as it has jobs or send: leave out --spool" "${call[@]}" --spool
 
 # ---- jobs
 
@@ -281,14 +281,14 @@ mistake "a word that is no order" 2 "$jobs 2"$'\n''a/jobs: line 2: "put" is neit
 folders "send x ~/y me" "send x"
 mistake "too few words" 2 "$jobs 2"$'\n'"a/jobs: line 2: TARGET and USER are missing" "${call[@]}"
 folders "send my file ~/y me"
-mistake "a blank in the name of a file" 2 "$jobs 1"$'\n''a/jobs: line 1: "me" is one word too many: a name has no space in it' \
+mistake "a blank in the name of a file" 2 "$jobs 1"$'\n''a/jobs: line 1: "me" is one word too many: names have no spaces' \
     "${call[@]}"
 folders $'send x ~/y me\r'
-mistake "a line of another system" 2 "$jobs 1"$'\n'"a/jobs: line 1: it ends in CR LF: let the lines end in LF alone" "${call[@]}"
+mistake "a line of another system" 2 "$jobs 1"$'\n'"a/jobs: line 1: it ends in CR LF: end lines with LF alone" "${call[@]}"
 folders $'send x\t~/y me'
-mistake "a tab between words" 2 "$jobs 1"$'\n'"a/jobs: line 1: a tab is in it: only spaces stand between words" "${call[@]}"
+mistake "a tab between words" 2 "$jobs 1"$'\n'"a/jobs: line 1: it has a tab: separate words with spaces only" "${call[@]}"
 folders $'send x ~/\a me'
-mistake "a target that is no name" 2 "$jobs 1"$'\n''a/jobs: line 1: "~/\x07" is no name: 1 to 200 printing characters' "${call[@]}"
+mistake "a target that is no name" 2 "$jobs 1"$'\n''a/jobs: line 1: "~/\x07" is not a name: 1 to 200 printable characters' "${call[@]}"
 folders "send x ~/y me"
 echo "get x y me" >"$work/b/jobs"
 mistake "the same of the called end of a pair" 2 "$jobs 1"$'\n''b/jobs: line 1: "get" is neither send nor request' pair s a b -v
@@ -320,15 +320,15 @@ failing() {
 
 failing "no such file" "no file a/send/none" "send none ~/y me"
 failing "a file that is too large" "a/send/large is larger than --file-limit" "send large ~/y me" \
-    "a/send/large: 1048577 bytes, and the limit is 1048576 (--file-limit); the job will be given up"
-failing "a path for a file" "a source is a name: NAME or ~/NAME, without a dot in front" "send send/x ~/y me"
-failing "a file that is hidden" "a source is a name: NAME or ~/NAME, without a dot in front" "send .x ~/y me"
-no_target="refused by the other end: in a folder a target is a name, NAME or ~/NAME, without a dot in front"
+    "a/send/large: 1048577 bytes, over the limit of 1048576 (--file-limit); the job will be given up"
+failing "a path for a file" "a source is a name: NAME or ~/NAME, without a leading dot" "send send/x ~/y me"
+failing "a file that is hidden" "a source is a name: NAME or ~/NAME, without a leading dot" "send .x ~/y me"
+no_target="refused by the other end: in a folder a target is a name, NAME or ~/NAME, without a leading dot"
 failing "a target below a folder" "$no_target" "send x ~/dir/y me"
 failing "a target that is hidden" "$no_target" "send x ~/.y me"
-failing "a target here that is hidden" "a target is a name: NAME or ~/NAME, without a dot in front" "request y .y me"
+failing "a target here that is hidden" "a target is a name: NAME or ~/NAME, without a leading dot" "request y .y me"
 failing "no such file at the other end" \
-    "not given by the other end: no such file in its send, or one that may not go; or not to be put in its place here" \
+    "not given by the other end: no such file in its send, or barred there; or it can't be put in its place here" \
     "request none ~/y me"
 
 # A caller that has no job, and a file in `send`.
@@ -339,7 +339,7 @@ wait_for_socket "$work/line" || true
 call_of unix:line a
 (cd "$work" && "${as_user[@]}" timeout 60 "$program" "${call[@]}") >"$work/printed" 2>"$work/said" </dev/null || true
 wait "$answerer" || true
-if [ "$(cat "$work/said")" = "uucpair: no job sends the files in a/send: make one by uucpair queue DIR send FILE" ]; then
+if [ "$(cat "$work/said")" = "uucpair: no job sends the files in a/send (queue one: uucpair queue DIR send FILE)" ]; then
     passed=$((passed + 1))
 else
     failed=$((failed + 1))
@@ -376,7 +376,7 @@ folders "send large ~/y me" "send x x me" "send large ~/z me"
 head -c 1048577 /dev/zero >"$work/a/send/large"
 chmod a+r "$work/a/send/large"
 call_of unix:none a --file-limit 1048576
-mistake "a file that is too large, and nobody there" 3 "a/send/large: 1048577 bytes, and the limit is 1048576 (--file-limit); \
+mistake "a file that is too large, and nobody there" 3 "a/send/large: 1048577 bytes, over the limit of 1048576 (--file-limit); \
 the job will be given up"$'\n'"${fault}unix:none: no such file or directory" "${call[@]}"
 
 # counted STATUS WORD..: a call of which a job fails ends so.
@@ -411,7 +411,7 @@ call_of unix:line a
 (cd "$work" && "${as_user[@]}" timeout 60 "$program" "${call[@]}") >"$work/called" 2>&1 </dev/null || true
 ended=0
 wait "$answerer" || ended=$?
-closed="uucpair: the other end ended the session before all was done (it may not have stored a file: see what it says)"
+closed="uucpair: the other end ended the session early (it may not have stored a file: see what it says)"
 if [ "$ended" -eq 1 ] && [ "$(cat "$work/said")" = "uucpair: b/got/y: no such file or directory" ] \
     && [ "$(head -n 1 "$work/called")" = "$closed" ]; then
     passed=$((passed + 1))
@@ -483,7 +483,7 @@ unhappy "an end that is busy" refused 'the other end refused: "RLCK" (it is busy
 folders "send x ~/y me"
 speaker '\x10Shere=beta\0' '\x10RLOGIN\0'
 unhappy "an end that does not know us" refused \
-    'the other end refused: "RLOGIN" (it does not let the name of --me in, or not by this login)' "${alpha[@]}"
+    'the other end refused: "RLOGIN" (it does not admit the name of --me, or not with this login)' "${alpha[@]}"
 
 # parting [TEXT]: an end at the socket `line` that hangs up when it is called, behind this text.
 parting() {
@@ -526,7 +526,7 @@ unhappy "an end that can't hear" gaveup "heard \"Shere=beta\", and then no answe
 folders "send x ~/y me"
 speaker '\r'
 unhappy "another end that calls" gaveup \
-    'heard 1 bytes and no text: "\x0d" (line ends alone: both ends call, or a terminal is not raw: stty raw -echo)' "${alpha[@]}"
+    'heard 1 bytes and no text: "\x0d" (only line breaks: both ends call, or a terminal is not raw: stty raw -echo)' "${alpha[@]}"
 folders "send x ~/y me"
 refusing "a stranger who calls" 'heard "Sgamma", expected "alpha"' \
     unhappy "a name that the other end does not know" refused \
@@ -593,7 +593,7 @@ sys.stdout.buffer.write(bytes(range(256)) * 40)' >"$work/b/send/bytes"
 }
 
 narrowed "a line of seven bits" seven \
-    "N bytes came after the greeting, all of seven bits (the line has to pass eight: stty raw pass8, at both ends)" ""
+    "N bytes came after the greeting, all seven-bit (the line has to pass eight bits: stty raw pass8, at both ends)" ""
 narrowed "flow control that drops bytes" flow "N bytes came after the greeting, none of them XON or XOFF \
 (flow control may drop these: stty raw -ixon -ixoff, at both ends)" "request bytes y me"
 narrowed "a line that drops what comes behind the greeting" all \
@@ -612,13 +612,13 @@ while stream.recv(4096):
 
 folders
 refusing "a caller that hangs up at once" \
-    "the caller hung up, and said nothing (it may expect another name than that of --me)" saying ''
+    "the caller hung up, and said nothing (it may expect a name other than --me)" saying ''
 folders
 refusing "a caller that hangs up behind its name" \
     'heard "Salpha", and then the caller hung up (it may lack protocol g)' saying '\x10Salpha\0'
 folders
 refusing "another end that answers" \
-    'heard "Shere=alpha", expected "alpha" (one end has to call, and both answer; or a terminal echoes: stty raw -echo)' \
+    'heard "Shere=alpha", expected "alpha" (both ends answer, and one has to call; or a terminal echoes: stty raw -echo)' \
     saying '\x10Shere=alpha\0'
 folders
 refusing "a terminal that echoes" \
@@ -626,7 +626,7 @@ refusing "a terminal that echoes" \
     saying '\r^PShere=beta^@'
 folders
 refusing "a terminal that is not raw" \
-    'heard 1 bytes and no text: "\x0a" (line ends alone: both ends call, or a terminal is not raw: stty raw -echo)' saying '\n'
+    'heard 1 bytes and no text: "\x0a" (only line breaks: both ends call, or a terminal is not raw: stty raw -echo)' saying '\n'
 
 folders "send x ~/y me"
 speaker '\x10Shere=beta\0'
@@ -639,7 +639,7 @@ refusing "a name in capitals" 'heard "SALPHA", expected "alpha"' \
     unhappy "the same at the end that calls" refused \
     'the other end refused: "RYou are unknown to me" (it does not know the name of this end)' --me ALPHA --peer beta
 folders "send x ~/y me"
-mend_numbers=" (write the same number to both files number, or remove both, while neither end runs)"
+mend_numbers=" (write the same number to both number files, or remove both, while neither end runs)"
 speaker '\x10Shere=beta\0' '\x10RBADSEQ\0'
 unhappy "an end that keeps a number" badsequence "this end keeps no number$mend_numbers" "${alpha[@]}"
 
@@ -868,7 +868,7 @@ for words in "queue a" "queue a send a/send/x" "queue a request x" "queue a --ca
 done
 mapfile -t many < <(for ((i = 0; i < 1024; i++)); do echo "send x y me"; done)
 folders "${many[@]}"
-mistake "a job too many" 2 "$jobs 1025"$'\n'"a/jobs: 1024 jobs wait, the most that may: call, or cancel one" queue a send a/send/x
+mistake "a job too many" 2 "$jobs 1025"$'\n'"a/jobs: the limit of 1024 jobs is reached: call, or cancel one" queue a send a/send/x
 
 # Two jobs with one target.
 folders
@@ -894,11 +894,11 @@ remarked() {
     fi
 }
 
-refuses="has a dot in front: uucpair at the other end refuses such a target, Taylor UUCP takes it"
+refuses="has a leading dot: uucpair at the other end refuses such a target, Taylor UUCP takes it"
 remarked "a target with a dot in front" ".y $refuses" send a/send/x .y
 public='~'
 remarked "a target with a dot in front in the public folder" "$public/.y $refuses" send a/send/x "$public/.y"
-remarked "a target here with a dot in front" ".y has a dot in front: no such target is taken here, so the job will be given up" \
+remarked "a target here with a dot in front" ".y has a leading dot: this end takes no such target, so the job will be given up" \
     request y .y
 remarked "a target with a dot in its middle" "" send a/send/x x.y
 
@@ -908,16 +908,16 @@ folders
 misspoken "no words behind call" call -- "  --me <NAME>" "  --peer <NAME>" "  <LINE>" "  <DIR>"
 misspoken "no name of the other end" call unix:s a --me alpha -- "  --peer <NAME>"
 misspoken "an option that there is not" call unix:s a --me alpha --peer beta --baud 9600 -- "error: unexpected argument '--baud' found" \
-    "uucpair: set the speed of a device by stty; --speed is for the timers"
+    "uucpair: set a device speed with stty; --speed is for the timers"
 misspoken "a port apart" call unix:s a --me alpha --peer beta --port 540 -- "error: unexpected argument '--port' found" \
     "uucpair: the port is part of LINE: tcp:HOST:PORT"
-misspoken "an order without its command" send a x -- "uucpair: queue a file by: uucpair queue DIR send FILE"
+misspoken "an order without its command" send a x -- "uucpair: to queue a file: uucpair queue DIR send FILE"
 misspoken "a file behind a call" call unix:s a --me alpha --peer beta send x -- "error: unexpected argument 'send' found" \
-    "uucpair: queue a file by: uucpair queue DIR send FILE"
+    "uucpair: to queue a file: uucpair queue DIR send FILE"
 misspoken "a timeout that is no whole number" call unix:s a --me alpha --peer beta --timeout 0.5 -- \
     "error: invalid value '0.5' for '--timeout <SECONDS>': invalid digit found in string"
 misspoken "an option in front of its command" -v call unix:s a --me alpha --peer beta -- "error: unexpected argument '-v' found" \
-    "uucpair: options go behind the command: uucpair call .. -v"
+    "uucpair: options go after the command: uucpair call .. -v"
 misspoken "an option of answer behind call" call unix:s a --me alpha --peer beta --wait 60 -- "error: unexpected argument '--wait' found" \
     "uucpair: --wait is for answer: a call waits as long as --timeout says"
 misspoken "sessions of a call" call unix:s a --me alpha --peer beta --sessions=2 -- "error: unexpected argument '--sessions' found" \
@@ -950,7 +950,7 @@ call_of unix:s a --keep-partials 0
 mistake "no day" 2 "${usage}keep-partials 0 is not 1 to 3650" "${call[@]}"
 mistake "no time to be called" 2 "${usage}wait 0 is not 1 to 1000000000" answer unix:s a --me alpha --peer beta --wait 0
 call_of tcp:127.0.0.1 a
-no_port="has no port of 0 to 65535: give tcp:HOST:PORT, the port as a number"
+no_port="has no port number (0 to 65535): give tcp:HOST:PORT"
 mistake "no port" 2 "${usage}tcp:127.0.0.1 $no_port" "${call[@]}"
 call_of tcp:h:70000 a
 mistake "a port that is too great" 2 "${usage}tcp:h:70000 $no_port" "${call[@]}"
@@ -961,8 +961,8 @@ mistake "no host" 2 "${usage}tcp::540 has no host" "${call[@]}"
 call_of unix: a
 mistake "no path of a socket" 2 "${usage}unix: has no path" "${call[@]}"
 call_of "" a
-mistake "no line" 2 "${usage}the line has no name" "${call[@]}"
-no_name="is no name of a system: 1 to 200 printing characters without a space"
+mistake "no line" 2 "${usage}LINE is empty" "${call[@]}"
+no_name="is not a system name: 1 to 200 printable characters without spaces"
 mistake "a name with a blank" 2 "${usage}\"Foo bar\" $no_name" call unix:s a --me "Foo bar" --peer beta
 mistake "an empty name" 2 "${usage}\"\" $no_name" call unix:s a --me "" --peer beta
 mistake "an empty name of the other end" 2 "${usage}the name of the other end is missing: --peer" \

@@ -55,7 +55,7 @@ forms() {
     row "a cancel by its line" 0 "cancelled request q q u" "" "$d" --cancel 'request q q u'
     row "a cancel of no job" 1 "" "\"request q q u\": no such job: give a number from 1 to 4, or a line of the list" "$d" --cancel 'request q q u'
     row "a cancel beyond the list" 1 "" "\"5\": no such job: give a number from 1 to 4, or a line of the list" "$d" --cancel 5
-    row "a cancel with an order" 2 "" "a job is queued or cancelled, not both" "$d" send "$work/x" --cancel 1
+    row "a cancel with an order" 2 "" "queue a job or cancel one, not both" "$d" send "$work/x" --cancel 1
     row "the list then" 0 $'send x x me\nsend x.1 y me\nrequest ~/q q me\nrequest ~/q r me' "" "$d"
     (
         unset USER LOGNAME
@@ -68,16 +68,16 @@ forms() {
     row "a folder" 3 "" "can't read $work/files"$'\n'"uucpair: $work/files: not a regular file" "$d" send "$work/files"
     mkfifo "$work/pipe"
     row "a pipe" 3 "" "can't read $work/pipe"$'\n'"uucpair: $work/pipe: not a regular file" "$d" send "$work/pipe"
-    row "a hidden file" 2 "" "without a space or a dot in front" "$d" send "$work/.hidden"
-    row "a file with a space" 2 "" "without a space or a dot in front" "$d" send "$work/a b"
+    row "a hidden file" 2 "" "without spaces or a leading dot" "$d" send "$work/.hidden"
+    row "a file with a space" 2 "" "without spaces or a leading dot" "$d" send "$work/a b"
     row "no file is named" 2 "" "FILE is missing: uucpair queue DIR send FILE" "$d" send
-    row "a bad target" 2 "" "without a space" "$d" send "$work/x" 'a b'
-    row "a bad user" 2 "" "without a space" "$d" send "$work/x" --user 'a b'
+    row "a bad target" 2 "" "without spaces" "$d" send "$work/x" 'a b'
+    row "a bad user" 2 "" "without spaces" "$d" send "$work/x" --user 'a b'
     row "another order" 2 "" "\"fetch\" is neither send nor request: uucpair queue DIR send FILE, or uucpair queue DIR request FILE" "$d" fetch x
     row "a folder that is not there" 3 "" "device fault"$'\n'"uucpair: $work/gone: no such file or directory" "$work/gone"
     row "a folder that is not there" 3 "" "device fault"$'\n'"uucpair: $work/gone: no such file or directory" "$work/gone" request q
     mkdir "$work/bare"
-    row "no send" 3 "" "device fault"$'\n'"uucpair: $work/bare/send: no such file or directory (make it: the files of jobs are there)" "$work/bare" send "$work/x"
+    row "no send" 3 "" "device fault"$'\n'"uucpair: $work/bare/send: no such file or directory (make it: the files of jobs go there)" "$work/bare" send "$work/x"
     row "a request needs none" 0 "queued request q q me" "" "$work/bare" request q --user me
     # A name that a job has whose file is not there is taken too; a line without its line feed gets one.
     mkdir -p "$work/e/send"
@@ -91,7 +91,7 @@ forms() {
     row "a cancel in bad jobs" 2 "" "$bad" "$work/e" --cancel 1
     holds "bad jobs stay" "$work/e/jobs" $'send x y u\nbad'
     for ((i = 0; i < 1024; i++)); do echo "request q q u"; done >"$work/e/jobs"
-    row "a job too many" 2 "" "bad jobs at line 1025"$'\n'"uucpair: $work/e/jobs: 1024 jobs wait, the most that may: call, or cancel one" "$work/e" send "$work/x"
+    row "a job too many" 2 "" "bad jobs at line 1025"$'\n'"uucpair: $work/e/jobs: the limit of 1024 jobs is reached: call, or cancel one" "$work/e" send "$work/x"
     # The copy before is gone with its job.
     [ -z "$(ls -A "$work/e/send")" ] || {
         failed=$((failed + 1))
@@ -102,7 +102,7 @@ forms() {
     long=$(head -c 200 /dev/zero | tr '\0' n)
     : >"$work/$long"
     row "a long name" 0 "queued send $long $long me" "" "$d" send "$work/$long" --user me
-    row "a long name that is taken" 3 "" "device fault"$'\n'"uucpair: $d/send/$long: it exists already" "$d" send "$work/$long" --user me
+    row "a long name that is taken" 3 "" "device fault"$'\n'"uucpair: $d/send/$long: it already exists" "$d" send "$work/$long" --user me
     echo "forms: $passed of $((passed + failed)) rows passed"
 }
 

@@ -240,7 +240,7 @@ usage() {
 folders
 usage "no session" "sessions 0 is not 1 to 1000000" answer "unix:$work/line" "$work/far" --sessions 0
 usage "too many sessions" "sessions 1000001 is not 1 to 1000000" answer "unix:$work/line" "$work/far" --sessions 1000001
-once="sessions 2 is not 1: only at a socket there may be more"
+once="sessions 2 is not 1: only a socket allows more"
 usage "two sessions at standard input" "$once" answer - "$work/far" --sessions 2
 usage "two sessions at a device" "$once" answer /dev/null "$work/far" --sessions 2
 

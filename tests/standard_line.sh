@@ -171,7 +171,7 @@ unchanged() {
 
 # nobody_there KIND ROLE: the other side closes the line at once.
 nobody_there() {
-    local said="the caller hung up, and said nothing (it may expect another name than that of --me)"
+    local said="the caller hung up, and said nothing (it may expect a name other than --me)"
     [ "$2" = answer ] ||
         said="the other end hung up, and said nothing (no uucico or uucpair answers there, or it turns this machine away)"
     near_words "$2"

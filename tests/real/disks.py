@@ -65,7 +65,7 @@ def folders_that_are_not_there(one):
         broken(one, "no got", at, *move("got"), "{at}/got: no such file or directory (make it; only a spool, with --spool, has none)")
         for end in ("alpha", "beta"):
             shutil.rmtree(one.path(end))
-        broken(one, "no send", at, *move("send"), "{at}/send: no such file or directory (make it: the files of jobs are there)")
+        broken(one, "no send", at, *move("send"), "{at}/send: no such file or directory (make it: the files of jobs go there)")
         for end in ("alpha", "beta"):
             shutil.rmtree(one.path(end))
 
@@ -200,7 +200,7 @@ def a_file_that_cant_be_opened_for_a_moment(one):
     called = ends.answer(one.line, front=traced(one, *refused))
     cable = Cable(one)
     caller = ends.call(cable.line)
-    later = "put off: the other end gives it later, or another file came than it told of"
+    later = "put off: the other end will give it later, or the digest was wrong"
     one.row("call", caller.all(), (0, report("caller", pending=1, struck=1), said(f"request late late me: {later}")))
     called = called.end()
     one.row("answer", (called.status, called.out), (0, report("called")))

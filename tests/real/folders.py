@@ -10,9 +10,9 @@ from datetime import datetime, timedelta, timezone
 
 from suite import Ends, FRONT, filler, free_port, masked, names_in, report, said, scene, text_of, too_large, wait_until, write
 
-MEND_NUMBERS = " (write the same number to both files number, or remove both, while neither end runs)"
-NOT_GIVEN = ("not given by the other end: no such file in its send, or one that may not go; "
-             "or not to be put in its place here")
+MEND_NUMBERS = " (write the same number to both number files, or remove both, while neither end runs)"
+NOT_GIVEN = ("not given by the other end: no such file in its send, or barred there; "
+             "or it can't be put in its place here")
 
 
 def prepare(one, numbered=7):
@@ -29,7 +29,7 @@ def prepare(one, numbered=7):
 CALLER = report("caller", struck=4, failed=["send none n me", "request gone g you"])
 CALLED = report("called", struck=2, failed=["send y .hidden me"])
 CALLER_SAID = said("send none n me: no file alpha/send/none", f"request gone g you: {NOT_GIVEN}")
-PATH = "refused by the other end: in a folder a target is a name, NAME or ~/NAME, without a dot in front"
+PATH = "refused by the other end: in a folder a target is a name, NAME or ~/NAME, without a leading dot"
 CALLED_SAID = said(f"send y .hidden me: {PATH}")
 
 
@@ -61,7 +61,7 @@ def judge(one, ends, caller, called, lines, streams=("out", "out")):
     one.row("alpha's folder", ends.state("alpha"), {
         "jobs": "# mine\n", "number": "8\n", "got/r2": "asked of beta\n", "got/y": filler("y", 5000),
         "failed": "# no such file to send, or it is too large\nsend none n me\n"
-                  "# not given by the other end, or not to be put in its place here\nrequest gone g you\n",
+                  "# not given by the other end, or can't be put in its place here\nrequest gone g you\n",
     })
     one.row("beta's folder", ends.state("beta"), {
         "jobs": "", "number": "8\n", "got/x": "of alpha\n", "got/empty": "", "got/long": filler("long", 9000),
@@ -169,8 +169,8 @@ def terminals_over_which_no_session_begins(one):
     """Where both ends answer or call, or a terminal is not raw, each end says what to do."""
     Ends(one)
     os.mkdir(one.path("locks"))
-    ends_alone = "(line ends alone: both ends call, or a terminal is not raw: stty raw -echo)"
-    both = "(one end has to call, and both answer; or a terminal echoes: stty raw -echo)"
+    ends_alone = "(only line breaks: both ends call, or a terminal is not raw: stty raw -echo)"
+    both = "(both ends answer, and one has to call; or a terminal echoes: stty raw -echo)"
     raw = "a terminal has to be raw: stty raw -echo"
     for what, verbs, cooked, hints in (
         ("both answer", ("answer", "answer"), None, (both, both)),
@@ -510,12 +510,12 @@ def lines_that_are_none(one):
     for line, why in ((f"tcp:127.0.0.1:{port}", "connection refused"), (f"tcp:{port}", "connection refused"),
             ("tcp:nobody.invalid:540", "unknown host"),
                       ("unix:none", "no such file or directory"), ("/dev/ttyNONE", "no such file or directory"),
-                      ("-", "standard input or output is no socket, pipe or terminal")):
+                      ("-", "standard input or output is not a socket, pipe or terminal")):
         ended = one.run(ends.words("call", line, "--locks", "."))
         one.row(line.replace(str(port), "PORT"), (ended.status, ended.out, ended.err),
                 (3, "", said("device fault", f"{line}: {why}")))
-    for line, why in (("tcp:127.0.0.1", "tcp:127.0.0.1 has no port of 0 to 65535: give tcp:HOST:PORT, the port as a number"), ("tcp::540", "tcp::540 has no host"),
-            ("unix:", "unix: has no path"), ("", "the line has no name")):
+    for line, why in (("tcp:127.0.0.1", "tcp:127.0.0.1 has no port number (0 to 65535): give tcp:HOST:PORT"), ("tcp::540", "tcp::540 has no host"),
+            ("unix:", "unix: has no path"), ("", "LINE is empty")):
         one.row(f"bad usage: {line}", one.run(ends.words("call", line)).all(), (2, "", said("bad usage", why)))
     ends.give("alpha", x="x\n")
     ends.jobs("alpha", "send x x me")

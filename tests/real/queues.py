@@ -433,7 +433,7 @@ def a_job_that_is_cancelled(one):
     one.row("no folder", one.run(["queue", "none", "--cancel", "1"]).all(),
             (3, "", said("device fault", "none: no such file or directory")))
     one.row("with an order", one.run(["queue", "alpha", "send", "files/a", "--cancel", "1"]).all(),
-            (2, "", said("bad usage", "a job is queued or cancelled, not both")))
+            (2, "", said("bad usage", "queue a job or cancel one, not both")))
 
 
 @scene()

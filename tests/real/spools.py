@@ -437,7 +437,7 @@ def jobs_that_are_given_up(one):
     one.row("what is preserved", {name: text for name, text in there.items() if name.startswith(".Preserve/beta")},
             {".Preserve/beta.D.0005": "of an earlier job\n", ".Preserve/beta.D.0005.1": "refused\n"})
     told = ["# refused by the other end", failed[0], "# no such file to send, or it is too large", failed[1],
-            "# not given by the other end, or not to be put in its place here", failed[2]]
+            "# not given by the other end, or can't be put in its place here", failed[2]]
     one.row("what is told", there.get(".Preserve/failed", "").splitlines(), told)
     one.row("no C. file is left", [name for name in there if "/C./" in name], [])
     mails = {name: text for name, text in there.items() if "/D./" in name}
@@ -764,7 +764,7 @@ def links_in_place_of_folders(one):
         wait_until(lambda: "not a directory" in running.said() or running.process.poll() is not None, 5)
         called = running.stop()
         one.row(f"a link as {folder}", (called.out, called.err),
-                ("", said(f"{folder}/alpha is a link: take it away", "device fault", f"{nodes.at('beta', 'spool')}: not a directory")))
+                ("", said(f"{folder}/alpha is a link: remove it", "device fault", f"{nodes.at('beta', 'spool')}: not a directory")))
         one.row(f"what is behind a link as {folder}", files_below(mine), {"notes": b"mine\n"})
         os.remove(nodes.at("beta", f"spool/{folder}/alpha"))
 
@@ -833,7 +833,7 @@ def the_lock_is_held(one):
     one.row("the first is well", (caller.end().status, called.end().status), (0, 0))
     os.rmdir(nodes.at("alpha", "lock"))
     one.row("no folder of locks", nodes.call("alpha").all(), (3, "", said("device fault",
-            f"no lock file can be made (--locks): {nodes.at('alpha', 'lock')}: no such file or directory")))
+            f"no lock file can be created (--locks): {nodes.at('alpha', 'lock')}: no such file or directory")))
 
 
 @scene()
@@ -1045,7 +1045,7 @@ def names_that_lead_elsewhere(one):
         for name in (".", "..", ".Status", "../x", "x/y"):
             ended = one.run(nodes.words(verb, "alpha", one.line, name, *more))
             one.row(f"{verb} of {name}", ended.all(),
-                    (2, "", said("bad usage", f'"{name}" is no name of a system in a spool: it has no slash, and no dot in front')))
+                    (2, "", said("bad usage", f'"{name}" is not a system name for a spool: no slash, no leading dot')))
     made = [name for name in names_in(one.work) if name not in there and not name.startswith((".out", ".err"))]
     one.row("nothing is made", (made, names_in(nodes.at("alpha")), names_in(nodes.at("alpha", "spool"))),
             ([], ["lock", "pub", "spool", "src"], []))

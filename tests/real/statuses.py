@@ -288,8 +288,8 @@ def the_last_session_in_a_log(one):
     ends.talk(**logs)
     one.row("a session that is done: the log", [line.split("(TIME) ")[1] for line in masked(ends.at("alpha", "log"))],
             [f"Calling system beta (port {one.line})", "Sending x (2 bytes)", "ERROR: request none none: refused", "ERROR: 1 job was given up",
-            "Call complete (2 bytes)", "ERROR: request none none me: not given by the other end: no such file in its send, or one that may not go; "
-            "or not to be put in its place here"])
+            "Call complete (2 bytes)", "ERROR: request none none me: not given by the other end: no such file in its send, or barred there; "
+            "or it can't be put in its place here"])
     log_rows(one, ends, "a session that is done", 0, 2, 3, 4, 5)
     log_rows(one, ends, "at the other end", 0, 2, 3, end="beta")
     one.row("without a log", [line for line in status(one).out.splitlines() if line.startswith("session")], [])
@@ -475,14 +475,14 @@ def mistakes_about_a_spool(one):
                 fault("can't read none", "none: no such file or directory"))
     one.row("an empty name", status(one, "--spool", "--peer", "", folder=spool).all(), usage("the name of the other end is missing: --peer"))
     one.row("two words", status(one, "--spool", "--peer", "a b", folder=spool).all(),
-            usage('"a b" is no name of a system: 1 to 200 printing characters without a space'))
+            usage('"a b" is not a system name: 1 to 200 printable characters without spaces'))
     for name in (".", "..", ".Status", "../x", "x/y"):
         one.row(f"the name {name}", status(one, "--spool", "--peer", name, folder=spool).all(),
-                usage(f'"{name}" is no name of a system in a spool: it has no slash, and no dot in front'))
+                usage(f'"{name}" is not a system name for a spool: no slash, no leading dot'))
     there = files_below(nodes.at("alpha"))
     for words, out in (((), "0 pending, 0 held, 0 failed\n"), (("--json",), EMPTY)):
         one.row(f"a system that is not known {words}", shown_at(one, nodes, "alpha", *words, peer="delta").all(),
-                (0, out, said("the spool has no folder of delta")))
+                (0, out, said("the spool has no folder for delta")))
     one.row("nothing is made", (files_below(nodes.at("alpha")), os.listdir(spool)), (there, ["beta"]))
 
 

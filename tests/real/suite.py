@@ -392,7 +392,7 @@ def said(*lines):
 
 def too_large(path, size, limit):
     """What is said of a file of a job that is over the limit of its own end."""
-    return f"{path}: {size} bytes, and the limit is {limit} (--file-limit); the job will be given up"
+    return f"{path}: {size} bytes, over the limit of {limit} (--file-limit); the job will be given up"
 
 
 @contextlib.contextmanager

@@ -35,7 +35,7 @@ use uug_words::{
 };
 
 /// The remark if both an order and a job to cancel are given.
-const QUEUED_OR_CANCELLED: &str = "a job is queued or cancelled, not both";
+const QUEUED_OR_CANCELLED: &str = "queue a job or cancel one, not both";
 
 /// Prints the name of the program and its version.
 fn show_version<O: Output>(alloc: Global, output: &mut O) -> Result<u8, RunFault>
@@ -242,7 +242,7 @@ fn greet<R: Eprint + AllocGlobal>(rt: &R, task: Task<'_>, console: Console) {
         | Task::PlaySettled(None)
         | Task::PlayDrawn(None)
             if console.is_input_terminal && console.is_errors_terminal => {
-            let _ = eprint!(rt; "uucpair: reading standard input, up to Ctrl-D\n");
+            let _ = eprint!(rt; "uucpair: reading standard input, until Ctrl-D\n");
         }
         _ => (),
     }

@@ -50,8 +50,8 @@ impl Lack {
     /// Returns the reason in words.
     fn words(self) -> &'static str {
         match self {
-            Lack::Text => "its name is no text",
-            Lack::Name => "its name is none of 1 to 200 printing characters without a space",
+            Lack::Text => "its name is not text",
+            Lack::Name => "its name is not 1 to 200 printable characters without spaces",
             Lack::Access => "it can't be read",
             Lack::Room => "there are more than 256 files that no job sends",
             Lack::Bytes => "the files that no job sends have more bytes than --most",

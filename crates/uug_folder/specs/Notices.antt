@@ -33,8 +33,8 @@ why_failed own (Request source target user) = why_not_got (own.verdict (own.land
 abbrev pub why_words : WhyFailed → List ℕ
 why_words NoFile = codes "no such file to send, or it is too large"
 why_words Refused = codes "refused by the other end"
-why_words NotTaken = codes "no file of this name is taken here"
-why_words NotGiven = codes "not given by the other end, or not to be put in its place here"
+why_words NotTaken = codes "this end takes no file of this name"
+why_words NotGiven = codes "not given by the other end, or can't be put in its place here"
 
 -- the reason as a comment, and the job's line, so that the notice can be appended to a text of jobs
 abbrev pub notice : Holdings → Job → List ℕ

@@ -29,8 +29,8 @@ fn why_words(why: WhyFailed) -> &'static str
     match why {
         WhyFailed::NoFile => "no such file to send, or it is too large",
         WhyFailed::Refused => "refused by the other end",
-        WhyFailed::NotTaken => "no file of this name is taken here",
-        WhyFailed::NotGiven => "not given by the other end, or not to be put in its place here",
+        WhyFailed::NotTaken => "this end takes no file of this name",
+        WhyFailed::NotGiven => "not given by the other end, or can't be put in its place here",
     }
 }
 

@@ -16,16 +16,16 @@ use uug_talk::{Name, split_line};
 #[derive(Clone, Copy, Debug, PartialEq, Eq, Error)]
 pub enum OrderFault {
     /// The word is neither `send` nor `request`.
-    #[error("what is queued is send or request")]
+    #[error("the order must be send or request")]
     Word,
     /// The file has no name under which it could be queued.
-    #[error("the file has no name of 1 to 200 printing characters without a space or a dot in front")]
+    #[error("the file needs a name of 1 to 200 printable characters, without spaces or a leading dot")]
     File,
     /// The target is no name, or none is given and the file has none.
-    #[error("the target is no name of 1 to 200 printing characters without a space")]
+    #[error("the target is not a name of 1 to 200 printable characters without spaces")]
     Target,
     /// The user is no name.
-    #[error("the user is no name of 1 to 200 printing characters without a space")]
+    #[error("the user is not a name of 1 to 200 printable characters without spaces")]
     User,
 }
 

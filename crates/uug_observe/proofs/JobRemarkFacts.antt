@@ -21,13 +21,13 @@ record AreSaid : Type 0 where
   sized : job_line a_plain_send (failed_words [] [] a_plain_send Refused 5)
       ≡ codes "uucpair: send x y me: refused by the other end: maybe 5 bytes are over its --file-limit, or a folder has that name there" ++ 10 ∷ []
   sent : job_line a_send (failed_words [] [] a_send Refused 5)
-      ≡ codes "uucpair: send x ~/d/y me: refused by the other end: in a folder a target is a name, NAME or ~/NAME, without a dot in front" ++ 10 ∷ []
+      ≡ codes "uucpair: send x ~/d/y me: refused by the other end: in a folder a target is a name, NAME or ~/NAME, without a leading dot" ++ 10 ∷ []
   missing : job_line a_send (failed_words (codes "a") [] a_send NoFile 5) ≡ codes "uucpair: send x ~/d/y me: no file a/send/x" ++ 10 ∷ []
   large : job_line a_send (failed_words (codes "a") (codes "x" ∷ []) a_send NoFile 5)
       ≡ codes "uucpair: send x ~/d/y me: a/send/x is larger than --file-limit" ++ 10 ∷ []
-  asked : job_line a_request (failed_words [] [] a_request NotGiven 0) ≡ codes "uucpair: request x y me: not given by the other end: no such file in its send, or one that may not go; or not to be put in its place here" ++ 10 ∷ []
-  put_off : put_off_remark (Ended Done) false (a_send ∷ []) ≡ codes "uucpair: send x ~/d/y me: put off: the other end takes it later" ++ 10 ∷ []
-  not_given : put_off_remark (Ended Done) true (a_request ∷ []) ≡ codes "uucpair: request x y me: put off: the other end gives it later, or another file came than it told of" ++ 10 ∷ []
+  asked : job_line a_request (failed_words [] [] a_request NotGiven 0) ≡ codes "uucpair: request x y me: not given by the other end: no such file in its send, or barred there; or it can't be put in its place here" ++ 10 ∷ []
+  put_off : put_off_remark (Ended Done) false (a_send ∷ []) ≡ codes "uucpair: send x ~/d/y me: put off: the other end will take it later" ++ 10 ∷ []
+  not_given : put_off_remark (Ended Done) true (a_request ∷ []) ≡ codes "uucpair: request x y me: put off: the other end will give it later, or the digest was wrong" ++ 10 ∷ []
   broken_off : put_off_remark (Ended HungUp) true (a_send ∷ []) ≡ []
 
 said : AreSaid

@@ -16,7 +16,7 @@ between front path behind = front ++ (escaped path ++ behind)
 abbrev pub words_of : Holder → (path device : List ℕ) → List ℕ
 words_of (Process number) path device = held_words number path
 words_of Unknown path device = between (codes "by ") path (codes ", which names no process: remove that file if nobody uses the line")
-words_of Nobody path device = between (codes "it has no lock file: who has opened it is told by fuser ") device []
+words_of Nobody path device = between (codes "it has no lock file: fuser ") device (codes " shows who has it open")
 
 abbrev pub held_remark : Holder → (path device : List ℕ) → List ℕ
 held_remark holder path device = codes "uucpair: " ++ ended (words_of holder path device)

@@ -38,7 +38,7 @@ path_lack dir name true = dir ++ (codes "/send/" ++ (name ++ codes " is larger t
 path_lack dir name false = codes "no file " ++ (dir ++ (codes "/send/" ++ name))
 
 abbrev pub local_lack : (dir : List ℕ) → (large : List (List ℕ)) → Option (List ℕ) → List ℕ
-local_lack dir large None = codes "a source is a name: NAME or ~/NAME, without a dot in front"
+local_lack dir large None = codes "a source is a name: NAME or ~/NAME, without a leading dot"
 local_lack dir large (Some name) = path_lack dir name (has_name large name)
 
 -- the size of the file that a job sends, in bytes
@@ -58,18 +58,18 @@ sized_words size =
 
 abbrev pub refused_words : Option (List ℕ) → (size : ℕ) → List ℕ
 refused_words (Some name) size = sized_words size
-refused_words None size = codes "refused by the other end: in a folder a target is a name, NAME or ~/NAME, without a dot in front"
+refused_words None size = codes "refused by the other end: in a folder a target is a name, NAME or ~/NAME, without a leading dot"
 
 abbrev pub not_taken_words : Option (List ℕ) → List ℕ
-not_taken_words (Some name) = codes "no file of this name is taken here"
-not_taken_words None = codes "a target is a name: NAME or ~/NAME, without a dot in front"
+not_taken_words (Some name) = codes "this end takes no file of this name"
+not_taken_words None = codes "a target is a name: NAME or ~/NAME, without a leading dot"
 
 -- why a job was given up; `large` are the names of files that are too large
 abbrev pub failed_words : (dir : List ℕ) → (large : List (List ℕ)) → Job → WhyFailed → (size : ℕ) → List ℕ
 failed_words dir large job NoFile size = local_lack dir large (local_source (source_of job))
 failed_words dir large job Refused size = refused_words (local_source (target_of job)) size
 failed_words dir large job NotTaken size = not_taken_words (local_source (target_of job))
-failed_words dir large job NotGiven size = codes "not given by the other end: no such file in its send, or one that may not go; or not to be put in its place here"
+failed_words dir large job NotGiven size = codes "not given by the other end: no such file in its send, or barred there; or it can't be put in its place here"
 
 -- a line for each job, by what the end's own files give and take
 abbrev pub failed_remark : (dir : List ℕ) → (large : List (List ℕ)) → Holdings → List Job → List ℕ
@@ -86,10 +86,10 @@ has_failed false failed = false
 -- ---- a job that was put off, by whether its end announces digests
 
 abbrev pub put_off_words : (digests : Bool) → Job → List ℕ
-put_off_words false (Send source target user temp) = codes "put off: the other end takes it later"
-put_off_words true (Send source target user temp) = codes "put off: the other end takes it later, or another file came there than was sent"
-put_off_words false (Request source target user) = codes "put off: the other end gives it later"
-put_off_words true (Request source target user) = codes "put off: the other end gives it later, or another file came than it told of"
+put_off_words false (Send source target user temp) = codes "put off: the other end will take it later"
+put_off_words true (Send source target user temp) = codes "put off: the other end will take it later, or the digest was wrong there"
+put_off_words false (Request source target user) = codes "put off: the other end will give it later"
+put_off_words true (Request source target user) = codes "put off: the other end will give it later, or the digest was wrong"
 
 abbrev pub put_off_lines : (digests : Bool) → List Job → List ℕ
 put_off_lines digests [] = []

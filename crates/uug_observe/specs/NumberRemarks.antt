@@ -11,7 +11,7 @@ own_words None = codes "this end keeps no number"
 own_words (Some number) = codes "the number of this end is " ++ decimal number
 
 abbrev pub mending_words : List ℕ
-mending_words = codes " (write the same number to both files number, or remove both, while neither end runs)"
+mending_words = codes " (write the same number to both number files, or remove both, while neither end runs)"
 
 abbrev pub heard_words : Option ℕ → List ℕ
 heard_words None = mending_words

@@ -57,9 +57,9 @@ fn add_holder<A: Allocator>(
         ),
         Holder::Nobody => add_between(
             text,
-            "it has no lock file: who has opened it is told by fuser ",
+            "it has no lock file: fuser ",
             device,
-            "",
+            " shows who has it open",
         ),
     }
 }

@@ -165,7 +165,7 @@ fn failed_words<A: Allocator + Copy>(
         }
         WhyFailed::NotGiven => String::from_str(
             alloc,
-            "not given by the other end: no such file in its send, or one that may not go; or not to be put in its place here",
+            "not given by the other end: no such file in its send, or barred there; or it can't be put in its place here",
         ),
     }
 }
@@ -201,7 +201,7 @@ fn local_lack<A: Allocator + Copy>(
         Some(name) => path_lack(alloc, dir, &name, has_name(large, name.as_bytes())),
         None => String::from_str(
             alloc,
-            "a source is a name: NAME or ~/NAME, without a dot in front",
+            "a source is a name: NAME or ~/NAME, without a leading dot",
         ),
     }
 }
@@ -265,7 +265,7 @@ fn refused_words<A: Allocator>(
         ),
         None => String::from_str(
             alloc,
-            "refused by the other end: in a folder a target is a name, NAME or ~/NAME, without a dot in front",
+            "refused by the other end: in a folder a target is a name, NAME or ~/NAME, without a leading dot",
         ),
     }
 }
@@ -275,8 +275,8 @@ fn not_taken_words(name: Option<Name>) -> &'static str
     ensures { result.now ≡ not_taken_words name }
 {
     match name {
-        Some(_) => "no file of this name is taken here",
-        None => "a target is a name: NAME or ~/NAME, without a dot in front",
+        Some(_) => "this end takes no file of this name",
+        None => "a target is a name: NAME or ~/NAME, without a leading dot",
     }
 }
 
@@ -286,13 +286,13 @@ fn put_off_words(tells_digests: bool, job: &Job) -> &'static str
     ensures { result.now ≡ put_off_words tells_digests job.now }
 {
     match (tells_digests, job) {
-        (false, Job::Send { .. }) => "put off: the other end takes it later",
+        (false, Job::Send { .. }) => "put off: the other end will take it later",
         (true, Job::Send { .. }) => {
-            "put off: the other end takes it later, or another file came there than was sent"
+            "put off: the other end will take it later, or the digest was wrong there"
         }
-        (false, Job::Request { .. }) => "put off: the other end gives it later",
+        (false, Job::Request { .. }) => "put off: the other end will give it later",
         (true, Job::Request { .. }) => {
-            "put off: the other end gives it later, or another file came than it told of"
+            "put off: the other end will give it later, or the digest was wrong"
         }
     }
 }

@@ -50,11 +50,11 @@ fn heard_words<A: Allocator>(alloc: A, heard: Option<u32>) -> Result<String<A>, 
 {
     match heard {
         Some(number) => format!(in alloc;
-            ", that of the other end {number} (write the same number to both files number, or remove both, while neither end runs)"
+            ", that of the other end {number} (write the same number to both number files, or remove both, while neither end runs)"
         ),
         None => String::from_str(
             alloc,
-            " (write the same number to both files number, or remove both, while neither end runs)",
+            " (write the same number to both number files, or remove both, while neither end runs)",
         ),
     }
 }

@@ -76,9 +76,9 @@ reason_words NoFileThere = codes "no such file at the other end"
 reason_words Refused = codes "refused by the other end"
 reason_words NoPlace = codes "can't be put in its place"
 reason_words NoPlaceThere = codes "can't be put in its place at the other end"
-reason_words PutOff = codes "put off: the other end takes it later"
-reason_words Differs = codes "put off: the file that came is not the one that was told of"
-reason_words Over = codes "not done: the session ended before"
+reason_words PutOff = codes "put off: the other end will take it later"
+reason_words Differs = codes "put off: the file that came differs from its digest"
+reason_words Over = codes "not done: the session ended first"
 reason_words GoesOn = codes "not done: the session goes on"
 
 -- the job as its line in the script gives it, and why it is not done

@@ -60,8 +60,8 @@ unsettled_words (Quiet Caller) = codes "not settled: caller is quiet on repeats"
 unsettled_words (Quiet Called) = codes "not settled: called is quiet on repeats"
 unsettled_words (Late Caller) = codes "not settled: caller has timed out more than 6 times"
 unsettled_words (Late Called) = codes "not settled: called has timed out more than 6 times"
-unsettled_words (Holds Caller) = codes "not settled: caller holds a part of a packet"
-unsettled_words (Holds Called) = codes "not settled: called holds a part of a packet"
+unsettled_words (Holds Caller) = codes "not settled: caller holds part of a packet"
+unsettled_words (Holds Called) = codes "not settled: called holds part of a packet"
 unsettled_words OnLine = codes "not settled: bytes are on the line"
 
 abbrev pub unsettled_line : Unsettled → List ℕ

@@ -45,9 +45,9 @@ fn reason_words(reason: Reason) -> &'static str
         Reason::Refused => "refused by the other end",
         Reason::NoPlace => "can't be put in its place",
         Reason::NoPlaceThere => "can't be put in its place at the other end",
-        Reason::PutOff => "put off: the other end takes it later",
-        Reason::Differs => "put off: the file that came is not the one that was told of",
-        Reason::Over => "not done: the session ended before",
+        Reason::PutOff => "put off: the other end will take it later",
+        Reason::Differs => "put off: the file that came differs from its digest",
+        Reason::Over => "not done: the session ended first",
         Reason::GoesOn => "not done: the session goes on",
     }
 }

@@ -88,8 +88,8 @@ fn unsettled_words(why: Unsettled) -> &'static str
         Unsettled::Quiet(Side::Called) => "not settled: called is quiet on repeats",
         Unsettled::Late(Side::Caller) => "not settled: caller has timed out more than 6 times",
         Unsettled::Late(Side::Called) => "not settled: called has timed out more than 6 times",
-        Unsettled::Holds(Side::Caller) => "not settled: caller holds a part of a packet",
-        Unsettled::Holds(Side::Called) => "not settled: called holds a part of a packet",
+        Unsettled::Holds(Side::Caller) => "not settled: caller holds part of a packet",
+        Unsettled::Holds(Side::Called) => "not settled: called holds part of a packet",
         Unsettled::OnLine => "not settled: bytes are on the line",
     }
 }

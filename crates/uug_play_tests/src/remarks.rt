@@ -18,7 +18,7 @@ const REMARKS: &[(&[u8], &str)] = &[
     ),
     (
         b"caller a 2 32",
-        "the end is set up, numbered, quiet, short, lenient, telling digests, resuming or limited already, or has 1024 jobs",
+        "the end has this setting already, or 1024 jobs",
     ),
     (b"caller a 2", "packet size is missing"),
     (b"caller a 2 32 x", "unexpected word x"),
@@ -107,7 +107,7 @@ const REASONS: &[(&[u8], &str)] = &[
     ),
     (
         b"file called x 0644 -\nlater caller y\nsend called x y u\nsend called x z u\nflow 20",
-        "send called x y u: put off: the other end takes it later\n",
+        "send called x y u: put off: the other end will take it later\n",
     ),
     (
         b"file caller x 0644 000102\nlimit caller 2\nsend caller x y u\nflow 20",
@@ -119,7 +119,7 @@ const REASONS: &[(&[u8], &str)] = &[
     ),
     (
         b"file caller x 0644 -\nsend caller x y u\nhangup caller",
-        "send caller x y u: not done: the session ended before\n",
+        "send caller x y u: not done: the session ended first\n",
     ),
     (
         b"request called x y u\nsend caller x y u",

@@ -58,7 +58,7 @@ record AreSaid : Type 0 where
   got : reason_line pair_places (record { end = 1; resource = on.Got (codes "y"); cause = causes.Refused kinds.StorageFull (Some (pos 28)) }) ≡ codes "uucpair: b/got/y: no space left" ++ 10 ∷ []
   files : reason_line pair_places (record { end = 1; resource = on.Send; cause = causes.TooMuch }) ≡ codes "uucpair: b/send: over the limit of 256 files" ++ 10 ∷ []
   spool : reason_line pair_places (record { end = 0; resource = on.Dir; cause = causes.IsSpool }) ≡ codes "uucpair: a: it is a spool of Taylor UUCP: give --spool" ++ 10 ∷ []
-  exchanged : reason_line exchanged_places (record { end = 0; resource = on.Dir; cause = causes.Refused kinds.NotFound (Some (pos 2)) }) ≡ codes "uucpair: tcp:4000: no such file or directory (LINE and DIR look exchanged: give LINE first)" ++ 10 ∷ []
+  exchanged : reason_line exchanged_places (record { end = 0; resource = on.Dir; cause = causes.Refused kinds.NotFound (Some (pos 2)) }) ≡ codes "uucpair: tcp:4000: no such file or directory (LINE and DIR look swapped: give LINE first)" ++ 10 ∷ []
   shared : reason_line shared_places (record { end = 0; resource = on.Dir; cause = causes.Refused kinds.NotFound (Some (pos 2)) }) ≡ codes "uucpair: /dev/shm/a: no such file or directory" ++ 10 ∷ []
   lacks : reason_line pair_places (record { end = 0; resource = on.GotFolder; cause = causes.Refused kinds.NotFound (Some (pos 2)) }) ≡ codes "uucpair: a/got: no such file or directory (make it; only a spool, with --spool, has none)" ++ 10 ∷ []
   plain : reason_line end_places (record { end = 0; resource = on.Line; cause = causes.NoTerminal }) ≡ codes "uucpair: tcp:127.0.0.1:5999: not a terminal (LINE is a terminal device, tcp:HOST:PORT, unix:PATH or -)" ++ 10 ∷ []
@@ -68,14 +68,14 @@ record AreSaid : Type 0 where
   bare : reason_line word_places (record { end = 0; resource = on.Line; cause = causes.Refused kinds.NotFound (Some (pos 2)) }) ≡ codes "uucpair: h: no such file or directory (LINE is a terminal device, tcp:HOST:PORT, unix:PATH or -)" ++ 10 ∷ []
   long : reason_line long_places (record { end = 0; resource = on.Line; cause = causes.Refused kinds.InvalidInput None }) ≡ codes "uucpair: " ++ (replicate 108 115 ++ (codes ": invalid argument (the path of a socket has at most 107 bytes)" ++ 10 ∷ []))
   bracketed : reason_line bracketed_places (record { end = 0; resource = on.Line; cause = causes.Refused kinds.Uncategorized None }) ≡ codes "uucpair: tcp:[::1]:5: unknown host (an IPv6 address has no brackets: tcp:::1:540)" ++ 10 ∷ []
-  zero : reason_line zero_places (record { end = 0; resource = on.Line; cause = causes.Refused kinds.ConnectionRefused (Some (pos 111)) }) ≡ codes "uucpair: tcp:h:0: connection refused (port 0 is none: give 1 to 65535)" ++ 10 ∷ []
+  zero : reason_line zero_places (record { end = 0; resource = on.Line; cause = causes.Refused kinds.ConnectionRefused (Some (pos 111)) }) ≡ codes "uucpair: tcp:h:0: connection refused (0 is not a port: give 1 to 65535)" ++ 10 ∷ []
   bare_socket : reason_line device_places (record { end = 0; resource = on.Line; cause = causes.Refused kinds.Uncategorized (Some (pos 6)) }) ≡ codes "uucpair: ttyS0: error 6 (for a socket give unix:PATH)" ++ 10 ∷ []
   port : reason_line zero_places (record { end = 0; resource = on.Line; cause = causes.Refused kinds.PermissionDenied (Some (pos 13)) }) ≡ codes "uucpair: tcp:h:0: permission denied (a port below 1024 needs root, or CAP_NET_BIND_SERVICE)" ++ 10 ∷ []
-  locks : locks_line (codes "l") (record { end = 1; resource = on.Dir; cause = causes.Refused kinds.NotFound (Some (pos 2)) }) ≡ codes "uucpair: no lock file can be made (--locks): l: no such file or directory" ++ 10 ∷ []
+  locks : locks_line (codes "l") (record { end = 1; resource = on.Dir; cause = causes.Refused kinds.NotFound (Some (pos 2)) }) ≡ codes "uucpair: no lock file can be created (--locks): l: no such file or directory" ++ 10 ∷ []
   socket : reason_line pair_places (record { end = 0; resource = on.Line; cause = causes.Refused kinds.AddrInUse (Some (pos 98)) }) ≡ codes "uucpair: s: address in use" ++ 10 ∷ []
   pipe : reason_line output_places (record { end = 1; resource = on.Output; cause = causes.NotAFile }) ≡ codes "uucpair: standard output: a named pipe may have no reader: name a file, /dev/stdout or /dev/stderr" ++ 10 ∷ []
   told : reason_line pair_places (record { end = 0; resource = on.Text Jobs; cause = causes.NotAFile }) ≡ codes "uucpair: a/jobs: not a regular file" ++ 10 ∷ []
-  output : reason_line output_places (record { end = 0; resource = on.Output; cause = causes.MovedNothing }) ≡ codes "uucpair: standard output: it takes no byte" ++ 10 ∷ []
+  output : reason_line output_places (record { end = 0; resource = on.Output; cause = causes.MovedNothing }) ≡ codes "uucpair: standard output: it takes no bytes" ++ 10 ∷ []
 
 said : AreSaid
 unfolding digits

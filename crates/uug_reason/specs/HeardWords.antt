@@ -36,7 +36,7 @@ other_words said peer = codes "heard " ++ (quoted said ++ expected_words peer)
 abbrev pub hint_words : (said : List ℕ) → List ℕ
 hint_words said =
     if bytes_eq said (codes "RLCK") then codes " (it is busy: call later)" else
-    (if bytes_eq said (codes "RLOGIN") then codes " (it does not let the name of --me in, or not by this login)" else
+    (if bytes_eq said (codes "RLOGIN") then codes " (it does not admit the name of --me, or not with this login)" else
     (if bytes_eq said (codes "RYou are unknown to me") then codes " (it does not know the name of this end)" else
     (if bytes_eq said (codes "RCB") then codes " (it will call back)" else [])))
 
@@ -47,7 +47,7 @@ refusal_words said hint = codes "the other end refused: " ++ (quoted said ++ hin
 abbrev pub answering_hint : (said : List ℕ) → List ℕ
 answering_hint said =
     if starts_with nat_eq said (codes "Shere") || starts_with nat_eq said (codes "R")
-    then codes " (one end has to call, and both answer; or a terminal echoes: stty raw -echo)" else []
+    then codes " (both ends answer, and one has to call; or a terminal echoes: stty raw -echo)" else []
 
 -- the other end refused the call, or this end did
 abbrev pub refused_words : Side → (said peer : List ℕ) → List ℕ
@@ -65,7 +65,7 @@ line_ends bytes = position_or_len is_no_line_end bytes
 abbrev pub behind_hint : (ends : ℕ) → (rest : List ℕ) → List ℕ
 behind_hint ends rest =
     if not (ends == 0) && (length rest == 0)
-    then codes " (line ends alone: both ends call, or a terminal is not raw: stty raw -echo)" else
+    then codes " (only line breaks: both ends call, or a terminal is not raw: stty raw -echo)" else
     (if starts_with nat_eq rest (codes "^P")
     then codes " (a terminal echoes: stty raw -echo, at the other end too)" else [])
 
@@ -82,7 +82,7 @@ nothing_words Called = codes "heard nothing (is the other end calling? a termina
 -- the other end hung up, and nothing was heard from it
 abbrev pub gone_words : Side → List ℕ
 gone_words Caller = codes "the other end hung up, and said nothing (no uucico or uucpair answers there, or it turns this machine away)"
-gone_words Called = codes "the caller hung up, and said nothing (it may expect another name than that of --me)"
+gone_words Called = codes "the caller hung up, and said nothing (it may expect a name other than --me)"
 
 -- the other end hung up in the greeting
 abbrev pub gone_hint : Side → (said : List ℕ) → List ℕ
@@ -114,7 +114,7 @@ end_words side HungUp peer nothing = gone_words side
 end_words side HungUp peer (text said) = gone_behind_words side said
 end_words side GaveUp peer nothing = nothing_words side
 end_words side GaveUp peer (text said) = unanswered_words said
-end_words side PeerClosed peer heard = codes "the other end ended the session before all was done (it may not have stored a file: see what it says)"
+end_words side PeerClosed peer heard = codes "the other end ended the session early (it may not have stored a file: see what it says)"
 end_words side end peer heard = []
 
 -- the words as a line, or nothing if there are none

@@ -22,7 +22,7 @@ quoted word = codes "\"" ++ (escaped (take 60 word) ++ codes "\"")
 
 -- the words for a word that is not a name
 abbrev pub no_name : List ℕ → List ℕ
-no_name word = quoted word ++ codes " is no name: 1 to 200 printing characters"
+no_name word = quoted word ++ codes " is not a name: 1 to 200 printable characters"
 
 -- the first of the three that is not a name. If all are names, there is one job too many
 abbrev pub names_words : (source target user : List ℕ) → List ℕ
@@ -37,7 +37,7 @@ behind_words [] = codes "SOURCE, TARGET and USER are missing"
 behind_words (source ∷ []) = codes "TARGET and USER are missing"
 behind_words (source ∷ target ∷ []) = codes "USER is missing"
 behind_words (source ∷ target ∷ user ∷ []) = names_words source target user
-behind_words (source ∷ target ∷ user ∷ more ∷ rest) = quoted more ++ codes " is one word too many: a name has no space in it"
+behind_words (source ∷ target ∷ user ∷ more ∷ rest) = quoted more ++ codes " is one word too many: names have no spaces"
 
 abbrev pub is_order : List ℕ → Bool
 is_order first = bytes_eq first (codes "send") || bytes_eq first (codes "request")
@@ -57,8 +57,8 @@ has_tab line = list_any (λ b. eqb b 9) line
 -- what is wrong with a line that is bad and not too long
 abbrev pub blanks_lack : List ℕ → List ℕ
 blanks_lack line =
-    if ends_in_cr line then codes "it ends in CR LF: let the lines end in LF alone" else
-    (if has_tab line then codes "a tab is in it: only spaces stand between words" else words_lack (words line))
+    if ends_in_cr line then codes "it ends in CR LF: end lines with LF alone" else
+    (if has_tab line then codes "it has a tab: separate words with spaces only" else words_lack (words line))
 
 -- what is wrong with a line that is bad
 abbrev pub lack_words : List ℕ → List ℕ

@@ -6,5 +6,5 @@ use Rattle.uug_talk.specs.Lines.{ended}
 -- the escaped path, the size and the limit, as a line
 abbrev pub large_line : (shown : List ℕ) → (size limit : ℕ) → List ℕ
 large_line shown size limit =
-    codes "uucpair: " ++ (shown ++ (codes ": " ++ (decimal size ++ (codes " bytes, and the limit is "
+    codes "uucpair: " ++ (shown ++ (codes ": " ++ (decimal size ++ (codes " bytes, over the limit of "
     ++ (decimal limit ++ ended (codes " (--file-limit); the job will be given up"))))))

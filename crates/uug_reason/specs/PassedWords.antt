@@ -21,7 +21,7 @@ flow_remark passed =
 abbrev pub bits_remark : Passed → List ℕ
 bits_remark passed =
     if passed.has_high then flow_remark passed else
-    bytes_line passed.count (codes "all of seven bits (the line has to pass eight: stty raw pass8, at both ends)")
+    bytes_line passed.count (codes "all seven-bit (the line has to pass eight bits: stty raw pass8, at both ends)")
 
 abbrev pub passed_remark : Passed → List ℕ
 passed_remark passed =

@@ -22,7 +22,7 @@ abbrev pub are_exchanged : (line dir : List ℕ) → Bool
 are_exchanged line dir = not (length line == 0) && (not (names_line line) && names_line dir)
 
 abbrev pub exchanged_hint : (line dir : List ℕ) → List ℕ
-exchanged_hint line dir = if are_exchanged line dir then codes " (LINE and DIR look exchanged: give LINE first)" else []
+exchanged_hint line dir = if are_exchanged line dir then codes " (LINE and DIR look swapped: give LINE first)" else []
 
 -- the hint about the folder `got`, for files that arrive
 abbrev pub got_hint : Cause → List ℕ
@@ -31,7 +31,7 @@ got_hint _ = []
 
 -- the hint about the folder `send`, for files that are sent
 abbrev pub send_hint : Cause → List ℕ
-send_hint (Refused kinds.NotFound number) = codes " (make it: the files of jobs are there)"
+send_hint (Refused kinds.NotFound number) = codes " (make it: the files of jobs go there)"
 send_hint _ = []
 
 -- a word has this byte
@@ -82,11 +82,11 @@ long_hint line = if nat_le (length line) 107 then [] else codes " (the path of a
 abbrev pub right_hint : (line : List ℕ) → List ℕ
 right_hint line =
     if starts_with nat_eq line (codes "tcp:") then codes " (a port below 1024 needs root, or CAP_NET_BIND_SERVICE)" else
-    (if starts_with nat_eq line (codes "/dev/") then codes " (its group may use it, mostly dialout: adduser USER dialout)" else [])
+    (if starts_with nat_eq line (codes "/dev/") then codes " (only its group may use it; usually: adduser USER dialout)" else [])
 
 -- the hint about a refused connection to port 0
 abbrev pub zero_hint : (line : List ℕ) → List ℕ
-zero_hint line = if ends_with nat_eq line (codes ":0") then codes " (port 0 is none: give 1 to 65535)" else []
+zero_hint line = if ends_with nat_eq line (codes ":0") then codes " (0 is not a port: give 1 to 65535)" else []
 
 -- the hint about a host without an address
 abbrev pub host_hint : (line : List ℕ) → List ℕ
@@ -106,7 +106,7 @@ line_hint line NoTerminal = codes " (LINE is a terminal device, tcp:HOST:PORT, u
 line_hint line (Refused kinds.InvalidInput number) = long_hint line
 line_hint line (Refused kinds.ConnectionRefused number) = zero_hint line
 line_hint line (Refused kinds.PermissionDenied number) = right_hint line
-line_hint line (Refused kinds.AddrNotAvailable number) = codes " (no address of this machine; 0.0.0.0 is all of them)"
+line_hint line (Refused kinds.AddrNotAvailable number) = codes " (not an address of this machine; 0.0.0.0 is all of them)"
 line_hint line (Refused kind None) = host_hint line
 line_hint line (Refused kind (Some number)) = socket_hint line kind
 line_hint line _ = []

@@ -79,14 +79,14 @@ no_file_words resource = codes "not a regular file"
 
 abbrev pub cause_words : Resource → Cause → List ℕ
 cause_words resource (Refused kind number) = named_or_numbered resource (kind_words kind) number
-cause_words resource MovedNothing = codes "it takes no byte"
+cause_words resource MovedNothing = codes "it takes no bytes"
 cause_words resource TooMuch = much_words resource
 cause_words resource NotAFile = no_file_words resource
 cause_words resource NotANumber = codes "not a number up to 4294967295"
 cause_words resource InUse = codes "in use"
 cause_words resource IsSpool = codes "it is a spool of Taylor UUCP: give --spool"
-cause_words resource NoSpool = codes "it has jobs or send, and is no spool: leave out --spool"
-cause_words resource NoStream = codes "standard input or output is no socket, pipe or terminal"
+cause_words resource NoSpool = codes "not a spool, as it has jobs or send: leave out --spool"
+cause_words resource NoStream = codes "standard input or output is not a socket, pipe or terminal"
 cause_words resource NoTerminal = codes "not a terminal"
 
 -- ---- both, and what to do about a known mistake, as a line
@@ -97,4 +97,4 @@ reason_line p failure = codes "uucpair: "
 
 -- why no lock file can be made in this folder, which is given as the second one
 abbrev pub locks_line : (locks : List ℕ) → SystemFailure → List ℕ
-locks_line locks failure = reason_line (places [] [] [] (codes "no lock file can be made (--locks): " ++ locks)) failure
+locks_line locks failure = reason_line (places [] [] [] (codes "no lock file can be created (--locks): " ++ locks)) failure

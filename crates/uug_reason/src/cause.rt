@@ -19,15 +19,15 @@ pub(crate) fn add_cause<A: Allocator>(
 {
     match cause {
         Cause::Refused(kind, number) => add_refusal(text, resource, kind, number),
-        Cause::MovedNothing => text.push_str("it takes no byte"),
+        Cause::MovedNothing => text.push_str("it takes no bytes"),
         Cause::TooMuch => text.push_str(much_words(resource)),
         Cause::NotAFile => text.push_str(no_file_words(resource)),
         Cause::NotANumber => text.push_str("not a number up to 4294967295"),
         Cause::InUse => text.push_str("in use"),
         Cause::IsSpool => text.push_str("it is a spool of Taylor UUCP: give --spool"),
-        Cause::NoSpool => text.push_str("it has jobs or send, and is no spool: leave out --spool"),
+        Cause::NoSpool => text.push_str("not a spool, as it has jobs or send: leave out --spool"),
         Cause::NoStream => {
-            text.push_str("standard input or output is no socket, pipe or terminal")
+            text.push_str("standard input or output is not a socket, pipe or terminal")
         }
         Cause::NoTerminal => text.push_str("not a terminal"),
     }

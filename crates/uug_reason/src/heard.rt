@@ -68,7 +68,7 @@ fn add_end<A: Allocator>(
         (End::GaveUp, Heard::Nothing) => text.push_str(nothing_words(side)),
         (End::GaveUp, Heard::Text(said)) => add_unanswered(text, said),
         (End::PeerClosed, _) => text.push_str(
-            "the other end ended the session before all was done (it may not have stored a file: see what it says)",
+            "the other end ended the session early (it may not have stored a file: see what it says)",
         ),
         _ => Ok(()),
     }
@@ -120,7 +120,7 @@ fn answering_hint(said: &[u8]) -> &'static str
     ensures { result.now ≡ answering_hint said.now }
 {
     if said.starts_with(b"Shere") || said.starts_with(b"R") {
-        " (one end has to call, and both answer; or a terminal echoes: stty raw -echo)"
+        " (both ends answer, and one has to call; or a terminal echoes: stty raw -echo)"
     } else {
         ""
     }
@@ -172,7 +172,7 @@ fn gone_words(side: Side) -> &'static str
             "the other end hung up, and said nothing (no uucico or uucpair answers there, or it turns this machine away)"
         }
         Side::Called => {
-            "the caller hung up, and said nothing (it may expect another name than that of --me)"
+            "the caller hung up, and said nothing (it may expect a name other than --me)"
         }
     }
 }
@@ -219,7 +219,7 @@ fn hint_words(said: &[u8]) -> &'static str
     if said == b"RLCK".as_slice() {
         " (it is busy: call later)"
     } else if said == b"RLOGIN".as_slice() {
-        " (it does not let the name of --me in, or not by this login)"
+        " (it does not admit the name of --me, or not with this login)"
     } else if said == b"RYou are unknown to me".as_slice() {
         " (it does not know the name of this end)"
     } else if said == b"RCB".as_slice() {
@@ -246,7 +246,7 @@ fn noise_hint(bytes: &[u8]) -> &'static str
 {
     let (ends, rest) = bytes.split_at(line_ends(bytes));
     if !ends.is_empty() && rest.is_empty() {
-        " (line ends alone: both ends call, or a terminal is not raw: stty raw -echo)"
+        " (only line breaks: both ends call, or a terminal is not raw: stty raw -echo)"
     } else if rest.starts_with(b"^P") {
         " (a terminal echoes: stty raw -echo, at the other end too)"
     } else {

@@ -38,7 +38,7 @@ fn exchanged_hint(line: &str, dir: &str) -> &'static str
     ensures { result.now ≡ exchanged_hint line.now dir.now }
 {
     if are_exchanged(line, dir) {
-        " (LINE and DIR look exchanged: give LINE first)"
+        " (LINE and DIR look swapped: give LINE first)"
     } else {
         ""
     }
@@ -78,7 +78,7 @@ fn send_hint(cause: Cause) -> &'static str
     ensures { result.now ≡ send_hint cause }
 {
     match cause {
-        Cause::Refused(ErrorKind::NotFound, _) => " (make it: the files of jobs are there)",
+        Cause::Refused(ErrorKind::NotFound, _) => " (make it: the files of jobs go there)",
         _ => "",
     }
 }
@@ -101,7 +101,7 @@ fn add_line_hint<A: Allocator>(
         Cause::Refused(ErrorKind::ConnectionRefused, _) => text.push_str(zero_hint(line)),
         Cause::Refused(ErrorKind::PermissionDenied, _) => text.push_str(right_hint(line)),
         Cause::Refused(ErrorKind::AddrNotAvailable, _) => {
-            text.push_str(" (no address of this machine; 0.0.0.0 is all of them)")
+            text.push_str(" (not an address of this machine; 0.0.0.0 is all of them)")
         }
         Cause::Refused(_, None) => text.push_str(host_hint(line)),
         Cause::Refused(kind, Some(_)) => text.push_str(socket_hint(line, kind)),
@@ -207,7 +207,7 @@ fn right_hint(line: &str) -> &'static str
     if line.as_bytes().starts_with(b"tcp:") {
         " (a port below 1024 needs root, or CAP_NET_BIND_SERVICE)"
     } else if line.as_bytes().starts_with(b"/dev/") {
-        " (its group may use it, mostly dialout: adduser USER dialout)"
+        " (only its group may use it; usually: adduser USER dialout)"
     } else {
         ""
     }
@@ -230,7 +230,7 @@ fn zero_hint(line: &str) -> &'static str
     ensures { result.now ≡ zero_hint line.now }
 {
     if line.as_bytes().ends_with(b":0") {
-        " (port 0 is none: give 1 to 65535)"
+        " (0 is not a port: give 1 to 65535)"
     } else {
         ""
     }

@@ -98,10 +98,10 @@ fn add_lack<A: Allocator>(text: &mut String<A>, line: &[u8]) -> Result<(), Alloc
         return text.push_str("it is over 65536 bytes");
     }
     if line.ends_with(b"\r") {
-        return text.push_str("it ends in CR LF: let the lines end in LF alone");
+        return text.push_str("it ends in CR LF: end lines with LF alone");
     }
     if line.contains(&b'\t') {
-        return text.push_str("a tab is in it: only spaces stand between words");
+        return text.push_str("it has a tab: separate words with spaces only");
     }
     add_words_lack(text, line)
 }
@@ -138,7 +138,7 @@ fn add_behind<A: Allocator>(text: &mut String<A>, rest: &[u8]) -> Result<(), All
     match split_word(rest) {
         Some((more, _)) => {
             add_quoted(text, more)?;
-            text.push_str(" is one word too many: a name has no space in it")
+            text.push_str(" is one word too many: names have no spaces")
         }
         None => add_names(text, source, target, user),
     }
@@ -177,7 +177,7 @@ fn add_no_name<A: Allocator>(text: &mut String<A>, word: &[u8]) -> Result<(), Al
     ensures { OnOk result (string_bytes text.new ≡ string_bytes text.old ++ no_name word.now) }
 {
     add_quoted(text, word)?;
-    text.push_str(" is no name: 1 to 200 printing characters")
+    text.push_str(" is not a name: 1 to 200 printable characters")
 }
 
 /// Appends the first `WORD_MAX` bytes of a word, in quotes. Those that can't be seen are escaped.

@@ -31,7 +31,7 @@ fn line_words(kind: ErrorKind) -> Option<&'static str>
         ErrorKind::AddrNotAvailable => Some("address not available"),
         ErrorKind::BrokenPipe => Some("broken pipe"),
         ErrorKind::TimedOut => Some("timed out"),
-        ErrorKind::WouldBlock => Some("it would have to wait"),
+        ErrorKind::WouldBlock => Some("it would block"),
         ErrorKind::Interrupted => Some("interrupted"),
         ErrorKind::InProgress => Some("in progress"),
         ErrorKind::ResourceBusy => Some("device busy"),
@@ -52,7 +52,7 @@ fn file_words(kind: ErrorKind) -> Option<&'static str>
     match kind {
         ErrorKind::NotFound => Some("no such file or directory"),
         ErrorKind::PermissionDenied => Some("permission denied"),
-        ErrorKind::AlreadyExists => Some("it exists already"),
+        ErrorKind::AlreadyExists => Some("it already exists"),
         ErrorKind::NotADirectory => Some("not a directory"),
         ErrorKind::IsADirectory => Some("is a directory"),
         ErrorKind::DirectoryNotEmpty => Some("directory not empty"),

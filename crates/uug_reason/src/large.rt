@@ -30,6 +30,6 @@ fn shown_line<A: Allocator>(
     ensures { IfOk result (λ line. string_bytes line ≡ large_line shown.now size limit) }
 {
     format!(in alloc;
-        "uucpair: {shown}: {size} bytes, and the limit is {limit} (--file-limit); the job will be given up\n"
+        "uucpair: {shown}: {size} bytes, over the limit of {limit} (--file-limit); the job will be given up\n"
     )
 }

@@ -43,7 +43,7 @@ fn bits_remark<A: Allocator>(alloc: A, passed: Passed) -> Result<String<A>, Allo
         bytes_line(
             alloc,
             passed.count,
-            "all of seven bits (the line has to pass eight: stty raw pass8, at both ends)",
+            "all seven-bit (the line has to pass eight bits: stty raw pass8, at both ends)",
         )
     }
 }

@@ -49,7 +49,7 @@ pub fn locks_line<A: Allocator + Copy>(
 ) -> Result<String<A>, AllocError>
     ensures { IfOk result (λ text. string_bytes text ≡ locks_line locks.now failure) }
 {
-    let folder = format!(in alloc; "no lock file can be made (--locks): {locks}")?;
+    let folder = format!(in alloc; "no lock file can be created (--locks): {locks}")?;
     reason_line(alloc, "", "", "", folder.as_str(), failure)
 }
 

@@ -55,7 +55,7 @@ complaint_text (too_many word) = codes "unexpected word" ++ told word
 
 -- a bad line with which nothing is wrong by itself says again what was said before
 abbrev pub bad_line_text : Option Wrong → List ℕ
-bad_line_text None = codes "the end is set up, numbered, quiet, short, lenient, telling digests, resuming or limited already, or has 1024 jobs"
+bad_line_text None = codes "the end has this setting already, or 1024 jobs"
 bad_line_text (Some complaint) = complaint_text complaint
 
 -- there is no bad line where an end is not placed, or gives a file that is too large for the other

@@ -131,9 +131,7 @@ pub fn script_remark<A: Allocator>(
         return Ok(text);
     };
     match &read_line(line) {
-        Ok(_) => text.push_str(
-            "the end is set up, numbered, quiet, short, lenient, telling digests, resuming or limited already, or has 1024 jobs",
-        )?,
+        Ok(_) => text.push_str("the end has this setting already, or 1024 jobs")?,
         Err(complaint) => add_complaint(&mut text, complaint)?,
     }
     Ok(text)

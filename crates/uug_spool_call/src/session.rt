@@ -238,7 +238,7 @@ where
         _ => ".Temp",
     };
     let system = paths.system().as_str();
-    let line = format!(in alloc; "uucpair: {folder}/{system} is a link: take it away\n")?;
+    let line = format!(in alloc; "uucpair: {folder}/{system} is a link: remove it\n")?;
     let line = line.as_str();
     let _ = eprint!(rt; "{line}");
     tell_fault(alloc, rt, call, *paths.system(), words_of(line));

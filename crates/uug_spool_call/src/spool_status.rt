@@ -110,7 +110,7 @@ fn see_system<A: Allocator + Copy, R: Files + Eprint>(
 {
     if !is_known(alloc, rt, paths)? {
         let system = paths.system().as_str();
-        let _ = eprint!(rt; "uucpair: the spool has no folder of {system}\n");
+        let _ = eprint!(rt; "uucpair: the spool has no folder for {system}\n");
     }
     Ok(())
 }

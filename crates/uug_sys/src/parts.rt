@@ -139,7 +139,7 @@ fn tell_unqueued<A: Allocator + Copy, R: Files + Eprint>(
         if !given.files.is_empty() {
             let dir = task.dir.escape_debug();
             let _ = eprint!(rt;
-                "uucpair: no job sends the files in {dir}/send: make one by uucpair queue DIR send FILE\n"
+                "uucpair: no job sends the files in {dir}/send (queue one: uucpair queue DIR send FILE)\n"
             );
         }
     }

@@ -10,11 +10,11 @@ use Rattle.uug_words.specs.UsageWords.{line_words, name_words, pair_words, peer_
 
 record AreSaid : Type 0 where
   range : range_words (codes "window") (Some 8) (codes "1 to 7") ≡ codes "window 8 is not 1 to 7"
-  name : name_words (codes "Foo bar") ≡ codes "\"Foo bar\" is no name of a system: 1 to 200 printing characters without a space"
+  name : name_words (codes "Foo bar") ≡ codes "\"Foo bar\" is not a system name: 1 to 200 printable characters without spaces"
   no_peer : peer_words [] ≡ codes "the name of the other end is missing: --peer"
   peer : peer_words (codes "a b") ≡ name_words (codes "a b")
-  port : line_words (codes "tcp:h:x") ≡ codes "tcp:h:x has no port of 0 to 65535: give tcp:HOST:PORT, the port as a number"
-  alone : line_words (codes "tcp:h") ≡ codes "tcp:h has no port of 0 to 65535: give tcp:HOST:PORT, the port as a number"
+  port : line_words (codes "tcp:h:x") ≡ codes "tcp:h:x has no port number (0 to 65535): give tcp:HOST:PORT"
+  alone : line_words (codes "tcp:h") ≡ codes "tcp:h has no port number (0 to 65535): give tcp:HOST:PORT"
   host : line_words (codes "tcp::5") ≡ codes "tcp::5 has no host"
   system : system_words (codes "a.b") ≡ []
   no_system : system_words (codes "a b") ≡ peer_words (codes "a b")
@@ -22,19 +22,19 @@ record AreSaid : Type 0 where
   folder : status_words false None ≡ []
   lacks : status_words true None ≡ codes "the name of the other end is missing: --peer"
   path : line_words (codes "unix:") ≡ codes "unix: has no path"
-  empty : line_words [] ≡ codes "the line has no name"
+  empty : line_words [] ≡ codes "LINE is empty"
   lost : pair_words (Some 1) (Some 1) ≡ codes "drop-every 1 is not 2 to 1000000"
   no_file : order_words (codes "a") (codes "send") false ≡ codes "FILE is missing: uucpair queue DIR send FILE"
   ordered : order_words (codes "a") (codes "send") true ≡ []
   no_order : order_words (codes "a") (codes "get") false ≡ codes "\"get\" is neither send nor request: uucpair queue DIR send FILE, or uucpair queue DIR request FILE"
   no_dir : order_words (codes "send") (codes "a") true ≡ codes "DIR goes first: uucpair queue DIR send FILE"
-  full : full_remark (codes "a") ≡ codes "uucpair: a/jobs: 1024 jobs wait, the most that may: call, or cancel one" ++ 10 ∷ []
+  full : full_remark (codes "a") ≡ codes "uucpair: a/jobs: the limit of 1024 jobs is reached: call, or cancel one" ++ 10 ∷ []
   one_folder : pair_words None None ≡ codes "DIR_A and DIR_B are one folder: give each end its own"
   give : folder_option (codes "none") (codes "~/in") ≡ codes "--give"
   take : folder_option (codes "~") (codes "~/in") ≡ codes "--take"
   open_folder : folder_option (codes "~") (codes "~") ≡ []
-  dotted : dotted_remark (codes "send") (codes "~/.y") ≡ codes "uucpair: ~/.y has a dot in front: uucpair at the other end refuses such a target, Taylor UUCP takes it" ++ 10 ∷ []
-  dotted_here : dotted_remark (codes "request") (codes ".y") ≡ codes "uucpair: .y has a dot in front: no such target is taken here, so the job will be given up" ++ 10 ∷ []
+  dotted : dotted_remark (codes "send") (codes "~/.y") ≡ codes "uucpair: ~/.y has a leading dot: uucpair at the other end refuses such a target, Taylor UUCP takes it" ++ 10 ∷ []
+  dotted_here : dotted_remark (codes "request") (codes ".y") ≡ codes "uucpair: .y has a leading dot: this end takes no such target, so the job will be given up" ++ 10 ∷ []
   undotted : dotted_remark (codes "send") (codes "y.z") ≡ []
   called_wait : hint_words (codes "call") false (codes "--wait=5") ≡ codes "--wait is for answer: a call waits as long as --timeout says"
   waits : hint_words (codes "answer") false (codes "--wait") ≡ []

@@ -12,7 +12,7 @@ option_hint tool word =
 
 abbrev pub hint_words : (tool : List ℕ) → (is_first : Bool) → (word : List ℕ) → List ℕ
 hint_words tool is_first word =
-    if bytes_eq word (codes "--baud") then codes "set the speed of a device by stty; --speed is for the timers" else
+    if bytes_eq word (codes "--baud") then codes "set a device speed with stty; --speed is for the timers" else
     (if bytes_eq word (codes "--port") then codes "the port is part of LINE: tcp:HOST:PORT" else
-    (if bytes_eq word (codes "send") then codes "queue a file by: uucpair queue DIR send FILE" else
-    (if is_first && bytes_eq word (codes "-v") then codes "options go behind the command: uucpair call .. -v" else option_hint tool word)))
+    (if bytes_eq word (codes "send") then codes "to queue a file: uucpair queue DIR send FILE" else
+    (if is_first && bytes_eq word (codes "-v") then codes "options go after the command: uucpair call .. -v" else option_hint tool word)))

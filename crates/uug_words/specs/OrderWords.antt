@@ -30,4 +30,4 @@ order_remark task = words_by task.dir.now task.order (is_some task.file)
 
 -- the line about a folder whose queue is full
 abbrev pub full_remark : (dir : List ℕ) → List ℕ
-full_remark dir = codes "uucpair: " ++ (escaped dir ++ ended (codes "/jobs: 1024 jobs wait, the most that may: call, or cancel one"))
+full_remark dir = codes "uucpair: " ++ (escaped dir ++ ended (codes "/jobs: the limit of 1024 jobs is reached: call, or cancel one"))

@@ -15,11 +15,11 @@ has_dot target = starts_with nat_eq target (codes ".")
 abbrev pub taker_words : (order : List ℕ) → List ℕ
 taker_words order =
     if bytes_eq order (codes "send") then codes "uucpair at the other end refuses such a target, Taylor UUCP takes it"
-    else codes "no such target is taken here, so the job will be given up"
+    else codes "this end takes no such target, so the job will be given up"
 
 abbrev pub dotted_remark : (order target : List ℕ) → List ℕ
 dotted_remark order target =
-    if has_dot target then codes "uucpair: " ++ (target ++ (codes " has a dot in front: " ++ ended (taker_words order))) else []
+    if has_dot target then codes "uucpair: " ++ (target ++ (codes " has a leading dot: " ++ ended (taker_words order))) else []
 
 abbrev pub remark_by : (order target : Option (Bor (List ℕ))) → List ℕ
 remark_by (Some order) (Some target) = dotted_remark order.now target.now

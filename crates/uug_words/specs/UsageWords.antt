@@ -23,7 +23,7 @@ range_words option (Some number) range = option ++ (codes " " ++ (decimal number
 range_words option None range = []
 
 abbrev pub name_words : List ℕ → List ℕ
-name_words name = codes "\"" ++ (escaped name ++ codes "\" is no name of a system: 1 to 200 printing characters without a space")
+name_words name = codes "\"" ++ (escaped name ++ codes "\" is not a system name: 1 to 200 printable characters without spaces")
 
 -- for the name of the other end, which may be missing
 abbrev pub peer_words : List ℕ → List ℕ
@@ -31,7 +31,7 @@ peer_words name = if length name == 0 then codes "the name of the other end is m
 
 -- for a name that a system in a spool can't have
 abbrev pub place_words : List ℕ → List ℕ
-place_words name = codes "\"" ++ (escaped name ++ codes "\" is no name of a system in a spool: it has no slash, and no dot in front")
+place_words name = codes "\"" ++ (escaped name ++ codes "\" is not a system name for a spool: no slash, no leading dot")
 
 -- for the name of a system in a spool, by the result of reading it
 abbrev pub system_words_by : Result (List ℕ) BadText → (name : List ℕ) → List ℕ
@@ -60,10 +60,10 @@ is_port line = is_port_behind (rsplit_once colon line)
 abbrev pub lack_words : List ℕ → List ℕ
 lack_words line =
     if starts_with nat_eq line (codes "unix:") then codes " has no path" else
-    (if is_port line then codes " has no host" else codes " has no port of 0 to 65535: give tcp:HOST:PORT, the port as a number")
+    (if is_port line then codes " has no host" else codes " has no port number (0 to 65535): give tcp:HOST:PORT")
 
 abbrev pub line_words : List ℕ → List ℕ
-line_words line = if length line == 0 then codes "the line has no name" else (escaped line ++ lack_words line)
+line_words line = if length line == 0 then codes "LINE is empty" else (escaped line ++ lack_words line)
 
 -- the words for each wrong part
 abbrev pub part_words : CallTask → Part → List ℕ
@@ -80,7 +80,7 @@ part_words task Line = line_words task.line.name.now
 part_words task Me = name_words task.me.now
 part_words task Peer = peer_words task.peer.now
 part_words task Place = place_words task.peer.now
-part_words task Turns = range_words (codes "sessions") (Some task.limits.sessions) (codes "1: only at a socket there may be more")
+part_words task Turns = range_words (codes "sessions") (Some task.limits.sessions) (codes "1: only a socket allows more")
 
 -- the option that is given without the spool that it needs, if one is
 abbrev pub spool_words : CallTask → List ℕ

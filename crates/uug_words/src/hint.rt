@@ -8,13 +8,13 @@ pub fn hint_words(tool: &[u8], is_first: bool, word: &[u8]) -> &'static str
     ensures { result.now ≡ hint_words tool.now is_first word.now }
 {
     if word == b"--baud".as_slice() {
-        "set the speed of a device by stty; --speed is for the timers"
+        "set a device speed with stty; --speed is for the timers"
     } else if word == b"--port".as_slice() {
         "the port is part of LINE: tcp:HOST:PORT"
     } else if word == b"send".as_slice() {
-        "queue a file by: uucpair queue DIR send FILE"
+        "to queue a file: uucpair queue DIR send FILE"
     } else if is_first && word == b"-v".as_slice() {
-        "options go behind the command: uucpair call .. -v"
+        "options go after the command: uucpair call .. -v"
     } else {
         option_hint(tool, word)
     }

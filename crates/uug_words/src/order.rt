@@ -70,7 +70,7 @@ pub fn full_remark<A: Allocator>(alloc: A, dir: &str) -> Result<String<A>, Alloc
 {
     let mut remark = String::from_str(alloc, "uucpair: ")?;
     add_escaped(&mut remark, dir.as_bytes())?;
-    remark.push_str("/jobs: 1024 jobs wait, the most that may: call, or cancel one\n")?;
+    remark.push_str("/jobs: the limit of 1024 jobs is reached: call, or cancel one\n")?;
     Ok(remark)
 }
 

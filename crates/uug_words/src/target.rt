@@ -23,7 +23,7 @@ fn dotted_remark<A: Allocator>(alloc: A, order: &str, target: &str) -> Result<St
 {
     if has_dot(target.as_bytes()) {
         let taker = taker_words(order);
-        format!(in alloc; "uucpair: {target} has a dot in front: {taker}\n")
+        format!(in alloc; "uucpair: {target} has a leading dot: {taker}\n")
     } else {
         Ok(String::new(alloc))
     }
@@ -43,6 +43,6 @@ fn taker_words(order: &str) -> &'static str
     if order == "send" {
         "uucpair at the other end refuses such a target, Taylor UUCP takes it"
     } else {
-        "no such target is taken here, so the job will be given up"
+        "this end takes no such target, so the job will be given up"
     }
 }

@@ -74,13 +74,10 @@ fn scan_command<'a>(alloc: Global) -> Result<Command<'a>, AllocError>
         "Reads bytes and lists the packets in them",
         help::SCAN,
     )
-    .arg(file(
-        alloc,
-        "The file of the bytes; without it standard input is read",
-    ))?
+    .arg(file(alloc, "The file to read; by default standard input"))?
     .arg(verbose(
         alloc,
-        "Says where each packet stands, and lists texts, noise and what is damaged",
+        "Says where each packet is, and lists texts, noise and damaged packets",
     ))
 }
 
@@ -94,18 +91,15 @@ fn play_command<'a>(alloc: Global) -> Result<Command<'a>, AllocError>
         "Reads a script of two ends and a noisy line, plays it and reports what they did",
         help::PLAY,
     )
-    .arg(file(
-        alloc,
-        "The file of the script; without it standard input is read",
-    ))?
+    .arg(file(alloc, "The script to read; by default standard input"))?
     .arg(verbose(
         alloc,
-        "Says why jobs are not done, and what went wrong: with a bad script, or a file",
+        "Says why jobs are not done, and what is wrong with a script or a file",
     ))?
     .arg(flag(
         alloc,
         "settle",
-        "Goes on to the end on a clean line, where it may, and reports that too",
+        "Goes on to the end over a clean line if possible, and reports that too",
     )
     .conflicts_with("verbose")?)?
     .arg(ladder(alloc)?)
@@ -115,7 +109,7 @@ fn play_command<'a>(alloc: Global) -> Result<Command<'a>, AllocError>
 fn ladder<'a>(alloc: Global) -> Result<Arg<'a>, AllocError>
     ensures { IfOk result (IsArg (excluding (flag_rule (codes "ladder")))) }
 {
-    let help = "Draws behind the report what each end sent and what came of it";
+    let help = "Draws after the report what each end sent and what became of it";
     flag(alloc, "ladder", help)
         .conflicts_with("verbose")?
         .conflicts_with("settle")
@@ -134,7 +128,7 @@ fn pair_command<'a>(alloc: Global) -> Result<Command<'a>, AllocError>
     .arg(path(
         alloc,
         "SOCKET",
-        "Where the socket is made; nothing may be there",
+        "Where to make the socket; nothing may be there",
     ))?
     .arg(path(alloc, "DIR_A", "The folder of the caller"))?
     .arg(path(alloc, "DIR_B", "The folder of the called end"))?
@@ -167,7 +161,7 @@ fn answer_command<'a>(alloc: Global) -> Result<Command<'a>, AllocError>
     let command = end_command(
         alloc,
         "answer",
-        "Waits for the call of another system over a line, and exchanges files with it",
+        "Waits for another system to call over a line, and exchanges files with it",
     )?
     .arg(named(alloc, "peer", "NAME", help::PEER_OR_ANY))?;
     with_files(alloc, with_talk(alloc, command)?)?
@@ -203,27 +197,23 @@ fn with_talk<'a>(alloc: Global, command: Command<'a>) -> Result<Command<'a>, All
         .arg(flag(
             alloc,
             "fill-commands",
-            "Fills up the last packet of each command with zeros",
+            "Pads the last packet of each command with zeros",
         ))?
         .arg(flag(
             alloc,
             "strict",
-            "Ends the session with what it can't read, instead of refusing it",
+            "Ends the session at what it can't read, instead of refusing it",
         ))?
         .arg(flag(
             alloc,
             "no-digest",
-            "Tells no digests of its files, and compares none",
+            "Sends no digests of its files, and compares none",
         ))?
-        .arg(flag(
-            alloc,
-            "no-resume",
-            "Begins anew with each file that was cut off",
-        ))?
+        .arg(flag(alloc, "no-resume", "Starts interrupted files over"))?
         .arg(flag(
             alloc,
             "every-ack",
-            "Acknowledges each data packet on its own, also those that come at once",
+            "Acknowledges each data packet on its own, even if several come at once",
         ))
 }
 
@@ -236,7 +226,7 @@ fn with_files<'a>(alloc: Global, command: Command<'a>) -> Result<Command<'a>, Al
         .arg(flag(
             alloc,
             "number",
-            "Keeps the number of its conversations in DIR, from 0 on",
+            "Counts its conversations in DIR/number, from 0",
         ))?
         .arg(folder(alloc, "locks", help::LOCKS, LOCKS))?
         .arg(named(alloc, "report", "FILE", help::REPORT))?
@@ -270,24 +260,24 @@ fn queue_command<'a>(alloc: Global) -> Result<Command<'a>, AllocError>
     tool(
         alloc,
         "queue",
-        "Queues a job in the folder of an end, cancels one, or lists those that wait",
+        "Queues a job in the folder of an end, cancels one, or lists those pending",
         help::QUEUE,
     )
     .arg(path(alloc, "DIR", "The folder of the end"))?
     .arg(optional(
         alloc,
         "ORDER",
-        "send or request; without it the jobs that wait are listed",
+        "send or request; without it the pending jobs are listed",
     ))?
     .arg(optional(
         alloc,
         "FILE",
-        "The path of the file that is sent, or the name of the one that is asked for",
+        "The path of the file to send, or the name of the file to ask for",
     ))?
     .arg(optional(
         alloc,
         "TARGET",
-        "The name that it gets where it comes; without it its own name",
+        "The file's name at the receiving end; by default its own",
     ))?
     .arg(named(alloc, "user", "USER", help::USER))?
     .arg(named(alloc, "cancel", "JOB", help::CANCEL))
@@ -300,12 +290,12 @@ fn status_command<'a>(alloc: Global) -> Result<Command<'a>, AllocError>
     tool(
         alloc,
         "status",
-        "Shows the jobs that wait in the folder of an end, what is held of files, and what has failed",
+        "Shows the pending jobs in the folder of an end, its held files, and its failed jobs",
         help::STATUS,
     )
     .arg(path(alloc, "DIR", "The folder of the end, or a spool"))?
     .arg(named(alloc, "log", "FILE", help::LOG_OF))?
-    .arg(flag(alloc, "json", "Prints one object of JSON"))?
+    .arg(flag(alloc, "json", "Prints one JSON object"))?
     .arg(flag(alloc, "spool", help::SPOOL_OF))?
     .arg(named(alloc, "peer", "NAME", help::PEER_OF))?
     .arg(folder(alloc, "locks", help::LOCKS_OF, LOCKS))

@@ -168,7 +168,7 @@ fn add_part<A: Allocator>(
             text,
             "sessions",
             Some(task.limits.sessions),
-            "1: only at a socket there may be more",
+            "1: only a socket allows more",
         ),
     }
 }
@@ -196,7 +196,7 @@ fn add_name<A: Allocator>(text: &mut String<A>, name: &str) -> Result<(), AllocE
 {
     text.push_str("\"")?;
     add_escaped(text, name.as_bytes())?;
-    text.push_str("\" is no name of a system: 1 to 200 printing characters without a space")
+    text.push_str("\" is not a system name: 1 to 200 printable characters without spaces")
 }
 
 /// Appends that the name of the other end is missing or invalid.
@@ -218,7 +218,7 @@ fn add_place<A: Allocator>(text: &mut String<A>, name: &str) -> Result<(), Alloc
 {
     text.push_str("\"")?;
     add_escaped(text, name.as_bytes())?;
-    text.push_str("\" is no name of a system in a spool: it has no slash, and no dot in front")
+    text.push_str("\" is not a system name for a spool: no slash, no leading dot")
 }
 
 /// Appends what is missing in the name of a line.
@@ -227,7 +227,7 @@ fn add_line<A: Allocator>(text: &mut String<A>, line: &str) -> Result<(), AllocE
         (string_bytes text.new ≡ string_bytes text.old ++ line_words line.now) }
 {
     if line.is_empty() {
-        return text.push_str("the line has no name");
+        return text.push_str("LINE is empty");
     }
     add_escaped(text, line.as_bytes())?;
     text.push_str(lack_words(line))
@@ -242,7 +242,7 @@ fn lack_words(line: &str) -> &'static str
     } else if is_port(line) {
         " has no host"
     } else {
-        " has no port of 0 to 65535: give tcp:HOST:PORT, the port as a number"
+        " has no port number (0 to 65535): give tcp:HOST:PORT"
     }
 }
 
