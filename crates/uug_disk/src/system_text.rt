@@ -117,7 +117,7 @@ impl<R: Files<File = File>, A: Allocator> SystemText<'_, R, A> {
         &mut self,
         alloc: B,
     ) -> Result<Vec<u8, B>, ToolFault>
-        ensures stands { OnOk result (self.new.faults ≡ self.old.faults) }
+        ensures stands { OnOk result (self.new.faults.count ≡ self.old.faults.count) }
         ensures fault { IfErr result (λ fault.
             IsReadFault fault self.old.faults.count self.new.faults.count) }
     {
