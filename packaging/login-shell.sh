@@ -10,7 +10,7 @@ log=/var/log/uucpair/logins.log
 exec 2>/dev/null
 exec 2>>"$log"
 [ $# -eq 0 ] || exit 2
-while read -r name dir me peer options <&3; do
+while read -r name dir me peer options <&3 || [ -n "$name" ]; do
     [ "$name" = "$LOGNAME" ] || continue
     [ ! -t 0 ] || stty raw -echo cs8 -parenb
     # shellcheck disable=SC2086  # each word is an option

@@ -1204,6 +1204,19 @@ def scene_waits_at_port(scene: Scene, kind: str) -> None:
         scene.row(f"-e at {kind}, call {number}", status == 0 and wait_until(lambda: f"mail-{number}" in scene.beta.mails(), 5))
     for file in held:
         os.close(file)
+    if kind == "tcp":
+        daemon = scene.helpers[-1]
+        with socket.create_connection(("127.0.0.1", port)) as waiting:
+            scene.row("a caller at the login", bool(waiting.recv(1)))
+            busy = as_uucp(scene.beta.words("ours", "-e", "-q", "-p", "door"))
+            scene.row("a port in use is logged", busy.wait(10) == 1 and "port door: no callers can be awaited" in text_of(scene.beta.folder / "log/Debug"))
+            daemon.kill()
+            daemon.wait()
+            scene.helper(scene.beta.words("ours", "-e", "-q", "-p", "door"))
+            scene.row("a daemon that is started again meanwhile", wait_until(lambda: listens(port), 5))
+            scene.alpha.mail("beta", "mail-3")
+            status = scene.alpha.run("taylor", "-q", "-S", "beta")
+            scene.row("it answers", status == 0 and wait_until(lambda: "mail-3" in scene.beta.mails(), 5))
 
 
 def serve_system(scene: Scene, entry: str, shadow: str, command: str, address: str = "") -> int:

@@ -54,10 +54,7 @@ def answer_at(site: Site, options: Options) -> bool:
 
 def answer_tcp(site: Site, port: Port, options: Options) -> bool:
     """Answers whoever connects, each by a process of its own."""
-    both = socket.has_dualstack_ipv6()
-    with socket.create_server(
-        ("", service_of(port.service)), family=socket.AF_INET6 if both else socket.AF_INET, dualstack_ipv6=both
-    ) as door:
+    with door_at(port) as door:
         while True:
             connection, _ = door.accept()
             reap()
@@ -65,8 +62,20 @@ def answer_tcp(site: Site, port: Port, options: Options) -> bool:
                 if not options.loops:
                     return answer(site, Line("port TCP", connection.fileno(), connection.fileno(), logged="TCP"), options)
                 if os.fork() == 0:
+                    # Another daemon may take the port while this call goes on.
+                    door.close()
                     done = answer(site, Line("port TCP", connection.fileno(), connection.fileno(), logged="TCP"), options)
                     os._exit(0 if done else 1)
+
+
+def door_at(port: Port) -> socket.socket:
+    """Returns the socket at which callers connect to a TCP port."""
+    both = socket.has_dualstack_ipv6()
+    family = socket.AF_INET6 if both else socket.AF_INET
+    try:
+        return socket.create_server(("", service_of(port.service)), family=family, dualstack_ipv6=both)
+    except OSError as fault:
+        raise SiteError(f"port {port.name}", f"no callers can be awaited: {os.strerror(fault.errno or 0)}", "see which program has it: ss -ltnp") from fault
 
 
 def reap() -> None:
