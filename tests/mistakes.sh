@@ -825,7 +825,7 @@ stream.shutdown(socket.SHUT_WR)
 while stream.recv(4096):
     pass' "$work/line"
 mkdir -p "$work/alpha/spool/beta/C."
-echo "S $work/a/send/x ~/no/such/x me - D.0 0644" >"$work/alpha/spool/beta/C./C.N1"
+echo "S $work/a/send/x /no/such/x me - D.0 0644" >"$work/alpha/spool/beta/C./C.N1"
 echo "R /etc/passwd ~/y me -d" >"$work/alpha/spool/beta/C./C.N2"
 spool_of alpha
 call_hub alpha
@@ -834,7 +834,7 @@ has_logged "a hub, which says whom it refused, and what" beta \
     'gamma refused: heard "Sgamma", but the spool has no folder for that system' \
     "alpha System already locked" \
     '* hungup: heard 18 bytes and no text: "GET / HTTP/1.0\x0d\x0a\x0d\x0a"' \
-    "alpha send $work/a/send/x ~/no/such/x: refused" \
+    "alpha send $work/a/send/x /no/such/x: refused" \
     "alpha request /etc/passwd ~/y: refused"
 
 folders "send x ~/y me"

@@ -563,8 +563,8 @@ def refused_calls_of_who_cancels(one):
                     jobs == whole) and ended.out or ended.status == 0 and jobs == whole:
                 faults.append((call, when, ended.all(), jobs, names(ends, "send")))
             queue(one, "request", "r", "--user", "me")
-            # a copy that can't be removed stays
-            if jobs == left and call != "unlink" and cancel(one, "request r r me").status == 0 and names(ends, "send"):
+            # a copy that can't be removed stays, and so does one whose mark can't be renamed
+            if jobs == left and call != "unlink" and (call, when) != ("rename", 1) and cancel(one, "request r r me").status == 0 and names(ends, "send"):
                 faults.append((call, when, names(ends, "send")))
             for name in names(ends, "send"):
                 os.remove(ends.at("alpha", f"send/{name}"))
