@@ -92,8 +92,8 @@ forms() {
     holds "bad jobs stay" "$work/e/jobs" $'send x y u\nbad'
     for ((i = 0; i < 1024; i++)); do echo "request q q u"; done >"$work/e/jobs"
     row "a job too many" 2 "" "bad jobs at line 1025"$'\n'"uucpair: $work/e/jobs: the limit of 1024 jobs is reached: call, or cancel one" "$work/e" send "$work/x"
-    # The copy before is gone with its job.
-    [ -z "$(ls -A "$work/e/send")" ] || {
+    # The copy whose line was overwritten stays, and that of the refused job is gone.
+    [ "$(echo "$work"/e/send/.[!.]* "$work"/e/send/*)" = "$work/e/send/.copy.x.1 $work/e/send/x.1" ] || {
         failed=$((failed + 1))
         echo "a refused job leaves $(ls -A "$work/e/send")" >&2
     }
