@@ -1,3 +1,4 @@
+pub mod CallAnswerLemmas
 pub mod PathLemmas
 pub mod PublicFileLemmas
 pub mod WhyLemmas

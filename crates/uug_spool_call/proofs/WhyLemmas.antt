@@ -1,6 +1,7 @@
 -- That it is known which call of the system has failed, where the answer is a device fault.
-use Rattle.std.proofs.Common.{◌≡◌, ◌⊎◌, ◌<◌, inl, inr, ℕ, Option, Result, Ok, Err, refl, sym, subst, ◌∙◌, arith}
+use Rattle.std.proofs.Common.{◌≡◌, ◌<◌, ℕ, Option, Result, Ok, Err, refl, sym, ◌∙◌}
 use Rattle.std.specs.Prelude.{IsErr, IsSome}
+use Rattle.uug_failure.proofs.FaultLemmas.{has_faults}
 use Rattle.uug_failure.specs.declared.failure.SystemFailure.{SystemFailure}
 use Rattle.uug_session.specs.Engine.{HasFailed, faults_max}
 use Rattle.uug_stream.specs.declared.fault.ToolFault.{ToolFault}
@@ -8,16 +9,11 @@ use Rattle.uug_stream.specs.declared.fault.ToolFault.TheVariants as faults
 use Rattle.uug_transfer.specs.declared.session_fault.SessionFault.{SessionFault}
 use Rattle.uug_transfer.specs.declared.session_fault.SessionFault.TheVariants as session
 
-jobs_failed : (after : ℕ) → HasFailed faults_max 0 after → 0 < after
-jobs_failed after (inl less) = less
-jobs_failed after (inr is) = absurd (omega (arith, is))
-
 pub device_is_known : {T : Type 0} (answer : Result ℕ ToolFault) (ended : Result T SessionFault) (why : Option SystemFailure) (before after : ℕ)
     → (answer ≡ Err faults.Device → IsErr ended) → (ended ≡ Err session.Memory → answer ≡ Err faults.Memory)
     → before ≡ 0 → (ended ≡ Err session.Jobs → HasFailed faults_max before after) → (ended ≡ Err session.Number → ⊥)
-    → (0 < after → IsSome why) → answer ≡ Err faults.Device → IsSome why ⊎ ⊥
+    → (0 < after → IsSome why) → answer ≡ Err faults.Device → IsSome why
 device_is_known answer (Ok done) why before after device memory calm jobs number known e = absurd (cc (device e))
-device_is_known answer (Err session.Jobs) why before after device memory calm jobs number known e =
-    inl (known (jobs_failed after (subst (λ (n : ℕ). HasFailed faults_max n after) calm (jobs refl))))
+device_is_known answer (Err session.Jobs) why before after device memory calm jobs number known e = known (has_faults before after calm (jobs refl))
 device_is_known answer (Err session.Number) why before after device memory calm jobs number known e = absurd (number refl)
 device_is_known answer (Err session.Memory) why before after device memory calm jobs number known e = absurd (cc (sym e ∙ memory refl))

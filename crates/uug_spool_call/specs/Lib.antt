@@ -1,5 +1,6 @@
 pub mod Arrivals
 pub mod Budgets
+pub mod CallAnswers
 pub mod GivenData
 pub mod PublicNames
 pub mod Stores

@@ -1,13 +1,15 @@
 //! The session of an end over a spool.
 ghost use Rattle.std.specs.Prelude.{◌≡◌, ◌≢◌, ◌≤◌, IfErr, IfOk, IsErr, OnOk, is_some, string_bytes};
-ghost use Rattle.uug_failure.specs.Faults.{IsFaultAtLine, IsFolderFault};
+ghost use Rattle.uug_failure.specs.Faults.{IsFolderFault, IsSessionFault};
 ghost use Rattle.uug_session.specs.Engine.{IsEnded};
 ghost use Rattle.uug_session.specs.Node.{node_of};
 ghost use Rattle.uug_transfer.specs.Reported.{HasRunSoundly, IsReported, status_with};
+ghost use Rattle.uug_spool_call.specs.CallAnswers.{AnswersCall, status_of};
 ghost use Rattle.uug_spool_call.specs.Stores.{store_now};
 ghost use Rattle.uug_stream.specs.Fault.{StopsWriting};
 ghost use Rattle.uug_stream.specs.Streams.{Appends, CountsFault};
 ghost use Rattle.uug_transfer.specs.BufferedNodes.{node_in, spool_in};
+ghost use Rattle.uug_transfer.specs.EndOver.{IsEndFault};
 ghost use Rattle.uug_transfer.specs.Ends.{phase_of_end, report_of, status_of_phase};
 ghost use Rattle.uug_transfer.specs.LineSessions.{SettlesJobs};
 ghost use Rattle.uug_transfer.specs.Moments.{IsLed, end_now};
@@ -55,15 +57,11 @@ where
     R: Files<File = File> + Clock + Env + Eprint + AllocGlobal + Clone + Drop,
     L: EndLine,
     O: Output,
-    ensures status { IfOk result (λ ended. ended.status ≤ 1) }
-    // A report is printed whose session is done if the status is 0, and is not if it is 1, or jobs were put off.
-    ensures reported { IfOk result (λ ended. IsReported call.now.side ended.status
-        (O.written output.old) (O.written output.new)) }
-    ensures write { result ≡ Err (RunFault.Tool ToolFault.Write)
-        → CountsFault (O.fault_count output.old) (O.fault_count output.new) }
-    ensures no_other { IfErr result IsFaultAtLine }
-    // A call on the spool that failed is named.
-    ensures named { result ≢ Err (RunFault.Tool ToolFault.Device) }
+    // A report is printed whose session is done if the status is 0, and is not if it is 1, or jobs were put off. A call on
+    // the spool that failed is named.
+    ensures { AnswersCall IsSessionFault (IsReported call.now.side) (status_of result)
+        (O.written output.old) (O.written output.new)
+        (O.fault_count output.old) (O.fault_count output.new) }
 {
     let paths = paths_of(alloc, call, place.peer)?;
     let paths = &paths;
@@ -263,7 +261,7 @@ fn answer_of<S: Spool, A: Allocator + Copy, O: Output>(
         (O.written output.old) (O.written output.new)) }
     ensures write { result ≡ Err ToolFault.Write
         → CountsFault (O.fault_count output.old) (O.fault_count output.new) }
-    ensures no_other { IfErr result (λ fault. IsFaultAtLine (RunFault.Tool fault)) }
+    ensures no_other { IfErr result IsEndFault }
     ensures device { result ≡ Err ToolFault.Device → IsErr session }
     // A session whose results could not be stored on the disk has no status: it is a device fault.
     ensures jobs { session ≡ Err SessionFault.Jobs → result ≡ Err ToolFault.Device }

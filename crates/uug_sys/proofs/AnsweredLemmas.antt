@@ -2,12 +2,14 @@
 use Rattle.std.proofs.Common.{arith, ◌≡◌, ◌⊎◌, ◌++◌, ◌<◌, ◌≤◌, ℕ, List, [], Option, Some, None, Result, Ok, Err, IfNone, IfOk, IfSome, IsSome, OnErr, OnOk, inl, inr, max, refl, subst, sym, ap, ◌∙◌}
 use Rattle.std.specs.Prelude.{⊤}
 use Rattle.uug_conversation.specs.declared.side.Side.{Side}
+use Rattle.uug_conversation.specs.declared.side.Side.TheVariants.{Caller, Called}
 use Rattle.uug_failure.specs.declared.failure.SystemFailure.{SystemFailure}
 use Rattle.uug_failure.specs.declared.run_fault.RunFault.{RunFault}
 use Rattle.uug_failure.specs.declared.run_fault.RunFault.TheVariants.{System, Tool}
 use Rattle.uug_stream.specs.Streams.{Appends}
 use Rattle.uug_stream.specs.declared.fault.ToolFault.TheVariants.{Jobs}
-use Rattle.uug_sys.specs.Calls.{AreReported, one_session, session_more}
+use Rattle.uug_spool_call.specs.CallAnswers.{AnswersCall}
+use Rattle.uug_sys.specs.Calls.{AreReported, AreTold, one_session, session_more}
 use Rattle.uug_sys.specs.declared.answer.Tally.{Tally}
 use Rattle.uug_transfer.specs.Ends.{report_of}
 use Rattle.uug_transfer.specs.Reported.{IsReported}
@@ -61,7 +63,7 @@ one_failed side past status (Some failure) bad_line w v counts = tt
 
 pub one_more : (side : Side) (past past_after : ℕ) (before after : Tally) (answer given : Result ℕ RunFault) {U : Type 0}
     (counted : Result U RunFault) (value : U) (held : List ℕ) (w u v : Option (List ℕ)) → SoFar side past before w u
-    → IfOk answer (λ (n : ℕ). IsReported side n (Some []) (Some held)) → IfOk given (λ (n : ℕ). answer ≡ Ok n) → OnOk given (Appends held u v)
+    → IfOk answer (λ (n : ℕ). IsReported side n (Some []) (Some held)) → IfOk given (λ (n : ℕ). answer ≡ Ok n) → IfOk given (λ (n : ℕ). Appends held u v)
     → IfOk given (λ (n : ℕ). after ≡ record before { status = max before.status n })
     → OnErr given (OnOk counted (IfNone after.failed (IsSome after.bad_line))) → counted ≡ Ok value → SoFar side past_after after w v
 one_more side past past_after before after (Ok m) (Ok n) counted value held w u v far told same prints greatest failed is =
@@ -107,7 +109,17 @@ all_told side past tally reached w u v (Err fault) some far tally_is v_is failed
 
 -- ---- one session
 
-pub one_told : (side : Side) (answer : Result ℕ RunFault) (w v : Option (List ℕ)) → IfOk answer (λ (n : ℕ). IsReported side n w v)
-    → IfOk answer (λ (n : ℕ). AreReported side n w v)
-one_told side (Ok n) w v told = one_session told
+one_told : (side : Side) (answer : Result ℕ RunFault) (w v : Option (List ℕ)) → IfOk answer (λ (n : ℕ). IsReported side n w v)
+    → IfOk answer (λ (n : ℕ). AreTold side n w v)
+one_told Caller (Ok n) w v told = told
+one_told Called (Ok n) w v told = one_session told
 one_told side (Err fault) w v told = tt
+
+pub one_answered : (F : RunFault → Type 0) (side : Side) (answer : Result ℕ RunFault) (w v : Option (List ℕ)) (f g : ℕ)
+    → AnswersCall F (IsReported side) answer w v f g → AnswersCall F (AreTold side) answer w v f g
+one_answered F side answer w v f g a = record {
+  status = a.status;
+  reported = one_told side answer w v a.reported;
+  write = a.write;
+  no_other = a.no_other;
+}

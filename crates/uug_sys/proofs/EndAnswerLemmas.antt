@@ -1,67 +1,43 @@
 -- What a run answers behind its session, by what the session has come to.
-use Rattle.std.proofs.Common.{◌≡◌, ◌≤◌, ℕ, Bool, true, false, List, Option, Result, Ok, Err, refl, subst, sym, ◌∙◌, lit≤}
-use Rattle.std.specs.Prelude.{IfErr, IfOk}
+use Rattle.std.proofs.Common.{◌≡◌, ℕ, Bool, true, false, List, Option, Result, Ok, Err, refl, subst, sym, lit≤}
 use Rattle.uug_conversation.specs.declared.side.Side.{Side}
-use Rattle.uug_failure.specs.Faults.{IsFaultAtLine}
-use Rattle.uug_failure.specs.declared.run_fault.RunFault.TheVariants.{Tool}
+use Rattle.uug_failure.specs.Faults.{IsSessionFault}
+use Rattle.uug_failure.specs.Outcomes.{ended_of}
+use Rattle.uug_failure.specs.declared.failure.SystemFailure.{SystemFailure}
+use Rattle.uug_failure.specs.declared.outcome.Ended.{Ended}
+use Rattle.uug_failure.specs.declared.run_fault.RunFault.{RunFault}
+use Rattle.uug_spool_call.proofs.CallAnswerLemmas.{AnswersSession, ended_answers}
+use Rattle.uug_spool_call.specs.CallAnswers.{AnswersCall, status_of}
 use Rattle.uug_stream.specs.declared.fault.ToolFault.{ToolFault}
-use Rattle.uug_stream.specs.declared.fault.ToolFault.TheVariants as faults
 use Rattle.uug_sys.specs.EndAnswers.{answer_with}
-use Rattle.uug_transfer.specs.EndOver.{IsEndFault}
 use Rattle.uug_transfer.specs.Reported.{IsReported}
 
-pub with_well : (has_failed : Bool) (answer : Result ℕ ToolFault) (x : Result ℕ ToolFault) → x ≡ answer_with has_failed answer
-    → IfOk answer (λ (status : ℕ). status ≤ 1) → IfOk x (λ (status : ℕ). status ≤ 1)
-with_well true (Ok status) x is within = subst (λ (r : Result ℕ ToolFault). IfOk r (λ (n : ℕ). n ≤ 1)) (sym is) (lit≤ tt)
-with_well false (Ok status) x is within = subst (λ (r : Result ℕ ToolFault). IfOk r (λ (n : ℕ). n ≤ 1)) (sym is) within
-with_well has_failed (Err fault) x is within = subst (λ (r : Result ℕ ToolFault). IfOk r (λ (n : ℕ). n ≤ 1)) (sym is) tt
-
-err_of : (has_failed : Bool) (answer : Result ℕ ToolFault) (fault : ToolFault) → answer_with has_failed answer ≡ Err fault → answer ≡ Err fault
-err_of has_failed (Ok status) fault e = absurd (cc e)
-err_of has_failed (Err other) fault e = e
-
-pub with_err : (has_failed : Bool) (answer x : Result ℕ ToolFault) (fault : ToolFault) → x ≡ answer_with has_failed answer
-    → x ≡ Err fault → answer ≡ Err fault
-with_err has_failed answer x fault is e = err_of has_failed answer fault (sym is ∙ e)
-
 -- the report of an end is printed, and its status is told, or 1 where what has failed counts
-pub with_reported : (has_failed : Bool) (answer x : Result ℕ ToolFault) (side : Side) (written written_after : Option (List ℕ))
-    → x ≡ answer_with has_failed answer → IfOk answer (λ (status : ℕ). IsReported side status written written_after)
-    → IfOk x (λ (status : ℕ). IsReported side status written written_after)
-with_reported true (Ok status) x side written written_after is told =
-    subst (λ (r : Result ℕ ToolFault). IfOk r (λ (n : ℕ). IsReported side n written written_after)) (sym is)
-    (record {
-      end = told.end;
-      holdings = told.holdings;
-      kept = told.kept;
-      ran = told.ran;
-      over = told.over;
-      is_left = true;
-      is_status = refl;
-      printed = told.printed;
-    })
-with_reported false (Ok status) x side written written_after is told =
-    subst (λ (r : Result ℕ ToolFault). IfOk r (λ (n : ℕ). IsReported side n written written_after)) (sym is) told
-with_reported has_failed (Err fault) x side written written_after is told =
-    subst (λ (r : Result ℕ ToolFault). IfOk r (λ (n : ℕ). IsReported side n written written_after)) (sym is) tt
+session_with : (has_failed : Bool) (side : Side) (answer : Result ℕ ToolFault) (failure : Option SystemFailure) (w v : Option (List ℕ)) (f g : ℕ)
+    → AnswersSession (IsReported side) answer failure w v f g → AnswersSession (IsReported side) (answer_with has_failed answer) failure w v f g
+session_with true side (Ok status) failure w v f g a = record {
+  status = lit≤ tt;
+  reported = record {
+    end = a.reported.end;
+    holdings = a.reported.holdings;
+    kept = a.reported.kept;
+    ran = a.reported.ran;
+    over = a.reported.over;
+    is_left = true;
+    is_status = refl;
+    printed = a.reported.printed;
+  };
+  write = λ e. absurd (cc e);
+  no_other = tt;
+  named = λ e. absurd (cc e);
+}
+session_with false side (Ok status) failure w v f g a = a
+session_with has_failed side (Err fault) failure w v f g a = a
 
--- ---- the faults
-
-at_line : (fault : ToolFault) → IsEndFault fault → IsFaultAtLine (Tool fault)
-at_line faults.Write h = tt
-at_line faults.Memory h = tt
-at_line faults.Device h = tt
-at_line faults.Usage h = absurd h
-at_line faults.Read h = absurd h
-at_line (faults.Script line) h = absurd h
-at_line (faults.Jobs line) h = absurd h
-
-no_other_of : (has_failed : Bool) (answer : Result ℕ ToolFault) → IfErr answer IsEndFault
-    → IfErr (answer_with has_failed answer) (λ (fault : ToolFault). IsFaultAtLine (Tool fault))
-no_other_of has_failed (Ok status) h = tt
-no_other_of has_failed (Err fault) h = at_line fault h
-
-pub with_no_other : (has_failed : Bool) (answer x : Result ℕ ToolFault) → x ≡ answer_with has_failed answer
-    → IfErr answer IsEndFault → IfErr x (λ (fault : ToolFault). IsFaultAtLine (Tool fault))
-with_no_other has_failed answer x is h =
-    subst (λ (r : Result ℕ ToolFault). IfErr r (λ (fault : ToolFault). IsFaultAtLine (Tool fault))) (sym is) (no_other_of has_failed answer h)
+pub with_answers : (has_failed : Bool) (side : Side) (answer x : Result ℕ ToolFault) (failure : Option SystemFailure)
+    (ended : Result Ended RunFault) (w v : Option (List ℕ)) (f g : ℕ) → x ≡ answer_with has_failed answer → ended ≡ ended_of x failure
+    → AnswersSession (IsReported side) answer failure w v f g → AnswersCall IsSessionFault (IsReported side) (status_of ended) w v f g
+with_answers has_failed side answer x failure ended w v f g is ends a =
+    ended_answers (IsReported side) x failure ended w v f g ends
+    (subst (λ (r : Result ℕ ToolFault). AnswersSession (IsReported side) r failure w v f g) (sym is)
+    (session_with has_failed side answer failure w v f g a))

@@ -10,11 +10,6 @@ abbrev pub answer_with : (has_failed : Bool) → Result ℕ ToolFault → Result
 answer_with has_failed (Ok status) = Ok (if has_failed then 1 else status)
 answer_with has_failed (Err fault) = Err fault
 
--- the status of a session that was not given up
-abbrev pub status_of : Result Ended RunFault → Result ℕ RunFault
-status_of (Ok ended) = Ok ended.status
-status_of (Err fault) = Err fault
-
 abbrev pub either : (first second : Option SystemFailure) → Option SystemFailure
 either (Some failure) second = Some failure
 either None second = second

@@ -1,7 +1,8 @@
 //! An end that is called at a socket. It listens until its last caller has been let in.
 ghost use Rattle.std.specs.Prelude.{◌≡◌, ◌≢◌, ◌≤◌, [], Err, IfErr, IfNone, IfOk, IfSome, IsErr, IsSome, Ok, OnErr, OnOk, Some, max, true};
 ghost use Rattle.uug_failure.specs.Faults.{IsSessionFault, IsSystemFault};
-ghost use Rattle.uug_stream.specs.Streams.{Appends, CountsFault};
+ghost use Rattle.uug_spool_call.specs.CallAnswers.{AnswersCall};
+ghost use Rattle.uug_stream.specs.Streams.{Appends};
 ghost use Rattle.uug_sys.specs.Calls.{AreReported};
 ghost use Rattle.uug_sys.specs.HubFaults.{is_in_folder, is_of_folder, is_of_session};
 ghost use Rattle.uug_transfer.specs.Reported.{IsReported};
@@ -57,13 +58,10 @@ where
     T: Listener + Drop,
     W: SessionObserver,
     O: Output,
-    ensures status { IfOk result.answer (λ status. status ≤ 1) }
-    ensures write { result.answer ≡ Err (RunFault.Tool ToolFault.Write)
-        → CountsFault (O.fault_count output.old) (O.fault_count output.new) }
-    ensures no_other { IfErr result.answer IsSessionFault }
     // The report of one session at least is printed.
-    ensures reported { IfOk result.answer (λ status. AreReported run.now.task.now.side status
-        (O.written output.old) (O.written output.new)) }
+    ensures { AnswersCall IsSessionFault (AreReported run.now.task.now.side) result.answer
+        (O.written output.old) (O.written output.new)
+        (O.fault_count output.old) (O.fault_count output.new) }
 {
     match opened {
         Ok(listening) => answer_calls(run, listening, observer, output),
@@ -84,12 +82,9 @@ where
     T: Listener + Drop,
     W: SessionObserver,
     O: Output,
-    ensures status { IfOk result.answer (λ status. status ≤ 1) }
-    ensures write { result.answer ≡ Err (RunFault.Tool ToolFault.Write)
-        → CountsFault (O.fault_count output.old) (O.fault_count output.new) }
-    ensures no_other { IfErr result.answer IsSessionFault }
-    ensures reported { IfOk result.answer (λ status. AreReported run.now.task.now.side status
-        (O.written output.old) (O.written output.new)) }
+    ensures { AnswersCall IsSessionFault (AreReported run.now.task.now.side) result.answer
+        (O.written output.old) (O.written output.new)
+        (O.fault_count output.old) (O.fault_count output.new) }
 {
     let sessions = sessions_of(&run.station);
     let mut doorkeeper = Doorkeeper::new(observer, listening, sessions);
@@ -308,12 +303,9 @@ where
     R: System,
     T: Listener + Drop,
     W: SessionObserver,
-    ensures status { IfOk result.outcome.answer (λ status. status ≤ 1) }
-    ensures no_other { IfErr result.outcome.answer IsSessionFault }
-    // What is held is in memory, whose faults are no refused writes.
-    ensures no_write { result.outcome.answer ≢ Err (RunFault.Tool ToolFault.Write) }
-    ensures reported { IfOk result.outcome.answer (λ status.
-        IsReported run.now.task.now.side status (Some []) (Some result.report.bytes.items)) }
+    // What is held is in memory, which refuses no write.
+    ensures { AnswersCall IsSessionFault (IsReported run.now.task.now.side)
+        result.outcome.answer (Some []) (Some result.report.bytes.items) 0 0 }
 {
     let station = &run.station;
     let deadline = match Deadline::after(run.rt, station.wait_at_socket()) {
@@ -408,11 +400,8 @@ where
     P: Port + Drop,
     T: Listener + Drop,
     W: SessionObserver,
-    ensures status { IfOk result.outcome.answer (λ status. status ≤ 1) }
-    ensures no_other { IfErr result.outcome.answer IsSessionFault }
-    ensures no_write { result.outcome.answer ≢ Err (RunFault.Tool ToolFault.Write) }
-    ensures reported { IfOk result.outcome.answer (λ status.
-        IsReported run.now.task.now.side status (Some []) (Some result.report.bytes.items)) }
+    ensures { AnswersCall IsSessionFault (IsReported run.now.task.now.side)
+        result.outcome.answer (Some []) (Some result.report.bytes.items) 0 0 }
 {
     let mut report = HeldOutput::new(run.alloc);
     let outcome = talk_over(run, None, port, doorkeeper, &mut report);
@@ -454,14 +443,11 @@ fn give<A: Allocator, O: Output>(
     requires status { IfOk answer (λ status. status ≤ 1) }
     requires no_other { IfErr answer IsSessionFault }
     requires no_write { answer ≢ Err (RunFault.Tool ToolFault.Write) }
-    ensures status { IfOk result (λ status. status ≤ 1) }
-    ensures write { result ≡ Err (RunFault.Tool ToolFault.Write)
-        → CountsFault (O.fault_count output.old) (O.fault_count output.new) }
-    ensures no_other { IfErr result IsSessionFault }
+    ensures answers { AnswersCall IsSessionFault (λ _. Appends report.bytes.items) result
+        (O.written output.old) (O.written output.new)
+        (O.fault_count output.old) (O.fault_count output.new) }
     ensures first { IfErr answer (λ fault. result ≡ Err fault) }
     ensures same { IfOk result (λ status. answer ≡ Ok status) }
-    ensures prints { OnOk result
-        (Appends report.bytes.items (O.written output.old) (O.written output.new)) }
     ensures calm { OnOk result (O.fault_count output.new ≡ O.fault_count output.old) }
     ensures grows { O.fault_count output.old ≤ O.fault_count output.new }
 {

@@ -1,10 +1,10 @@
 //! One end over a folder, and the line to the other one.
-ghost use Rattle.std.specs.Prelude.{◌≡◌, ◌≢◌, ◌≤◌, ◌↔◌, Err, IfErr, IfOk};
-ghost use Rattle.uug_failure.specs.Faults.{IsFaultAtLine, IsFolderFault, IsReadingFault, IsRunFault, IsSessionFault, IsSystemFault};
-ghost use Rattle.uug_stream.specs.Streams.{CountsFault};
-ghost use Rattle.uug_sys.specs.EndAnswers.{answer_with, failure_to_tell, status_of};
+ghost use Rattle.std.specs.Prelude.{◌≡◌, ◌↔◌, Err, IfErr, IfOk};
+ghost use Rattle.uug_failure.specs.Faults.{IsFolderFault, IsReadingFault, IsRunFault, IsSessionFault, IsSystemFault};
+ghost use Rattle.uug_spool_call.specs.CallAnswers.{AnswersCall, status_of};
+ghost use Rattle.uug_sys.specs.EndAnswers.{answer_with, failure_to_tell};
 ghost use Rattle.uug_observe.specs.JobRemarks.{has_failed};
-ghost use Rattle.uug_sys.specs.Calls.{AreReported, HasTalked};
+ghost use Rattle.uug_sys.specs.Calls.{AreTold, HasTalked};
 ghost use Rattle.uug_task.specs.Tasks.{IsTask};
 ghost use Rattle.uug_transfer.specs.Reported.{IsReported};
 
@@ -67,17 +67,13 @@ where
     R: System,
     W: SessionObserver,
     O: Output,
-    ensures status { IfOk result.answer (λ status. status ≤ 1) }
-    ensures write { result.answer ≡ Err (RunFault.Tool ToolFault.Write)
-        → CountsFault (O.fault_count output.old) (O.fault_count output.new) }
-    ensures usage { (result.answer ≡ Err (RunFault.Tool ToolFault.Usage)) ↔ (IsTask task.now → ⊥) }
     // A caller's report is printed, of an end that has run its session to its end, with its status. Else another run
     // talks with that system over its spool: then nothing is printed, and the status is 1. A called end prints one or
     // more such reports, one behind the other, and its status is the greatest.
-    ensures reported { IfOk result.answer (λ status. HasTalked task.now.side status
-        (O.written output.old) (O.written output.new)) }
-    // A call of the system that failed is named.
-    ensures no_other { IfErr result.answer IsRunFault }
+    ensures answers { AnswersCall IsRunFault (HasTalked task.now.side) result.answer
+        (O.written output.old) (O.written output.new)
+        (O.fault_count output.old) (O.fault_count output.new) }
+    ensures usage { (result.answer ≡ Err (RunFault.Tool ToolFault.Usage)) ↔ (IsTask task.now → ⊥) }
 {
     let Some(Terms { line, station }) = read_terms(task) else {
         return Outcome::of(alloc, Err(RunFault::Tool(ToolFault::Usage)));
@@ -108,14 +104,9 @@ where
     R: System,
     W: SessionObserver,
     O: Output,
-    ensures status { IfOk result.answer (λ status. status ≤ 1) }
-    ensures write { result.answer ≡ Err (RunFault.Tool ToolFault.Write)
-        → CountsFault (O.fault_count output.old) (O.fault_count output.new) }
-    ensures no_other { IfErr result.answer IsSessionFault }
-    ensures reported { run.now.task.now.side ≡ Side.Caller → IfOk result.answer (λ status.
-        IsReported Side.Caller status (O.written output.old) (O.written output.new)) }
-    ensures sessions { IfOk result.answer (λ status. AreReported run.now.task.now.side status
-        (O.written output.old) (O.written output.new)) }
+    ensures { AnswersCall IsSessionFault (AreTold run.now.task.now.side) result.answer
+        (O.written output.old) (O.written output.new)
+        (O.fault_count output.old) (O.fault_count output.new) }
 {
     let lock = match lock_and_look(run.alloc, run.rt, run.task) {
         Ok(lock) => lock,
@@ -204,15 +195,9 @@ where
     R: System,
     W: SessionObserver,
     O: Output,
-    ensures status { IfOk result.answer (λ status. status ≤ 1) }
-    ensures write { result.answer ≡ Err (RunFault.Tool ToolFault.Write)
-        → CountsFault (O.fault_count output.old) (O.fault_count output.new) }
-    ensures no_other { IfErr result.answer IsSessionFault }
-    // A caller has one session, of which the report is printed.
-    ensures reported { run.now.task.now.side ≡ Side.Caller → IfOk result.answer (λ status.
-        IsReported Side.Caller status (O.written output.old) (O.written output.new)) }
-    ensures sessions { IfOk result.answer (λ status. AreReported run.now.task.now.side status
-        (O.written output.old) (O.written output.new)) }
+    ensures { AnswersCall IsSessionFault (AreTold run.now.task.now.side) result.answer
+        (O.written output.old) (O.written output.new)
+        (O.fault_count output.old) (O.fault_count output.new) }
 {
     let (alloc, rt, time) = (run.alloc, run.rt, run.station.time());
     match (line, run.task.side) {
@@ -292,12 +277,9 @@ where
     R: System,
     W: SessionObserver,
     O: Output,
-    ensures status { IfOk result.answer (λ status. status ≤ 1) }
-    ensures write { result.answer ≡ Err (RunFault.Tool ToolFault.Write)
-        → CountsFault (O.fault_count output.old) (O.fault_count output.new) }
-    ensures no_other { IfErr result.answer IsSessionFault }
-    ensures reported { IfOk result.answer (λ status. IsReported run.now.task.now.side status
-        (O.written output.old) (O.written output.new)) }
+    ensures { AnswersCall IsSessionFault (IsReported run.now.task.now.side) result.answer
+        (O.written output.old) (O.written output.new)
+        (O.fault_count output.old) (O.fault_count output.new) }
 {
     let lock = match lock_device(run.alloc, run.rt, run.task.line.locks, path) {
         Ok(lock) => lock,
@@ -331,12 +313,9 @@ where
     R: System,
     W: SessionObserver,
     O: Output,
-    ensures status { IfOk result.answer (λ status. status ≤ 1) }
-    ensures write { result.answer ≡ Err (RunFault.Tool ToolFault.Write)
-        → CountsFault (O.fault_count output.old) (O.fault_count output.new) }
-    ensures no_other { IfErr result.answer IsSessionFault }
-    ensures reported { IfOk result.answer (λ status. IsReported run.now.task.now.side status
-        (O.written output.old) (O.written output.new)) }
+    ensures { AnswersCall IsSessionFault (IsReported run.now.task.now.side) result.answer
+        (O.written output.old) (O.written output.new)
+        (O.fault_count output.old) (O.fault_count output.new) }
 {
     let side = run.task.side;
     match called(port, run.station.wait_at_device(side)) {
@@ -392,12 +371,9 @@ where
     P: Port + Drop,
     W: SessionObserver,
     O: Output,
-    ensures status { IfOk result.answer (λ status. status ≤ 1) }
-    ensures write { result.answer ≡ Err (RunFault.Tool ToolFault.Write)
-        → CountsFault (O.fault_count output.old) (O.fault_count output.new) }
-    ensures no_other { IfErr result.answer IsSessionFault }
-    ensures reported { IfOk result.answer (λ status. IsReported run.now.task.now.side status
-        (O.written output.old) (O.written output.new)) }
+    ensures { AnswersCall IsSessionFault (IsReported run.now.task.now.side) result.answer
+        (O.written output.old) (O.written output.new)
+        (O.fault_count output.old) (O.fault_count output.new) }
 {
     let port = match port {
         Ok(port) => port,
@@ -468,13 +444,9 @@ where
     L: EndLine,
     W: SessionObserver,
     O: Output,
-    ensures status { IfOk result.answer (λ ended. ended.status ≤ 1) }
-    ensures write { result.answer ≡ Err (RunFault.Tool ToolFault.Write)
-        → CountsFault (O.fault_count output.old) (O.fault_count output.new) }
-    ensures no_other { IfErr result.answer IsFaultAtLine }
-    ensures reported { IfOk result.answer (λ ended. IsReported run.now.task.now.side ended.status
-        (O.written output.old) (O.written output.new)) }
-    ensures named { result.answer ≢ Err (RunFault.Tool ToolFault.Device) }
+    ensures { AnswersCall IsSessionFault (IsReported run.now.task.now.side)
+        (status_of result.answer) (O.written output.old) (O.written output.new)
+        (O.fault_count output.old) (O.fault_count output.new) }
 {
     match lock_again(run.alloc, run.rt, run.task.end_dir(), held) {
         Ok(lock) => {
@@ -517,15 +489,9 @@ where
     L: EndLine,
     W: SessionObserver,
     O: Output,
-    ensures status { IfOk result.answer (λ ended. ended.status ≤ 1) }
-    ensures write { result.answer ≡ Err (RunFault.Tool ToolFault.Write)
-        → CountsFault (O.fault_count output.old) (O.fault_count output.new) }
-    ensures no_other { IfErr result.answer IsFaultAtLine }
-    // The report is printed of an end that has run its session to its end, and the status is that of the session.
-    ensures reported { IfOk result.answer (λ ended. IsReported run.now.task.now.side ended.status
-        (O.written output.old) (O.written output.new)) }
-    // The call on the folder that failed is named.
-    ensures named { result.answer ≢ Err (RunFault.Tool ToolFault.Device) }
+    ensures { AnswersCall IsSessionFault (IsReported run.now.task.now.side)
+        (status_of result.answer) (O.written output.old) (O.written output.new)
+        (O.fault_count output.old) (O.fault_count output.new) }
 {
     let (alloc, rt, task) = (run.alloc, run.rt, run.task);
     let (numbers, parts) = match read_end(run, lock, line) {

@@ -1,11 +1,11 @@
 //! An end over a spool of Taylor UUCP, and the lock of the other system.
-ghost use Rattle.std.specs.Prelude.{◌≡◌, ◌≢◌, ◌≤◌, Err, IfErr, IfOk, OnErr, codes, false, string_bytes, true};
-ghost use Rattle.uug_failure.specs.Faults.{IsFaultAtLine, IsFolderFault, IsSessionFault};
+ghost use Rattle.std.specs.Prelude.{◌≡◌, ◌≢◌, Err, IfErr, IfOk, OnErr, codes, false, string_bytes, true};
+ghost use Rattle.uug_failure.specs.Faults.{IsFolderFault, IsSessionFault};
 ghost use Rattle.uug_spool.specs.SpoolNames.{is_system_name};
+ghost use Rattle.uug_spool_call.specs.CallAnswers.{AnswersCall, status_of};
 ghost use Rattle.uug_transfer.specs.Reported.{IsReported};
-ghost use Rattle.uug_stream.specs.Streams.{CountsFault};
 ghost use Rattle.uug_sys.specs.Callers.{other_than};
-ghost use Rattle.uug_sys.specs.Calls.{AreReported, HasCalled};
+ghost use Rattle.uug_sys.specs.Calls.{HasCalled, HasTalked};
 ghost use Rattle.uug_sys.specs.SpoolCalls.{IsCallOf, line_fault, port_of};
 ghost use Rattle.uug_sys.specs.SpoolLocks.{CallsLater, Says, is_locked, lock_words};
 ghost use Rattle.uug_transfer.specs.Writing.{TakesFront};
@@ -50,14 +50,9 @@ where
     R: System,
     W: SessionObserver,
     O: Output,
-    ensures status { IfOk result.answer (λ status. status ≤ 1) }
-    ensures write { result.answer ≡ Err (RunFault.Tool ToolFault.Write)
-        → CountsFault (O.fault_count output.old) (O.fault_count output.new) }
-    ensures no_other { IfErr result.answer IsSessionFault }
-    ensures reported { run.now.task.now.side ≡ Side.Caller → IfOk result.answer (λ status.
-        HasCalled status (O.written output.old) (O.written output.new)) }
-    ensures sessions { run.now.task.now.side ≡ Side.Called → IfOk result.answer (λ status.
-        AreReported Side.Called status (O.written output.old) (O.written output.new)) }
+    ensures { AnswersCall IsSessionFault (HasTalked run.now.task.now.side) result.answer
+        (O.written output.old) (O.written output.new)
+        (O.fault_count output.old) (O.fault_count output.new) }
 {
     if let Err(fault) = see_spool(run.alloc, run.rt, run.task.end_dir()) {
         return Outcome::of(run.alloc, Err(fault));
@@ -85,12 +80,9 @@ where
     W: SessionObserver,
     O: Output,
     requires lock { IfErr lock IsFolderFault }
-    ensures status { IfOk result.answer (λ status. status ≤ 1) }
-    ensures write { result.answer ≡ Err (RunFault.Tool ToolFault.Write)
-        → CountsFault (O.fault_count output.old) (O.fault_count output.new) }
-    ensures no_other { IfErr result.answer IsSessionFault }
-    ensures reported { run.now.task.now.side ≡ Side.Caller → IfOk result.answer (λ status.
-        HasCalled status (O.written output.old) (O.written output.new)) }
+    ensures answers { AnswersCall IsSessionFault (HasCalled run.now.task.now.side) result.answer
+        (O.written output.old) (O.written output.new)
+        (O.fault_count output.old) (O.fault_count output.new) }
     ensures calls_later { IfErr lock (λ fault. is_locked fault ≡ true
         → CallsLater run.now.task.now result.answer (string_bytes result.remark)) }
     ensures gives_up { IfErr lock (λ fault. is_locked fault ≡ false → result.answer ≡ Err fault) }
@@ -128,7 +120,6 @@ fn call_later<A: Allocator + Copy, R: System>(
     fault: RunFault,
 ) -> Outcome<u8, A>
     requires fault { IsFolderFault fault }
-    ensures status { IfOk result.answer (λ status. status ≤ 1) }
     ensures no_write { result.answer ≢ Err (RunFault.Tool ToolFault.Write) }
     ensures no_other { IfErr result.answer IsSessionFault }
     ensures later { IfOk result.answer (λ status. status ≡ 1) }
@@ -196,13 +187,9 @@ where
     L: EndLine,
     W: SessionObserver,
     O: Output,
-    ensures status { IfOk result (λ ended. ended.status ≤ 1) }
-    ensures write { result ≡ Err (RunFault.Tool ToolFault.Write)
-        → CountsFault (O.fault_count output.old) (O.fault_count output.new) }
-    ensures no_other { IfErr result IsFaultAtLine }
-    ensures reported { IfOk result (λ ended. IsReported run.now.task.now.side ended.status
-        (O.written output.old) (O.written output.new)) }
-    ensures named { result ≢ Err (RunFault.Tool ToolFault.Device) }
+    ensures { AnswersCall IsSessionFault (IsReported run.now.task.now.side) (status_of result)
+        (O.written output.old) (O.written output.new)
+        (O.fault_count output.old) (O.fault_count output.new) }
 {
     if run.task.side == Side::Caller {
         return talk_with(run, line, output);
@@ -307,13 +294,9 @@ where
     L: EndLine,
     O: Output,
     requires lock { IfErr lock IsFolderFault }
-    ensures status { IfOk result (λ ended. ended.status ≤ 1) }
-    ensures write { result ≡ Err (RunFault.Tool ToolFault.Write)
-        → CountsFault (O.fault_count output.old) (O.fault_count output.new) }
-    ensures no_other { IfErr result IsFaultAtLine }
-    ensures reported { IfOk result (λ ended. IsReported run.now.task.now.side ended.status
-        (O.written output.old) (O.written output.new)) }
-    ensures named { result ≢ Err (RunFault.Tool ToolFault.Device) }
+    ensures answers { AnswersCall IsSessionFault (IsReported run.now.task.now.side)
+        (status_of result) (O.written output.old) (O.written output.new)
+        (O.fault_count output.old) (O.fault_count output.new) }
     ensures gives_up { IfErr lock (λ fault. is_locked fault ≡ false → result ≡ Err fault) }
     ensures silent { IfErr lock (λ fault. is_locked fault ≡ false
         → O.written output.new ≡ O.written output.old) }
@@ -350,12 +333,9 @@ where
     L: EndLine,
     O: Output,
     requires fault { IsFolderFault fault }
-    ensures status { IfOk result (λ ended. ended.status ≤ 1) }
-    ensures write { result ≡ Err (RunFault.Tool ToolFault.Write)
-        → CountsFault (O.fault_count output.old) (O.fault_count output.new) }
-    ensures no_other { IfErr result IsSessionFault }
-    ensures reported { IfOk result (λ ended. IsReported run.now.task.now.side ended.status
-        (O.written output.old) (O.written output.new)) }
+    ensures answers { AnswersCall IsSessionFault (IsReported run.now.task.now.side)
+        (status_of result) (O.written output.old) (O.written output.new)
+        (O.fault_count output.old) (O.fault_count output.new) }
     ensures gives_up { is_locked fault ≡ false → result ≡ Err fault }
     ensures silent { is_locked fault ≡ false → O.written output.new ≡ O.written output.old }
     ensures unread { L.received line.new ≡ L.received line.old }
@@ -392,12 +372,9 @@ where
     A: Allocator + Copy,
     R: System,
     O: Output,
-    ensures status { IfOk result (λ ended. ended.status ≤ 1) }
-    ensures write { result ≡ Err (RunFault.Tool ToolFault.Write)
-        → CountsFault (O.fault_count output.old) (O.fault_count output.new) }
-    ensures no_other { IfErr result IsSessionFault }
-    ensures reported { IfOk result (λ ended. IsReported run.now.task.now.side ended.status
-        (O.written output.old) (O.written output.new)) }
+    ensures { AnswersCall IsSessionFault (IsReported run.now.task.now.side) (status_of result)
+        (O.written output.old) (O.written output.new)
+        (O.fault_count output.old) (O.fault_count output.new) }
 {
     let mut line = PortLine::new(run.rt, SilentPort, run.station.pace);
     talk_with(&run.with_peer(nobody()), &mut line, output)
@@ -414,13 +391,9 @@ where
     R: System,
     L: EndLine,
     O: Output,
-    ensures status { IfOk result (λ ended. ended.status ≤ 1) }
-    ensures write { result ≡ Err (RunFault.Tool ToolFault.Write)
-        → CountsFault (O.fault_count output.old) (O.fault_count output.new) }
-    ensures no_other { IfErr result IsFaultAtLine }
-    ensures reported { IfOk result (λ ended. IsReported run.now.task.now.side ended.status
-        (O.written output.old) (O.written output.new)) }
-    ensures named { result ≢ Err (RunFault.Tool ToolFault.Device) }
+    ensures { AnswersCall IsSessionFault (IsReported run.now.task.now.side) (status_of result)
+        (O.written output.old) (O.written output.new)
+        (O.fault_count output.old) (O.fault_count output.new) }
 {
     let call = said_of(run.task);
     let limits = run.station.limits();
