@@ -45,9 +45,7 @@ pub record PrintsReport (task : CallTask) : Type 0 where
 -- and the status is that of this session. Or another run talks with that system, and nothing is printed. A called end
 -- prints one or more of these reports, one after the other, and its status is the greatest of theirs.
 pub record Calls (task : CallTask) (s : Streams) (answer : Result ℕ RunFault) : Type 0 where
-  pub status : IfOk answer (λ status. status ≤ 1)
-  pub reads : StaysUnread s
-  pub no_other : IfErr answer IsRunFault
+  pub run : Pairs s answer
   pub reported : PrintsReport task → IfOk answer (λ status. HasTalked task.side status s.before s.after)
 
 -- `queue`: the same as `pair`, but the status is 0, and a file that can't be read is a fault too

@@ -1,8 +1,8 @@
 //! Runs one end or both, with their log and their messages in addition to the report.
 ghost use Rattle.std.specs.Prelude.{◌≡◌, ◌≤◌, IfErr, IfOk};
 ghost use Rattle.uug_failure.specs.Faults.{IsFolderFault, IsRunFault};
+ghost use Rattle.uug_spool_call.specs.CallAnswers.{AnswersCall};
 ghost use Rattle.uug_stop.specs.declared.of_end.TheConstants.{LOG};
-ghost use Rattle.uug_stream.specs.Streams.{CountsFault};
 ghost use Rattle.uug_sys.specs.Calls.{HasTalked};
 ghost use Rattle.uucpair.specs.Performed.{PrintsReport};
 
@@ -219,12 +219,9 @@ fn do_call_over<'a, R, O>(
 where
     R: System,
     O: Output,
-    ensures status { IfOk result.answer (λ status. status ≤ 1) }
-    ensures write { result.answer ≡ Err (RunFault.Tool ToolFault.Write)
-        → CountsFault (O.fault_count output.old) (O.fault_count output.new) }
-    ensures no_other { IfErr result.answer IsRunFault }
-    ensures reported { IfOk result.answer (λ status. HasTalked call.now.side status
-        (O.written output.old) (O.written output.new)) }
+    ensures { AnswersCall IsRunFault (HasTalked call.now.side) result.answer
+        (O.written output.old) (O.written output.new)
+        (O.fault_count output.old) (O.fault_count output.new) }
 {
     let mut observer = match observer_of(rt, call, console) {
         Ok(observer) => observer,
