@@ -281,7 +281,8 @@ where
         (O.written output.old) (O.written output.new)
         (O.fault_count output.old) (O.fault_count output.new) }
 {
-    let lock = match lock_device(run.alloc, run.rt, run.task.line.locks, path) {
+    let task = run.task;
+    let lock = match lock_device(run.alloc, run.rt, task.line.locks, path) {
         Ok(lock) => lock,
         Err(fault) => {
             drop(held);
@@ -289,7 +290,7 @@ where
         }
     };
     if lock.is_none() {
-        tell_unlocked(run.alloc, run.rt, run.task);
+        tell_unlocked(run.alloc, run.rt, task);
     }
     let port = DevicePort::open(run.alloc, run.rt, path, run.station.time());
     let outcome = talk_when_called(run, held, port, observer, output);
@@ -406,9 +407,9 @@ fn told<A: Allocator + Copy, R: System>(
 {
     let Outcome { answer, remark } = ended;
     let (answer, failure) = status_and_failure(answer, line);
-    log_failure(run.alloc, run.rt, run.task, &failure);
-    let (line, dir) = (run.task.line.name, run.task.dir);
-    let failed = failure_remark(run.alloc, line, dir, failure);
+    let task = run.task;
+    log_failure(run.alloc, run.rt, task, &failure);
+    let failed = failure_remark(run.alloc, task.line.name, task.dir, failure);
     Outcome {
         answer,
         remark: with_part(remark, failed),

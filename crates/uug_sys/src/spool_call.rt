@@ -349,9 +349,9 @@ where
     if !is_locked(&fault) {
         return Err(fault);
     }
-    let (alloc, rt, place) = (run.alloc, run.rt, run.station.place);
-    tell_fault(alloc, rt, &said_of(run.task), place.peer, LOCKED);
-    say_locked(alloc, rt, run.task.line.locks, place.peer);
+    let (alloc, rt, task, place) = (run.alloc, run.rt, run.task, run.station.place);
+    tell_fault(alloc, rt, &said_of(task), place.peer, LOCKED);
+    say_locked(alloc, rt, task.line.locks, place.peer);
     let words = lock_words(alloc, &place.me)?;
     let _ = say(line, words.as_slice());
     talk_to_nobody(run, output)
