@@ -35,7 +35,7 @@ record AreGiven : Type 0 where
   alone : is_given (codes "~/out") (codes "~/out/x") ≡ true
   alone_above : is_given (codes "~/out") (codes "x") ≡ false
   hidden : is_given (codes "~") (codes "~/out/.x") ≡ false
-  deeper : is_given (codes "~") (codes "~/out/deep/x") ≡ false
+  deeper : is_given (codes "~") (codes "~/out/deep/x") ≡ true
   mail : is_given (codes "~") (codes "D.alphaN0001") ≡ false
 
 given : AreGiven
