@@ -609,6 +609,68 @@ def scene_folders(scene: Scene, who: str, role: str) -> None:
         scene.row(f"{name}: the other hears of each that is refused: {denied}", denied == 2 * (3 - len(are_open)))
 
 
+def scene_elsewhere(scene: Scene, who: str, role: str) -> None:
+    """A folder outside the public folder, on another disk, from which files are given and into which they are taken."""
+    ours, other = (scene.alpha, scene.beta) if role == "calls" else (scene.beta, scene.alpha)
+    command = " ".join(scene.beta.words(who if role == "answers" else "taylor", "-q"))
+    disk = ours.folder / "disk"
+    disk.mkdir()
+    subprocess.run(["mount", "-t", "tmpfs", "none", disk], check=True)
+    try:
+        for folders, is_given, is_below_given in (
+            ("~", False, False),
+            (f"~ {disk}/ftp", True, True),
+            (f"{disk}/ftp/", True, True),
+            (f"{disk}/ftp !{disk}/ftp/in", True, False),
+            (f"~ {disk}/ftp/in", False, True),
+        ):
+            rules = {ours.name: [f"{keyword} {folders}" for keyword in ("remote-send", "remote-receive")], other.name: []}
+            scene.alpha.put("sys", "")
+            scene.beta.put("sys", "")
+            scene.alpha.knows("beta", "time any", "protocol g", 'chat ""', "port type pipe", f"port command {command}", *rules["alpha"])
+            scene.beta.knows("alpha", "protocol g", *rules["beta"])
+            empty_public(ours)
+            empty_public(other)
+            (other.folder / "pub/file").write_text("text\n")
+            shutil.rmtree(disk / "ftp", ignore_errors=True)
+            for folder in ("ftp", "ftp/in"):
+                (disk / folder).mkdir()
+                (disk / folder).chmod(0o777)
+                (disk / folder / "x").write_text("text\n")
+                for words in (
+                    (f"{ours.name}!{disk}/{folder}/x", f"~/asked-{Path(folder).name}"),
+                    (f"{other.folder}/pub/file", f"{ours.name}!{disk}/{folder}/sent"),
+                    (f"{other.folder}/pub/file", f"{ours.name}!{disk}/{folder}/"),
+                ):
+                    as_uucp(["uucp", "-I", str(other.config), "-r", *words]).wait()
+            other.put("log/Log", "")
+            status = scene.alpha.run(who if role == "calls" else "taylor", "-q", "-S", "beta")
+            wait_until(lambda: not scene.beta.locks(), 5)
+            name = f"{folders.replace(str(disk), '')!r}, {who} {role}"
+            scene.row(f"{name}: the call is done", status == 0)
+            for folder, is_open in (("ftp", is_given), ("ftp/in", is_below_given)):
+                asked = text_of(other.folder / "pub" / f"asked-{Path(folder).name}")
+                sent = [text_of(disk / folder / name) for name in ("sent", "file")]
+                there = sorted(path.name for path in (disk / folder).iterdir() if path.is_file())
+                scene.row(f"{name}: {folder}: given: {asked!r}", asked == "text\n" * is_open)
+                scene.row(f"{name}: {folder}: taken: {sent}", sent == ["text\n" * is_open] * 2)
+                scene.row(f"{name}: {folder}: nothing else is there: {there}", there == ["file", "sent", "x"] if is_open else ["x"])
+            scene.row(f"{name}: nothing is queued", not other.queued(ours.name))
+        if who == "ours":
+            sealed = disk / "ftp/in"
+            shutil.chown(sealed, "root", "root")
+            sealed.chmod(0o755)
+            other.put("log/Log", "")
+            as_uucp(["uucp", "-I", str(other.config), "-r", f"{other.folder}/pub/file", f"{ours.name}!{sealed}/more"]).wait()
+            status = scene.alpha.run(who if role == "calls" else "taylor", "-q", "-S", "beta")
+            wait_until(lambda: not scene.beta.locks(), 5)
+            scene.row(f"{role}: a call for a folder in which nothing can be created is done", status == 0)
+            scene.row(f"{role}: it is refused", "permission denied by remote" in other.log() and not (sealed / "more").exists())
+            scene.row(f"{role}: nothing of it is queued", not other.queued(ours.name))
+    finally:
+        subprocess.run(["umount", disk], check=False)
+
+
 def scene_places(scene: Scene, who: str) -> None:
     """A file goes to the path that its job names below the public folder, and missing folders are created."""
     command = " ".join(scene.beta.words(who, "-q"))
@@ -1599,6 +1661,7 @@ PARTS = {
     "called_chat": PEERS,
     "work_of_grades": PEERS,
     "folders": (("ours", "calls"), ("ours", "answers"), ("taylor", "calls"), ("taylor", "answers")),
+    "elsewhere": (("ours", "calls"), ("ours", "answers"), ("taylor", "calls"), ("taylor", "answers")),
     "places": (("ours",), ("taylor",)),
     "requests": (("ours", "calls"), ("ours", "answers"), ("taylor", "calls"), ("taylor", "answers")),
     "unknown": (("ours",), ("taylor",)),

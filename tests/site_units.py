@@ -627,10 +627,12 @@ def rows_of_folders(folder: Path) -> Iterator[Row]:
         ("!~/x", "!~/x", True),
         ("!/srv/pub/x", "!~/x", True),
         ("!~/x/y", "!~/x/y", True),
-        ("/srv/pu", None, False),
-        ("/home/ftp", None, False),
-        ("!/etc", None, True),
-        ("~/../x", None, False),
+        ("/srv/pu", "/srv/pu", True),
+        ("/home/ftp/", "/home/ftp", True),
+        ("!/etc", "!/etc", True),
+        ("~/../x", "/srv/x", True),
+        ("/home/.ftp", None, False),
+        ("/home/~ftp/x", None, False),
         ("~nobody-has-this-name/x", None, False),
     ):
         yield f"the rule of {word}", folders.rule_of(word, "/srv/pub/"), rule
@@ -639,9 +641,9 @@ def rows_of_folders(folder: Path) -> Iterator[Row]:
     for gives, takes, words in (
         (["~"], ["/"], []),
         ([], ["~"], ["--give", "none"]),
-        (["/p"], ["/x"], ["--take", "none"]),
+        (["/p"], ["/x"], ["--take", "/x"]),
         (["/", "!~"], [], ["--give", "~ !~", "--take", "none"]),
-        (["~", "!~/x", "!/etc"], ["~/in", "/home/ftp"], ["--give", "~ !~/x", "--take", "~/in"]),
+        (["~", "!~/x", "!/etc"], ["~/in", "/home/ftp"], ["--give", "~ !~/x !/etc", "--take", "~/in /home/ftp"]),
     ):
         one = Alternate(public="/p/", gives=gives, takes=takes)
         yield f"folders {gives}, {takes}", folders.folder_words(one, one.public), words
@@ -1080,11 +1082,11 @@ def rows_of_check(folder: Path) -> Iterator[Row]:
         ("port:3", "system near", "seven-bit"),
     ]
     (folder / "lists").mkdir()
-    lists = site_of(folder / "lists", sys="system far\ntime any\nremote-send ~ !~/x ~/y\nremote-receive /srv ~ /home/ftp ~/a/b\n")
+    lists = site_of(folder / "lists", sys="system far\ntime any\nremote-send ~ !~/x ~/y\nremote-receive / ~ /home/.ftp ~/a/b\n")
     said = [(row.verdict, row.note.split(":")[0]) for row in check.rows_of(lists) if row.text.startswith("remote-")]
     yield "lists of folders", said, [
-        ("honoured", "the public folder, and folders below it"),
-        ("ignored", "/srv /home/ftp"),
+        ("honoured", "the public folder, and folders below it and elsewhere"),
+        ("ignored", "/ /home/.ftp"),
     ]
     yield "a keyword that is there often", [
         check.place_of(often, name, obstacles.Obstacle("protocol", "", "")).rpartition("/")[2] for name in ("far", "near")

@@ -13,7 +13,7 @@ HONOURED, IGNORED, STOPS = "honoured", "ignored", "stops the call"
 SECRET = ("call-password",)
 UUXQT = "uuxqt does it"
 FOLDERS = ("remote-send", "remote-receive")
-ELSEWHERE = "what is not below the public folder is refused: `pubdir` names another"
+NOT_OPENED = "what is above the public folder opens that alone, and a path with a hidden part nothing: name the folders"
 # What is done with each keyword; where nothing is said, as with `time`, it is honoured. What stops a call is in `obstacles`.
 KEYWORDS = {
     "sys": {
@@ -36,7 +36,7 @@ KEYWORDS = {
         "max-file-time": (IGNORED, "g sends one file at a time"),
         "local-send": (HONOURED, "uucp does it"),
         "local-receive": (IGNORED, "what is asked for goes to the public folder, and a job for elsewhere is given up"),
-        **dict.fromkeys(FOLDERS, (HONOURED, "the public folder, and folders below it")),
+        **dict.fromkeys(FOLDERS, (HONOURED, "the public folder, and folders below it and elsewhere")),
     },
     "port": {
         **dict.fromkeys(
@@ -114,7 +114,7 @@ def lines_of(site: Site, kind: str, path: str) -> Iterator[Row]:
         verdict = verdict_of(kind, words)
         shut = [word for word in words[1:] if words[0] in FOLDERS and not is_honoured(word, publics)]
         if shut:
-            verdict = IGNORED, f"{' '.join(shut)}: {ELSEWHERE}"
+            verdict = IGNORED, f"{' '.join(shut)}: {NOT_OPENED}"
         yield Row(f"{path}:{number}", text, *verdict)
 
 

@@ -113,11 +113,11 @@ def spool_trial(one, nodes, number, victim, front):
     return faults
 
 
-def spool_sweep(one, what, victim, front, least, first, step):
+def spool_sweep(one, what, victim, front, least, first, step, nodes=None):
     """The same over a spool, whose victim runs under the command that `front` has for the number of a call."""
     from spools import Nodes
 
-    nodes = Nodes(one)
+    nodes = nodes or Nodes(one)
     spool_trial(one, nodes, 0, victim, front(one, NEVER))
     swept(one, f"{what} {victim} over a spool", count_of(one), least,
             lambda when: spool_trial(one, nodes, when, victim, front(one, when)), first, step)
@@ -130,6 +130,17 @@ def kill(one, when):
 @at_both_ends("strace")
 def kills_over_a_spool_of(one, end):
     spool_sweep(one, "kills of", end, kill, 10, 1, 2)
+
+
+@scene("root", "strace")
+def kills_with_the_public_folder_on_another_disk(one):
+    """What came is copied there beside its place, synced, and renamed."""
+    from spools import Nodes
+
+    nodes = Nodes(one)
+    one.mount(nodes.at("beta", "pub"), "1m")
+    spool_sweep(one, "kills, with its public folder on another disk, of", "beta", kill, 10, 1, 2, nodes)
+    one.row("no copy is left there", [name for name in nodes.pub("beta") if not name.startswith("f")], [])
 
 
 def order_of(trace, path):

@@ -417,6 +417,26 @@ def spools_on_a_full_disk(one):
             (filler("mail", 9000), {"f": filler("f", 9000)}))
 
 
+@scene("root")
+def a_public_folder_on_a_full_disk(one):
+    """A file for which the public folder's disk has no room costs a session, and holds up nothing behind it."""
+    nodes = Nodes(one)
+    one.mount(nodes.at("beta", "pub"), "100k")
+    long = filler("long", 300_000)
+    nodes.queue("alpha", "C.A1", "S D.0001 ~/long u -C D.0001 0644 ", _0001=long)
+    nodes.mail("alpha", "0003", "mail\n")
+    caller, called = nodes.talk()
+    one.row("the first session", (caller.status, called.status, called.out), (1, 1, report("called", "spoolfault")))
+    caller, called = nodes.talk()
+    one.row("the next one", (caller.status, caller.out, called.status, called.out),
+            (0, report("caller", struck=2, failed=["send D.0001 ~/long u"]), 0, report("called")))
+    one.row("it is set aside, and said", (text_of(nodes.at("beta", "spool/.Preserve/alpha.long")) == long, any("no space left" in line for line in nodes.log("beta"))),
+            (True, True))
+    one.row("nothing of it is in the public folder", nodes.pub("beta"), {})
+    one.row("the mail has come", text_of(nodes.at("beta", "spool/alpha/D./D.alphaN0003")), "mail\n")
+    one.row("nothing waits", sorted(name for name in nodes.there("alpha") if name.startswith("beta/C.")), [])
+
+
 @scene()
 def jobs_that_are_given_up(one):
     """A job that is refused is preserved, told and mailed of, and nothing of it is overwritten."""
@@ -661,6 +681,45 @@ def places_in_the_public_folder(one):
     one.row("what has come", nodes.pub("beta"), {name: "f\n" for name in taken.values()} | {"plain": "plain\n"})
     one.row("nothing is elsewhere", (names_in(nodes.at("beta", "elsewhere")), names_in(nodes.at("beta")), nodes.there("beta")),
             ([], ["Log", "Stats", "elsewhere", "lock", "pub", "spool", "src"], {}))
+
+
+@scene("root")
+def folders_elsewhere(one):
+    """A list may name a folder outside the public folder, here on another disk: its files are given, and files are taken into it."""
+    nodes = Nodes(one)
+    src, disk = nodes.at("alpha", "src"), one.path("disk")
+    one.mount(disk, "1m")
+    ftp = f"{disk}/ftp"
+    for path in ("ftp/x", "ftp/in/x", "ftp/sealed/x", "other/x", "ftp/shut/x"):
+        write(f"{disk}/{path}", f"{path}\n")
+        os.chmod(f"{disk}/{path}", 0o644)
+    write(f"{src}/f", "f\n")
+    os.symlink("../other", f"{ftp}/link")
+    nodes.known("beta", "alpha")
+    asked = {f"{ftp}/x": True, f"{ftp}/in/x": True, f"{ftp}/sealed/x": True, f"{ftp}/shut/x": False, f"{disk}/other/x": False,
+             f"{ftp}/link/x": False, f"{ftp}/../other/x": False}
+    taken = {f"{ftp}/a": "a", ftp: "f", f"{ftp}/in/": "in/f", f"{ftp}/in/b": "in/b", f"{ftp}/x": "x"}
+    refused = [f"{ftp}/{name}" for name in ("new/x", ".x", "link/x", "../other/y", "sealed/y", "shut/y")] + [f"{disk}/other/y", f"{ftp}2/y"]
+    for number, path in enumerate(asked):
+        nodes.queue("alpha", f"C.A{number}", f"R {path} ~/got{number} u -d")
+    for number, target in enumerate([*taken, *refused]):
+        nodes.queue("alpha", f"C.N{number:02}", f"S {src}/f {target} u -c D.0 0644 ")
+    nodes.own()
+    os.chown(f"{ftp}/sealed", 0, 0)
+    os.chmod(one.work, 0o755)
+    folders = f"~ {ftp} !{ftp}/shut"
+    called = nodes.answer("beta", "--give", folders, "--take", folders, peer="alpha", own=False)
+    caller, called = nodes.call("alpha", own=False), called.end()
+    failed = [f"request {path} ~/got{number} u" for number, (path, is_given) in enumerate(asked.items()) if not is_given]
+    one.row("call", caller.all(), (0, report("caller", struck=len(taken) + sum(asked.values()),
+            failed=[*failed, *(f"send {src}/f {target} u" for target in refused)]), ""))
+    one.row("answer", called.all(), (0, report("called"), ""))
+    one.row("what was given", nodes.pub("alpha"),
+            {f"got{number}": f"{path[len(disk) + 1:]}\n" for number, (path, is_given) in enumerate(asked.items()) if is_given})
+    there = {name: contents.decode() for name, contents in files_below(disk).items() if not name.startswith("ftp/link")}
+    one.row("what was taken", there, {"ftp/in/x": "ftp/in/x\n", "ftp/sealed/x": "ftp/sealed/x\n", "other/x": "other/x\n",
+            "ftp/shut/x": "ftp/shut/x\n"} | {f"ftp/{name}": "f\n" for name in taken.values()})
+    one.row("nothing is left", (nodes.there("beta"), nodes.pub("beta")), ({}, {}))
 
 
 @scene("root")

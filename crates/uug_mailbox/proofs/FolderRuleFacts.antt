@@ -19,7 +19,13 @@ record AreAllowed : Type 0 where
   slash_last_barred : is_allowed (codes "~/ !~/in/") (codes "in/x") ≡ false
   last_decides : is_allowed (codes "!~/in ~") (codes "in/x") ≡ true
   barred_at_first : is_allowed (codes "!~/in") (codes "x") ≡ false
-  elsewhere : is_allowed (codes "/srv") (codes "srv/x") ≡ false
+  elsewhere : is_allowed (codes "/srv") (codes "/srv/x") ≡ true
+  elsewhere_deep : is_allowed (codes "/srv/") (codes "/srv/in/x") ≡ true
+  elsewhere_same_front : is_allowed (codes "/srv") (codes "/srv2/x") ≡ false
+  elsewhere_barred : is_allowed (codes "/srv !/srv/in") (codes "/srv/in/x") ≡ false
+  elsewhere_of_all : is_allowed (codes "~ ~/") (codes "/srv/x") ≡ false
+  elsewhere_by_its_name : is_allowed (codes "~/srv") (codes "/srv/x") ≡ false
+  below_of_elsewhere : is_allowed (codes "/srv") (codes "srv/x") ≡ false
 
 allowed : AreAllowed
 allowed = record {
@@ -40,4 +46,10 @@ allowed = record {
   last_decides = refl;
   barred_at_first = refl;
   elsewhere = refl;
+  elsewhere_deep = refl;
+  elsewhere_same_front = refl;
+  elsewhere_barred = refl;
+  elsewhere_of_all = refl;
+  elsewhere_by_its_name = refl;
+  below_of_elsewhere = refl;
 }

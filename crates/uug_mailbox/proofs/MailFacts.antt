@@ -6,12 +6,13 @@ use Rattle.uug_conversation.specs.declared.job.Job.TheVariants as job
 use Rattle.uug_spool.specs.DiskOrder.{replaced_ops}
 use Rattle.uug_spool.specs.Operations.{folder_synced, renamed, unlinked}
 use Rattle.uug_spool.specs.SpoolNames.{spot}
+use Rattle.uug_talk.specs.Words.{words}
 use Rattle.uug_spool.specs.declared.spool_names.Room.TheVariants as rooms
 use Rattle.uug_mailbox.specs.Offers.{offer_of}
 use Rattle.uug_mailbox.specs.OpenLines.{file_lines, line_of, lines_left}
 use Rattle.uug_mailbox.specs.OverOrder.{store_ops}
 use Rattle.uug_mailbox.specs.MailHoldings.{delayed_in}
-use Rattle.uug_mailbox.specs.Places.{Public, is_public_path, landing, place_in, takes, temp_name}
+use Rattle.uug_mailbox.specs.Places.{Public, all_elsewhere, is_public_path, landing, place_in, takes, temp_name}
 use Rattle.uug_mailbox.specs.Placing.{end_ops, is_again, marks_after, names_data, no_marks}
 use Rattle.uug_mailbox.specs.Rewriting.{settling_ops}
 use Rattle.uug_mailbox.specs.declared.marks.Came.{Came}
@@ -155,7 +156,7 @@ names_nothing = refl
 -- ---- places
 
 abbrev public : Public
-public = record { folders = codes "in" ∷ codes "shut" ∷ codes "in/deep" ∷ []; others = codes "theirs" ∷ codes "in/theirs" ∷ codes "in/f" ∷ []; barred = codes "theirs" ∷ codes "in/theirs" ∷ []; is_closed = false; delayed = codes "late" ∷ codes "~/in/late" ∷ []; is_unknown = false; taken = codes "~ !~/shut" }
+public = record { folders = codes "in" ∷ codes "shut" ∷ codes "in/deep" ∷ codes "sealed" ∷ codes "/home/ftp" ∷ codes "/home/ftp/in" ∷ []; others = codes "theirs" ∷ codes "in/theirs" ∷ codes "in/f" ∷ []; barred = codes "theirs" ∷ codes "in/theirs" ∷ codes "sealed" ∷ codes "/home/ftp/theirs" ∷ []; is_closed = false; delayed = codes "late" ∷ codes "~/in/late" ∷ []; is_unknown = false; taken = codes "~ !~/shut /home/ftp/in" }
 
 -- one in which this program may create nothing
 abbrev closed_public : Public
@@ -175,6 +176,9 @@ record AreLanded : Type 0 where
   mail : landing public (codes "D.0001") (codes "D.alphaN0001") ≡ codes "D.alphaN0001"
   upwards : place_in public (landing public (codes "/srv/..") (codes "~/")) ≡ None
   hidden : place_in public (landing public (codes "/srv/.f") (codes "~/in")) ≡ None
+  elsewhere : landing public (codes "/srv/f") (codes "/home/ftp") ≡ codes "/home/ftp/f"
+  elsewhere_slash : landing public (codes "/srv/f") (codes "/home/ftp/in/") ≡ codes "/home/ftp/in/f"
+  elsewhere_new : landing public (codes "/srv/f") (codes "/home/ftp/new/") ≡ codes "/home/ftp/new/"
 
 are_landed : AreLanded
 unfolding rsplit_once
@@ -192,6 +196,9 @@ are_landed = record {
   mail = refl;
   upwards = refl;
   hidden = refl;
+  elsewhere = refl;
+  elsewhere_slash = refl;
+  elsewhere_new = refl;
 }
 
 record ArePlaced : Type 0 where
@@ -220,6 +227,16 @@ record ArePlaced : Type 0 where
   hidden : place_in public (codes "~/in/.x") ≡ None
   no_name : place_in public (codes "~/in/") ≡ None
   temp : temp_name (spot rooms.Public (codes "in/x")) ≡ codes "x"
+  sealed : place_in public (codes "~/sealed/x") ≡ None
+  elsewhere : place_in public (codes "/home/ftp/x") ≡ Some (spot rooms.Public (codes "/home/ftp/x"))
+  elsewhere_below : place_in public (codes "/home/ftp/in/x") ≡ Some (spot rooms.Public (codes "/home/ftp/in/x"))
+  elsewhere_folder : place_in public (codes "/home/ftp/in") ≡ None
+  elsewhere_taken : place_in public (codes "/home/ftp/theirs") ≡ None
+  elsewhere_new : place_in public (codes "/home/ftp/new/x") ≡ None
+  elsewhere_hidden : place_in public (codes "/home/ftp/.x") ≡ None
+  elsewhere_upwards : place_in public (codes "/home/ftp/../x") ≡ None
+  elsewhere_same_front : place_in public (codes "/home/ftp2/x") ≡ None
+  elsewhere_temp : temp_name (spot rooms.Public (codes "/home/ftp/x")) ≡ codes "x"
 
 are_placed : ArePlaced
 unfolding rsplit_once
@@ -249,6 +266,16 @@ are_placed = record {
   hidden = refl;
   no_name = refl;
   temp = refl;
+  sealed = refl;
+  elsewhere = refl;
+  elsewhere_below = refl;
+  elsewhere_folder = refl;
+  elsewhere_taken = refl;
+  elsewhere_new = refl;
+  elsewhere_hidden = refl;
+  elsewhere_upwards = refl;
+  elsewhere_same_front = refl;
+  elsewhere_temp = refl;
 }
 
 record AreTaken : Type 0 where
@@ -259,10 +286,12 @@ record AreTaken : Type 0 where
   new_folder : takes public (codes "~/out/x") ≡ true
   no_place : takes public (codes "~/theirs/x") ≡ false
   mail : takes public (codes "D.alphaN0001") ≡ true
+  elsewhere : takes public (codes "/home/ftp/in/x") ≡ true
+  elsewhere_unlisted : takes public (codes "/home/ftp/x") ≡ false
 
 are_taken : AreTaken
 unfolding rsplit_once
-are_taken = record { top = refl; below = refl; shut = refl; shut_below = refl; new_folder = refl; no_place = refl; mail = refl }
+are_taken = record { top = refl; below = refl; shut = refl; shut_below = refl; new_folder = refl; no_place = refl; mail = refl; elsewhere = refl; elsewhere_unlisted = refl }
 
 record ArePaths : Type 0 where
   top : is_public_path (codes "x") ≡ true
@@ -278,6 +307,10 @@ record ArePaths : Type 0 where
   late : delayed_in public (codes "~/late") (Some (codes "late")) ≡ true
   late_below : delayed_in public (codes "~/in/late") (Some (codes "in/late")) ≡ true
   no_late : delayed_in public (codes "~/in/x") (Some (codes "in/x")) ≡ false
+  elsewhere : is_public_path (codes "/home/ftp/x") ≡ true
+  elsewhere_top : is_public_path (codes "/x") ≡ false
+  elsewhere_hidden : is_public_path (codes "/home/.ftp/x") ≡ false
+  elsewhere_listed : all_elsewhere (words (codes "~ /home/ftp/ !/srv /home/.x / ~/in /srv/in")) ≡ codes "/home/ftp" ∷ codes "/srv/in" ∷ []
 
 are_paths : ArePaths
 unfolding rsplit_once
@@ -295,4 +328,8 @@ are_paths = record {
   late = refl;
   late_below = refl;
   no_late = refl;
+  elsewhere = refl;
+  elsewhere_top = refl;
+  elsewhere_hidden = refl;
+  elsewhere_listed = refl;
 }

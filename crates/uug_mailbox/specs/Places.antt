@@ -1,10 +1,10 @@
--- Where a file that another system sends is stored, given the contents of the public folder when the session begins
--- (that a folder takes a file under the last part of its source's name, and that missing folders are created, is what
--- Taylor UUCP 1.07 does; which places are barred is this project's profile).
+-- Where a file that another system sends is stored, given the contents of the public folder, and of the listed folders
+-- elsewhere, when the session begins (that a folder takes a file under the last part of its source's name, and that
+-- missing folders are created, is what Taylor UUCP 1.07 does; which places are barred is this project's profile).
 use Rattle.std.specs.List.{ends_with, list_any}
 use Rattle.std.specs.Option.{option_map, unwrap_or}
 use Rattle.std.specs.Path.{rsplit_once, slash}
-use Rattle.std.specs.Prelude.{◌==◌, ◌&&◌, ◌||◌, not, ℕ, Bool, true, false, List, [], ◌∷◌, ◌++◌, length, codes, is_none, nat_eq, string_bytes, Option, Some, None, Result, Ok, Err, if◌then◌else◌}
+use Rattle.std.specs.Prelude.{◌==◌, ◌&&◌, ◌||◌, not, ℕ, Bool, true, false, List, [], ◌∷◌, ◌++◌, length, codes, is_none, nat_eq, string_bytes, drop, Option, Some, None, Result, Ok, Err, if◌then◌else◌}
 use Rattle.uug_conversation.specs.MemoryHoldings.{has_name}
 use Rattle.uug_talk.specs.Name.{name_of}
 use Rattle.uug_spool.specs.SpoolNames.{begins_with, local_name, spot, spot_of}
@@ -12,16 +12,16 @@ use Rattle.uug_spool.specs.declared.spool_names.Barred.{Barred}
 use Rattle.uug_spool.specs.declared.spool_names.Room.{Room}
 use Rattle.uug_spool.specs.declared.spool_names.Room.TheVariants as rooms
 use Rattle.uug_spool.specs.declared.spool_names.Spot.{Spot}
-use Rattle.uug_mailbox.specs.FolderRules.{is_allowed, is_in, without_slash}
+use Rattle.uug_mailbox.specs.FolderRules.{is_allowed, is_in, is_whole, without_slash}
 use Rattle.uug_mailbox.specs.declared.places.PublicFolder.{PublicFolder}
 
 -- the public folder, as it is when the session begins
 pub record Public : Type 0 where
-  -- the paths of the folders below it
+  -- the paths of the folders below it, and the whole paths of the listed folders elsewhere and of those below them
   pub folders : List (List ℕ)
-  -- the paths of everything else below it: files, links
+  -- the paths of everything else in these folders: files, links
   pub others : List (List ℕ)
-  -- the paths under which no file can be stored there
+  -- the paths of the files that can't be replaced, and of the folders in which no file can be stored
   pub barred : List (List ℕ)
   -- no file can be stored there at all
   pub is_closed : Bool
@@ -76,12 +76,15 @@ abbrev pub is_path_from : (at_start : Bool) → List ℕ → Bool
 is_path_from at_start [] = not at_start
 is_path_from at_start (byte ∷ bytes) = (not at_start || may_begin byte) && is_path_from (byte == 47) bytes
 
+-- a whole path is such a list behind a slash
+abbrev pub is_path : (path : List ℕ) → Bool
+is_path path = is_path_from true (if is_whole path then drop 1 path else path)
+
 abbrev pub is_path_by : (path : List ℕ) → Option (List ℕ × List ℕ) → Bool
 is_path_by path None = is_public_name path
-is_path_by path (Some parts) = is_path_from true parts.0 && is_public_last (name_of parts.1)
+is_path_by path (Some parts) = is_path parts.0 && is_public_last (name_of parts.1)
 
--- a file may be given under this path below the public folder: it is a file's name, or a folder's path, a slash and a
--- file's name
+-- a file may be given under this path: it is a file's name, or a folder's path, a slash and a file's name
 abbrev pub is_public_path : (path : List ℕ) → Bool
 is_public_path path = is_path_by path (rsplit_once slash path)
 
@@ -93,13 +96,13 @@ is_blocked public folder = list_any (λ other. is_in other folder) public.others
 abbrev pub is_home : (name : List ℕ) → Bool
 is_home name = begins_with (codes "~/") name
 
--- The folder exists, or can be created. None is created for another name, such as a whole path.
+-- The folder is open, and exists or can be created. None is created for another name, such as a whole path.
 abbrev pub may_hold : Public → (home : Bool) → (folder : List ℕ) → Bool
 may_hold public home folder =
-    is_path_from true folder
+    is_path folder && not (has_name public.barred folder)
     && (has_name public.folders folder || (home && not (public.is_closed || is_blocked public folder)))
 
--- in a folder below the public folder
+-- in a folder below the public folder, or elsewhere
 abbrev pub deep_by : Public → (home : Bool) → (name : List ℕ) → Option (List ℕ × List ℕ) → Option Spot
 deep_by public home name None = None
 deep_by public home name (Some parts) =
@@ -111,9 +114,17 @@ abbrev pub deep_place : Public → (home : Bool) → (name : Option (List ℕ)) 
 deep_place public home None = None
 deep_place public home (Some name) = deep_by public home name (rsplit_once slash name)
 
+-- the name is a path in a listed folder elsewhere
+abbrev pub is_elsewhere : Public → (name : List ℕ) → Bool
+is_elsewhere public name = list_any (λ folder. is_whole folder && is_in folder name) public.folders
+
+-- the path that a name means
+abbrev pub path_in : Public → (name : List ℕ) → List ℕ
+path_in public name = if is_elsewhere public name then name else local_name name
+
 abbrev pub placed : Public → (name : List ℕ) → Result Spot Barred → Option Spot
 placed public name (Ok target) = if is_public target.room then top_place public target.name else Some target
-placed public name (Err why) = deep_place public (is_home name) (name_of (local_name name))
+placed public name (Err why) = deep_place public (is_home name) (name_of (path_in public name))
 
 -- the place of a file that arrives under this name, if it has one
 abbrev pub place_in : Public → (name : List ℕ) → Option Spot
@@ -131,6 +142,24 @@ takes public name = takes_at public (place_in public name)
 -- the name that a file of this place has while it is received
 abbrev pub temp_name : Spot → List ℕ
 temp_name target = unwrap_or (name_of (last_part target.name)) target.name
+
+-- ---- folders elsewhere
+
+abbrev pub elsewhere_at : (path : List ℕ) → Option (List ℕ)
+elsewhere_at path = if is_whole path && is_path path then name_of path else None
+
+-- the whole path of a folder of a list, if it is outside the public folder and valid in a session
+abbrev pub elsewhere : (folder : List ℕ) → Option (List ℕ)
+elsewhere folder = elsewhere_at (without_slash folder)
+
+abbrev pub some_before : Option (List ℕ) → List (List ℕ) → List (List ℕ)
+some_before None paths = paths
+some_before (Some path) paths = path ∷ paths
+
+-- the folders of a list that are elsewhere
+abbrev pub all_elsewhere : (folders : List (List ℕ)) → List (List ℕ)
+all_elsewhere [] = []
+all_elsewhere (folder ∷ folders) = some_before (elsewhere folder) (all_elsewhere folders)
 
 -- ---- a target that is a folder
 
@@ -151,13 +180,17 @@ is_folder_at public home path =
 abbrev pub front_in : Public → (home : Bool) → (path : List ℕ) → Option (List ℕ)
 front_in public home path = if is_folder_at public home path then Some (front_of (without_slash path)) else None
 
+-- a path as a name has it
+abbrev pub written : (path : List ℕ) → List ℕ
+written path = if is_whole path then path else codes "~/" ++ path
+
 abbrev pub landing_by : (source target : List ℕ) → (front : Option (List ℕ)) → List ℕ
 landing_by source target None = target
-landing_by source target (Some front) = unwrap_or (name_of (codes "~/" ++ front ++ last_part source)) target
+landing_by source target (Some front) = unwrap_or (name_of (written (front ++ last_part source))) target
 
--- A file sent to the public folder, to a folder below it, or to a path `~/PATH/`, is stored there under the last part of
--- its source's name. Any other target stays as it is, and so does one whose path would be too long.
+-- A file sent to the public folder, to a folder below it or elsewhere, or to a path `~/PATH/`, is stored there under the
+-- last part of its source's name. Any other target stays as it is, and so does one whose path would be too long.
 abbrev pub landing : Public → (source target : List ℕ) → List ℕ
 landing public source target =
     if is_spooled (spot_of target) then target
-    else landing_by source target (front_in public (is_home target) (local_name target))
+    else landing_by source target (front_in public (is_home target) (path_in public target))

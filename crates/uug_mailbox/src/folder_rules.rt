@@ -1,13 +1,12 @@
-//! A list of folders from which files may be given, or into which they may be sent: the public folder and folders in
-//! it, each allowed or barred.
+//! A list of folders from which files may be given, or into which they may be sent. Each is allowed or barred.
 ghost use Rattle.std.specs.Prelude.{◌≡◌};
-ghost use Rattle.uug_mailbox.specs.FolderRules.{after_rule, holds, is_allowed, is_in};
+ghost use Rattle.uug_mailbox.specs.FolderRules.{after_rule, holds, holds_below, is_allowed, is_in, is_whole};
 
 use crate::places::without_slash;
 use uug_talk::split_word;
 
-/// Returns whether a list of folders allows the file at this path below the public folder. The last folder of the list
-/// that holds the path decides. Taylor UUCP's lists `remote-send` and `remote-receive` mean the same.
+/// Returns whether a list of folders allows the file at this path, which is whole or below the public folder. The last
+/// folder of the list that holds the path decides. Taylor UUCP's lists `remote-send` and `remote-receive` mean the same.
 pub fn is_allowed(folders: &str, path: &[u8]) -> bool
     ensures { result ≡ is_allowed folders.now path.now }
 {
@@ -31,10 +30,27 @@ fn after_rule(before: bool, rule: &[u8], path: &[u8]) -> bool
     }
 }
 
-/// Returns whether a folder of a list holds a path below the public folder. The public folder is `~`. A folder may have
-/// a slash at its end.
+/// Returns whether a path is whole, and not below the public folder.
+pub(crate) fn is_whole(path: &[u8]) -> bool
+    ensures { result ≡ is_whole path.now }
+{
+    path.starts_with(b"/")
+}
+
+/// Returns whether a folder of a list holds a path. The folder may have a slash at its end.
 fn holds(folder: &[u8], path: &[u8]) -> bool
     ensures { result ≡ holds folder.now path.now }
+{
+    if is_whole(folder) {
+        is_in(without_slash(folder), path)
+    } else {
+        !is_whole(path) && holds_below(folder, path)
+    }
+}
+
+/// Returns whether a folder of a list holds a path below the public folder, which is `~`.
+fn holds_below(folder: &[u8], path: &[u8]) -> bool
+    ensures { result ≡ holds_below folder.now path.now }
 {
     if !folder.starts_with(b"~/") {
         return folder == b"~".as_slice();

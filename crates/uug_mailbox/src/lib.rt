@@ -30,7 +30,7 @@ pub use mail_spool::{MailSettings, MailSpool};
 pub use marks::{Came, Marks};
 pub use offer::{NotOffered, Offer, read_offer, text_name};
 pub use open_line::{OpenLine, Outcome};
-pub use places::{PublicFolder, below_home, is_public_path, split_last, temp_name};
+pub use places::{PublicFolder, add_elsewhere, is_public_path, name_in, split_last, temp_name};
 pub use settled::{settle, settle_file};
 pub use spool_folder::{SpoolFolder, remove_markers};
 pub use work_store::WorkStore;

@@ -1,29 +1,34 @@
-//! The place of a file that another system sends, given the contents of the public folder when the session begins.
+//! The place of a file that another system sends, given the contents of the public folder, and of the listed folders
+//! elsewhere, when the session begins.
 ghost use Rattle.std.specs.Path.{rsplit_once, slash};
-ghost use Rattle.std.specs.Prelude.{◌≡◌, ◌++◌, MatchOption, None, Some, codes, true};
-ghost use Rattle.uug_mailbox.specs.FolderRules.{without_slash};
-ghost use Rattle.uug_mailbox.specs.Places.{deep_by, deep_place, front_of, is_blocked, is_folder_at, is_home, is_path_from, is_public_last, is_public_name, is_public_path, is_spooled, is_taken, landing, last_part, may_begin, may_hold, place_in, placed, shown_public, takes, temp_name, top_place};
+ghost use Rattle.std.specs.Prelude.{◌≡◌, ◌≤◌, ◌++◌, MatchOption, None, OnOk, Some, length, true};
+ghost use Rattle.uug_mailbox.specs.FolderRules.{is_whole, without_slash};
+ghost use Rattle.uug_mailbox.specs.Places.{all_elsewhere, deep_by, deep_place, elsewhere, front_of, is_blocked, is_elsewhere, is_folder_at, is_home, is_path, is_path_from, is_public_last, is_public_name, is_public_path, is_spooled, is_taken, landing, last_part, may_begin, may_hold, path_in, place_in, placed, shown_public, takes, temp_name, top_place, written};
 ghost use Rattle.uug_spool.specs.SpoolNames.{local_name, spot_of};
 ghost use Rattle.uug_talk.specs.Name.{name_of};
+ghost use Rattle.uug_talk.specs.Words.{words};
 
-use crate::folder_rules::{is_allowed, is_in};
+use crate::folder_rules::{is_allowed, is_in, is_whole};
 use arrayvec::ArrayVec;
-use std::alloc::Allocator;
+use std::alloc::{AllocError, Allocator};
 use uug_conversation::has_name;
 use uug_spool::{Barred, Room, Spot, local_name, spot_of};
-use uug_talk::{NAME_MAX, Name};
+use uug_talk::{NAME_MAX, Name, split_word};
 
-/// The maximum size of a path below the public folder, in bytes: a name of `NAME_MAX` bytes, a tilde and two slashes.
-const PATH_MAX: usize = NAME_MAX + 3;
+/// The maximum size of a path, in bytes: `NAME_MAX` bytes in a folder and a name, and the slash between them.
+const PATH_MAX: usize = NAME_MAX + 1;
 
-/// The contents of the public folder when a session begins.
+/// The maximum size of a path as a name has it, in bytes: a path, a tilde and a slash.
+const WRITTEN_MAX: usize = PATH_MAX + 2;
+
+/// The contents of the public folder, and of the listed folders elsewhere, when a session begins.
 #[derive(Drop)]
 pub struct PublicFolder<A: Allocator> {
-    /// The paths of the folders below it.
+    /// The paths of the folders below it, and the whole paths of the listed folders elsewhere and of those below them.
     pub folders: Vec<Name, A>,
-    /// The paths of everything else below it: files, links.
+    /// The paths of everything else in these folders: files, links.
     pub others: Vec<Name, A>,
-    /// The paths under which no file can be stored there.
+    /// The paths of the files that can't be replaced, and of the folders in which no file can be stored.
     pub barred: Vec<Name, A>,
     /// Set if no file can be stored there at all.
     pub is_closed: bool,
@@ -68,7 +73,7 @@ fn is_public_name(name: &Name) -> bool
 
 impl<A: Allocator> PublicFolder<A> {
     /// Returns the place of a file that arrives under this name, or `None` if it has none. The place may be in a folder
-    /// below the public folder. For a name `~/PATH` that folder may be missing, but no file or link may be in its place.
+    /// below the public folder, or in one elsewhere. For a name `~/PATH` that folder may be missing, but no file or link may be in its place.
     pub fn place_in(&self, name: &Name) -> Option<Spot>
         ensures { result ≡ place_in (shown_public self.now) name.now }
     {
@@ -104,10 +109,29 @@ impl<A: Allocator> PublicFolder<A> {
                 }
             }
             Err(_) => {
-                let path = Name::new(local_name(name.as_bytes())).ok();
+                let path = Name::new(self.path_in(name.as_bytes())).ok();
                 self.deep_place(is_home(name.as_bytes()), &path)
             }
         }
+    }
+
+    /// Returns the path that a name means.
+    fn path_in<'a>(&self, name: &'a [u8]) -> &'a [u8]
+        ensures { result.now ≡ path_in (shown_public self.now) name.now }
+    {
+        if self.is_elsewhere(name) {
+            name
+        } else {
+            local_name(name)
+        }
+    }
+
+    /// Returns whether a name is a path in a listed folder elsewhere.
+    fn is_elsewhere(&self, name: &[u8]) -> bool
+        ensures { result ≡ is_elsewhere (shown_public self.now) name.now }
+    {
+        self.folders.iter().any(|folder| is_whole(folder.as_bytes())
+            && is_in(folder.as_bytes(), name))
     }
 
     /// Returns whether no file of this name can be stored directly in the public folder.
@@ -141,11 +165,13 @@ impl<A: Allocator> PublicFolder<A> {
         }
     }
 
-    /// Returns whether the folder of this path exists, or can be created for a name that begins with `~/`.
+    /// Returns whether the folder of this path is open. It must exist, unless it can be created for a name that begins
+    /// with `~/`.
     fn may_hold(&self, home: bool, folder: &[u8]) -> bool
         ensures { result ≡ may_hold (shown_public self.now) home folder.now }
     {
         is_path(folder)
+            && !has_name(self.barred.as_slice(), folder)
             && (has_name(self.folders.as_slice(), folder)
                 || home && !(self.is_closed || self.is_blocked(folder)))
     }
@@ -159,7 +185,7 @@ impl<A: Allocator> PublicFolder<A> {
             .any(|other| is_in(other.as_bytes(), folder))
     }
 
-    /// Returns the place of this name in a folder below the public folder.
+    /// Returns the place of this path in a folder below the public folder, or elsewhere.
     fn deep_by(&self, home: bool, name: &Name) -> Option<Spot>
         ensures { result ≡ deep_by (shown_public self.now) home name.now
             (rsplit_once slash name.now) }
@@ -182,25 +208,25 @@ impl<A: Allocator> PublicFolder<A> {
 
 impl<A: Allocator> PublicFolder<A> {
     /// Returns the name under which a file called `source` and sent to `target` is stored. If `target` is the public
-    /// folder, a folder below it, or a path `~/PATH/`, the file is stored there under the last part of `source`. Any
-    /// other target stays as it is, and so does one whose path would be too long.
+    /// folder, a folder below it or elsewhere, or a path `~/PATH/`, the file is stored there under the last part of
+    /// `source`. Any other target stays as it is, and so does one whose path would be too long.
     pub fn landing(&self, source: &Name, target: &Name) -> Name
         ensures { result ≡ landing (shown_public self.now) source.now target.now }
     {
         if is_spooled(target) {
             return *target;
         }
-        let path = local_name(target.as_bytes());
+        let path = self.path_in(target.as_bytes());
         if !self.is_folder_at(is_home(target.as_bytes()), path) {
             return *target;
         }
-        match below_home(without_slash(path), last_part(source)) {
+        match name_in(without_slash(path), last_part(source)) {
             Some(name) => name,
             None => *target,
         }
     }
 
-    /// Returns whether a path below the public folder means a folder: that folder exists, or it was written `~/PATH/`.
+    /// Returns whether a path means a folder: that folder exists, or it was written `~/PATH/`.
     fn is_folder_at(&self, home: bool, path: &[u8]) -> bool
         ensures { result ≡ is_folder_at (shown_public self.now) home path.now }
     {
@@ -238,16 +264,15 @@ pub(crate) fn without_slash(name: &[u8]) -> &[u8]
     }
 }
 
-/// Returns the name `~/FOLDER/LAST`, or `~/LAST` if `folder` is empty. Returns `None` if that is not a valid name.
-pub fn below_home(folder: &[u8], last: &[u8]) -> Option<Name>
-    ensures { result ≡ name_of (codes "~/" ++ front_of folder.now ++ last.now) }
+/// Returns the name of the file `last` in a folder: `~/FOLDER/LAST`, or `~/LAST` if `folder` is empty, or `FOLDER/LAST`
+/// if that is a whole path. Returns `None` if that is not a valid name.
+pub fn name_in(folder: &[u8], last: &[u8]) -> Option<Name>
+    ensures { result ≡ name_of (written (front_of folder.now ++ last.now)) }
 {
     if folder.len() + last.len() > NAME_MAX {
         return None;
     }
     let mut path: ArrayVec<u8, PATH_MAX> = ArrayVec::new();
-    path.push(b'~');
-    path.push(b'/');
     let Ok(()) = path.try_extend_from_slice(folder) else {
         unreachable!();
     };
@@ -257,11 +282,28 @@ pub fn below_home(folder: &[u8], last: &[u8]) -> Option<Name>
     let Ok(()) = path.try_extend_from_slice(last) else {
         unreachable!();
     };
-    Name::new(path.as_slice()).ok()
+    written(path.as_slice())
 }
 
-/// Returns whether a file may be given under this path below the public folder. The path must be a file's name, or a
-/// folder's path, a slash and a file's name.
+/// Returns a path as a name has it: `~/PATH` for a path below the public folder. Returns `None` if that is not a valid
+/// name.
+fn written(path: &[u8]) -> Option<Name>
+    requires { length path.now ≤ PATH_MAX }
+    ensures { result ≡ name_of (written path.now) }
+{
+    let mut name: ArrayVec<u8, WRITTEN_MAX> = ArrayVec::new();
+    if !is_whole(path) {
+        name.push(b'~');
+        name.push(b'/');
+    }
+    let Ok(()) = name.try_extend_from_slice(path) else {
+        unreachable!();
+    };
+    Name::new(name.as_slice()).ok()
+}
+
+/// Returns whether a file may be given under this path. The path must be a file's name, or a folder's path, a slash and
+/// a file's name.
 pub fn is_public_path(path: &Name) -> bool
     ensures { result ≡ is_public_path path.now }
 {
@@ -271,8 +313,49 @@ pub fn is_public_path(path: &Name) -> bool
     }
 }
 
+/// Returns whether a path is a list of names, separated by slashes, or such a list behind a slash. No name may begin with
+/// a dot, a slash or a tilde.
+fn is_path(path: &[u8]) -> bool
+    ensures { result ≡ is_path path.now }
+{
+    match path.strip_prefix(b"/".as_slice()) {
+        Some(behind) => is_list(behind),
+        None => is_list(path),
+    }
+}
+
+/// Adds the folders of a list that are outside the public folder, by their whole paths. One whose path is not valid in a
+/// session is left out.
+pub fn add_elsewhere<A: Allocator>(
+    found: &mut Vec<Name, A>,
+    folders: &str,
+) -> Result<(), AllocError>
+    ensures { OnOk result (found.new.items ≡ found.old.items ++ all_elsewhere (words folders.now)) }
+{
+    let mut rest = folders.as_bytes();
+    while let Some((folder, behind)) = split_word(rest) {
+        if let Some(path) = elsewhere(folder) {
+            found.push(path)?;
+        }
+        rest = behind;
+    }
+    Ok(())
+}
+
+/// Returns the whole path of a folder of a list, if it is outside the public folder and valid in a session.
+fn elsewhere(folder: &[u8]) -> Option<Name>
+    ensures { result ≡ elsewhere folder.now }
+{
+    let path = without_slash(folder);
+    if is_whole(path) && is_path(path) {
+        Name::new(path).ok()
+    } else {
+        None
+    }
+}
+
 /// Returns whether these bytes are names, separated by slashes, and none begins with a dot, a slash or a tilde.
-fn is_path(bytes: &[u8]) -> bool
+fn is_list(bytes: &[u8]) -> bool
     ensures { result ≡ is_path_from true bytes.now }
 {
     let mut at_start = true;
@@ -288,7 +371,7 @@ fn is_path(bytes: &[u8]) -> bool
     !at_start
 }
 
-/// Returns whether a name in a path below the public folder may begin with this byte.
+/// Returns whether a name in a path may begin with this byte.
 fn may_begin(byte: u8) -> bool
     ensures { result ≡ may_begin byte }
 {

@@ -37,7 +37,11 @@ record AreGiven : Type 0 where
   hidden : is_given (codes "~") (codes "~/out/.x") ≡ false
   deeper : is_given (codes "~") (codes "~/out/deep/x") ≡ true
   mail : is_given (codes "~") (codes "D.alphaN0001") ≡ false
+  elsewhere : is_given (codes "~ /home/ftp") (codes "/home/ftp/in/x") ≡ true
+  elsewhere_unlisted : is_given (codes "~") (codes "/home/ftp/x") ≡ false
+  elsewhere_hidden : is_given (codes "/home/ftp") (codes "/home/ftp/.x") ≡ false
+  elsewhere_upwards : is_given (codes "/home/ftp") (codes "/home/ftp/../x") ≡ false
 
 given : AreGiven
 unfolding rsplit_once
-given = record { top = refl; below = refl; barred = refl; alone = refl; alone_above = refl; hidden = refl; deeper = refl; mail = refl }
+given = record { top = refl; below = refl; barred = refl; alone = refl; alone_above = refl; hidden = refl; deeper = refl; mail = refl; elsewhere = refl; elsewhere_unlisted = refl; elsewhere_hidden = refl; elsewhere_upwards = refl }

@@ -11,7 +11,7 @@ use Rattle.uug_conversation.specs.declared.stored.Stored.{Stored}
 use Rattle.uug_mailbox.specs.declared.open_line.OpenLine.{OpenLine}
 use Rattle.uug_mailbox.specs.FolderRules.{is_allowed}
 use Rattle.uug_mailbox.specs.Places.{is_public_path}
-use Rattle.uug_spool.specs.SpoolNames.{local_name}
+use Rattle.uug_spool.specs.SpoolNames.{begins_with}
 use Rattle.uug_talk.specs.Name.{name_of}
 
 -- ---- where it is
@@ -59,9 +59,10 @@ public_name public name = named_by name (behind_public public name)
 
 -- ---- the files in it
 
--- A file is given under its name in the public folder, or under ~/ and its path if it is in a folder there.
+-- A file is given under its name in the public folder, under ~/ and its path if it is in a folder there, or under its
+-- whole path if it is in a listed folder elsewhere.
 abbrev pub path_of : (name : List ℕ) → Option (List ℕ)
-path_of name = name_of (local_name name)
+path_of name = name_of (if begins_with (codes "~/") name then drop 2 name else name)
 
 abbrev pub is_given_at : (folders : List ℕ) (path : Option (List ℕ)) → Bool
 is_given_at folders None = false
@@ -75,7 +76,7 @@ is_given folders name = is_given_at folders (path_of name)
 abbrev pub is_public_file : {A : Type 0} → (folders : List ℕ) → Stored A → Bool
 is_public_file folders file = is_given folders file.name && file.mode == 420
 
--- The files that an end gives for its jobs stay first. Only files of the public folder that may be given are appended.
+-- The files that an end gives for its jobs stay first. Only files that may be given are appended.
 pub record AddsPublic {A : Type 0} (folders : List ℕ) (files files_after : List (Stored A)) : Type 0 where
   pub more : List (Stored A)
   pub is_all : files_after ≡ files ++ more

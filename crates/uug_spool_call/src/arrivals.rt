@@ -7,6 +7,7 @@ ghost use Rattle.uug_spool_call.specs.Arrivals.{landed, place_of_arrival};
 use crate::work::Unread;
 use std::alloc::Allocator;
 use std::fs::File;
+use std::io::ErrorKind;
 use std::rt::Files;
 use uug_failure::{Cause, Resource, RunFault, SystemFailure};
 use uug_mailbox::{Came, PublicFolder, temp_name};
@@ -166,8 +167,8 @@ fn landed(marker: &Name, target: Option<Spot>) -> Option<Spot>
     }
 }
 
-/// Moves a file into its place in the public folder. Sets it aside if it has no place, or if the system reports that no
-/// file can be put there.
+/// Moves a file into its place in the public folder. Sets it aside if it has no place, or if the system reports that it
+/// can't be put there.
 fn land_public<A: Allocator + Copy, R: Files<File = File>>(
     alloc: A,
     rt: &R,
@@ -196,10 +197,13 @@ fn land_public<A: Allocator + Copy, R: Files<File = File>>(
     Ok(Landing::Aside(Some(place), failure.cause))
 }
 
-/// Returns whether a failure with this cause means that a file can't be put at a path, whatever is tried.
+/// Returns whether a failure with this cause means that a received file can't be put at a path, whatever is tried, or that
+/// another disk has no room for it: the disk of the spool had.
 fn is_refused(cause: Cause) -> bool {
     match cause {
-        Cause::Refused(kind, _) => is_no_place(kind),
+        Cause::Refused(kind, _) => {
+            is_no_place(kind) || matches!(kind, ErrorKind::StorageFull | ErrorKind::QuotaExceeded)
+        }
         _ => false,
     }
 }

@@ -1,4 +1,4 @@
-//! The files of the public folder that the other system may ask for.
+//! The files of the public folder, and of the listed folders elsewhere, that the other system may ask for.
 ghost use Rattle.std.specs.Prelude.{◌<◌, ◌≡◌, true, IfErr, OnOk};
 ghost use Rattle.uug_failure.specs.Faults.{IsFolderFault};
 ghost use Rattle.uug_spool_call.specs.PublicNames.{AddsPublic, is_given, path_of};
@@ -9,29 +9,33 @@ use std::alloc::{AllocError, Allocator};
 use std::fs::File;
 use std::rt::Files;
 use uug_failure::RunFault;
-use uug_mailbox::{PublicFolder, below_home, is_allowed, is_public_path};
+use uug_mailbox::{PublicFolder, add_elsewhere, is_allowed, is_public_path, name_in};
 use uug_session::Stored;
-use uug_spool::local_name;
 use uug_spool_disk::{PublicListing, SpoolPaths, list_below, list_public, read_public};
 use uug_talk::{FILE_LIMIT_MAX, Name};
+use uug_task::FolderRules;
 
-/// The maximum number of names in and below the public folder that are considered.
+/// The maximum number of names of files that are considered.
 const PUBLIC_NAMES_MAX: usize = 1024;
 
 /// The mode of the given files: everybody may read them.
 const GIVEN_MODE: u16 = 0o644;
 
-/// Lists the paths below the public folder. If the system fails to list it, notes that in `ungiven`, and returns an
-/// unknown listing.
+/// Lists the paths below the public folder, and in the folders elsewhere of this end's lists. If the system fails to list
+/// them, notes that in `ungiven`, and returns an unknown listing.
 pub(crate) fn look_at_public<A: Allocator + Copy, R: Files + Alloc + Clone + Drop>(
     ungiven: &mut Vec<Unread, A>,
     alloc: A,
     rt: &R,
     paths: &SpoolPaths<A>,
+    rules: FolderRules<'_>,
 ) -> Result<PublicListing<A>, RunFault>
     ensures { IfErr result IsFolderFault }
 {
-    match list_public(alloc, rt, paths) {
+    let mut elsewhere = Vec::new(alloc);
+    add_elsewhere(&mut elsewhere, rules.gives)?;
+    add_elsewhere(&mut elsewhere, rules.takes)?;
+    match list_public(alloc, rt, paths, elsewhere.as_slice()) {
         Ok(listing) => Ok(listing),
         Err(fault) => {
             note_unread(ungiven, &public_folder(), fault)?;
@@ -67,8 +71,8 @@ impl<'a, A: Allocator, R> Giver<'a, A, R> {
     }
 }
 
-/// Adds the files that an end gives of the public folder: files directly in it, and files in the folders below it. If
-/// the system fails to list a folder below, notes that in `ungiven`. Any file may then be given later.
+/// Adds the files that an end gives: files directly in the public folder, and files in the folders below it and
+/// elsewhere. If the system fails to list such a folder, notes that in `ungiven`. Any file may then be given later.
 pub(crate) fn add_given<A: Allocator + Copy, R: Files<File = File> + Alloc + Clone + Drop>(
     files: &mut Vec<Stored<A>, A>,
     ungiven: &mut Vec<Unread, A>,
@@ -99,8 +103,8 @@ fn top_names<A: Allocator>(alloc: A, others: &[Name]) -> Result<Vec<Name, A>, Al
     Ok(names)
 }
 
-/// Adds the names of the files in these folders below the public folder, as `~/FOLDER/FILE`. A folder that is barred,
-/// or can't be listed, adds none. Stops once there are `PUBLIC_NAMES_MAX` names.
+/// Adds the names of the files in these folders, as `~/FOLDER/FILE` for one below the public folder. A folder that is
+/// barred, or can't be listed, adds none. Stops once there are `PUBLIC_NAMES_MAX` names.
 fn add_names_below<A: Allocator + Copy, R: Files + Alloc + Clone + Drop>(
     names: &mut Vec<Name, A>,
     ungiven: &mut Vec<Unread, A>,
@@ -120,7 +124,7 @@ fn add_names_below<A: Allocator + Copy, R: Files + Alloc + Clone + Drop>(
     Ok(())
 }
 
-/// Adds the names of the files in this folder below the public folder. Notes the folder in `ungiven` if the system
+/// Adds the names of the files in this folder. Notes the folder in `ungiven` if the system
 /// fails to list it.
 fn add_names_in<A: Allocator + Copy, R: Files + Alloc + Clone + Drop>(
     names: &mut Vec<Name, A>,
@@ -139,21 +143,21 @@ fn add_names_in<A: Allocator + Copy, R: Files + Alloc + Clone + Drop>(
     }
 }
 
-/// Adds the name of each of these files in this folder below the public folder.
+/// Adds the name of each of these files in this folder.
 fn add_paths<A: Allocator>(
     names: &mut Vec<Name, A>,
     folder: &Name,
     found: &[Name],
 ) -> Result<(), AllocError> {
     for last in found {
-        if let Some(name) = below_home(folder.as_bytes(), last.as_bytes()) {
+        if let Some(name) = name_in(folder.as_bytes(), last.as_bytes()) {
             names.push(name)?;
         }
     }
     Ok(())
 }
 
-/// Adds the files of these names in the public folder that everybody may read, and that the list of folders allows.
+/// Adds the files of these names that everybody may read, and that the list of folders allows.
 /// Skips a file if all files of the end would exceed the maximum total size. Notes a file in `ungiven` if the system
 /// fails to read it.
 fn add_public<A: Allocator + Copy, R: Files<File = File>>(
@@ -181,8 +185,8 @@ fn public_folder() -> Name {
     name
 }
 
-/// Returns whether the file of this name may be given: its path below the public folder is valid in a session, and the
-/// list of folders allows it. Names of files of the spool are excluded: in a session they mean those files.
+/// Returns whether the file of this name may be given: its path is valid in a session, and the list of folders allows
+/// it. Names of files of the spool are excluded: in a session they mean those files.
 fn is_given(folders: &str, name: &Name) -> bool
     ensures { result ≡ is_given folders.now name.now }
 {
@@ -192,11 +196,12 @@ fn is_given(folders: &str, name: &Name) -> bool
     }
 }
 
-/// Returns the path below the public folder of a file that is given under this name.
+/// Returns the path of a file that is given under this name.
 fn path_of(name: &Name) -> Option<Name>
     ensures { result ≡ path_of name.now }
 {
-    Name::new(local_name(name.as_bytes())).ok()
+    let name = name.as_bytes();
+    Name::new(name.strip_prefix(b"~/".as_slice()).unwrap_or(name)).ok()
 }
 
 /// Adds the file of this name, if it may be given and there is room for it.
@@ -223,7 +228,7 @@ fn add_file<A: Allocator + Copy, R: Files<File = File>>(
     Ok(())
 }
 
-/// Adds a file of the public folder.
+/// Adds a file that is given.
 fn give<A: Allocator>(
     files: &mut Vec<Stored<A>, A>,
     folders: &str,
@@ -239,7 +244,7 @@ fn give<A: Allocator>(
     Ok(())
 }
 
-/// Returns the bytes of a file of the public folder, if everybody may read it and it has at most `most` bytes. Notes
+/// Returns the bytes of the file of this name, if everybody may read it and it has at most `most` bytes. Notes
 /// the file in `ungiven` if the system fails to read it.
 fn read_given<A: Allocator + Copy, R: Files<File = File>>(
     ungiven: &mut Vec<Unread, A>,

@@ -163,18 +163,18 @@ where
     refuse_links(alloc, rt, call, paths)?;
     let taken = String::from_str(alloc, call.spool.rules.takes)?;
     let mut ungiven = Vec::new(alloc);
-    let listing = look_at_public(&mut ungiven, alloc, rt, paths)?;
+    let listing = look_at_public(&mut ungiven, alloc, rt, paths, call.spool.rules)?;
     let PublicListing {
         folders,
         others,
-        anothers,
+        barred,
         is_closed,
         is_unknown,
     } = listing;
     let mut public = PublicFolder {
         folders,
         others,
-        barred: anothers,
+        barred,
         is_closed,
         delayed: Vec::new(alloc),
         is_unknown,

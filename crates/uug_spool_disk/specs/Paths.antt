@@ -1,7 +1,8 @@
 -- Where the folders and files of a spool are (as in Taylor UUCP, each system has a folder, with one for each kind of
 -- its files; the folders whose names begin with a dot are Taylor UUCP's too, except that here each system has its own
 -- in .Temp and .Received; Taylor UUCP has no .Partial).
-use Rattle.std.specs.Prelude.{ℕ, List, ◌++◌, codes, string_bytes}
+use Rattle.std.specs.Prelude.{ℕ, List, ◌++◌, codes, string_bytes, if◌then◌else◌}
+use Rattle.uug_spool.specs.SpoolNames.{begins_with}
 use Rattle.uug_spool.specs.declared.spool_names.Room.{Room}
 use Rattle.uug_spool.specs.declared.spool_names.Room.TheVariants as rooms
 use Rattle.uug_spool.specs.declared.spool_names.Spot.{Spot}
@@ -25,10 +26,18 @@ room_path paths room = room_at (string_bytes paths.spool) paths.system (string_b
 abbrev pub partial_path : {A : Type 0} → SpoolPaths A → List ℕ
 partial_path paths = string_bytes paths.spool ++ codes "/.Partial/" ++ paths.system
 
+-- a file outside the public folder is named by its whole path
+abbrev pub below_public : (public name : List ℕ) → List ℕ
+below_public public name = if begins_with (codes "/") name then name else public ++ codes "/" ++ name
+
 -- all systems share the folder of preserved files, and may have data of the same names
-abbrev pub name_at : (system : List ℕ) → Room → (name : List ℕ) → List ℕ
-name_at system rooms.Preserved name = system ++ codes "." ++ name
-name_at system _ name = name
+abbrev pub preserved_in : (folder system name : List ℕ) → List ℕ
+preserved_in folder system name = folder ++ codes "/" ++ system ++ codes "." ++ name
+
+abbrev pub file_at : (folder system : List ℕ) → Room → (name : List ℕ) → List ℕ
+file_at folder system rooms.Preserved name = preserved_in folder system name
+file_at folder system rooms.Public name = below_public folder name
+file_at folder system _ name = folder ++ codes "/" ++ name
 
 abbrev pub file_path : {A : Type 0} → SpoolPaths A → Spot → List ℕ
-file_path paths spot = room_path paths spot.room ++ codes "/" ++ name_at paths.system spot.room spot.name
+file_path paths spot = file_at (room_path paths spot.room) paths.system spot.room spot.name

@@ -1,4 +1,4 @@
-//! The paths below the public folder.
+//! The paths below the public folder, and in the listed folders elsewhere.
 ghost use Rattle.std.specs.Prelude.{◌≡◌, IfErr};
 ghost use Rattle.uug_failure.specs.Faults.{IsFolderFault};
 ghost use Rattle.uug_spool_disk.specs.Access.{is_anothers, is_closed};
@@ -12,20 +12,21 @@ use std::os::unix::fs::MetadataExt;
 use std::rt::Files;
 use std::{fs, io};
 use uug_failure::{Resource, RunFault};
+use uug_spool::{Room, Spot};
 use uug_talk::Name;
 
-/// The maximum number of folders below the public folder that are listed, and of their entries in all.
+/// The maximum number of folders that are listed besides the public folder, and of their entries in all.
 const BELOW_MAX: usize = 4096;
 
-/// The paths below the public folder that are valid in a session.
+/// The paths below the public folder, and the whole paths in the listed folders elsewhere, that are valid in a session.
 #[derive(Drop)]
 pub struct PublicListing<A: Allocator> {
     /// The paths of the folders.
     pub folders: Vec<Name, A>,
     /// The paths of everything else: files, links. Those directly in the public folder come first.
     pub others: Vec<Name, A>,
-    /// The paths of files that this program can't replace.
-    pub anothers: Vec<Name, A>,
+    /// The paths of the files that this program can't replace, and of the folders in which it can't create any.
+    pub barred: Vec<Name, A>,
     /// Set if this program can't store anything directly in the public folder.
     pub is_closed: bool,
     /// Set if the system failed to list it.
@@ -35,7 +36,7 @@ pub struct PublicListing<A: Allocator> {
 /// A folder to list.
 #[derive(Clone, Copy)]
 struct Listed<'a> {
-    /// Its path below the public folder, or `None` for the public folder itself.
+    /// Its path, or `None` for the public folder itself.
     path: Option<&'a Name>,
     access: Access,
     /// The user as whom this program runs.
@@ -102,7 +103,7 @@ impl<A: Allocator + Copy> PublicListing<A> {
         PublicListing {
             folders: Vec::new(alloc),
             others: Vec::new(alloc),
-            anothers: Vec::new(alloc),
+            barred: Vec::new(alloc),
             is_closed: false,
             is_unknown: false,
         }
@@ -113,6 +114,19 @@ impl<A: Allocator + Copy> PublicListing<A> {
         let mut listing = PublicListing::empty(alloc);
         listing.is_unknown = true;
         listing
+    }
+
+    /// Adds a folder, unless it is elsewhere and known: one of the listed folders may be below another.
+    fn add_folder(&mut self, path: Name) -> Result<(), AllocError> {
+        let is_known = path.as_str().starts_with('/')
+            && self
+                .folders
+                .iter()
+                .any(|known| known.as_bytes() == path.as_bytes());
+        if !is_known {
+            self.folders.push(path)?;
+        }
+        Ok(())
     }
 
     /// Returns the number of its entries.
@@ -151,10 +165,10 @@ impl<A: Allocator + Copy> PublicListing<A> {
             return Ok(());
         };
         match entry.metadata() {
-            Ok(seen) if seen.is_dir() => self.folders.push(path)?,
+            Ok(seen) if seen.is_dir() => self.add_folder(path)?,
             Ok(seen) => {
                 if is_anothers(folder.access, seen.uid(), folder.me) {
-                    self.anothers.push(path)?;
+                    self.barred.push(path)?;
                 }
                 self.others.push(path)?;
             }
@@ -165,60 +179,96 @@ impl<A: Allocator + Copy> PublicListing<A> {
     }
 }
 
-/// Lists the public folder. A missing folder is empty.
+/// Lists the public folder, and the folders elsewhere of these whole paths. A missing folder is empty.
 pub fn list_public<A: Allocator + Copy, R: Files + Alloc + Clone + Drop>(
     alloc: A,
     rt: &R,
     paths: &SpoolPaths<A>,
+    elsewhere: &[Name],
 ) -> Result<PublicListing<A>, RunFault>
     ensures { IfErr result IsFolderFault }
 {
-    match read_listing(alloc, rt, paths.public()) {
+    match read_listing(alloc, rt, paths, elsewhere) {
         Ok(listing) => Ok(listing),
-        Err(error) if error.kind() == ErrorKind::NotFound => Ok(PublicListing::empty(alloc)),
         Err(error) => Err(RunFault::of(&error, paths.end_dir(), Resource::Dir)),
     }
 }
 
-/// Lists the public folder at this path, then at most `BELOW_MAX` folders below it, which have as many entries at most.
+/// Lists the public folder at this path, then at most `BELOW_MAX` folders below it and elsewhere, which have as many
+/// entries at most.
 fn read_listing<A: Allocator + Copy, R: Files + Alloc + Clone + Drop>(
     alloc: A,
     rt: &R,
-    public: &str,
+    paths: &SpoolPaths<A>,
+    elsewhere: &[Name],
 ) -> io::Result<PublicListing<A>> {
-    let top = Listed {
-        path: None,
-        access: Access::of(&fs::metadata(rt, public)?),
-        me: user_of(rt),
-        most: usize::MAX,
+    let me = user_of(rt);
+    let mut listing = match read_top(alloc, rt, paths.public(), me) {
+        Err(error) if error.kind() == ErrorKind::NotFound => PublicListing::empty(alloc),
+        read => read?,
     };
-    let mut listing = PublicListing::empty(alloc);
-    listing.is_closed = is_closed(top.access, top.me);
-    listing.add_all(alloc, fs::read_dir(rt, public)?, &top)?;
+    for folder in elsewhere {
+        if is_folder(fs::symlink_metadata(rt, folder.as_str())) {
+            listing.add_folder(*folder)?;
+        }
+    }
     let most = listing.len().saturating_add(BELOW_MAX);
     for count in 0..BELOW_MAX {
         let Some(folder) = listing.folders.get(count).copied() else {
             break;
         };
-        add_below(&mut listing, alloc, rt, public, &folder, top.me, most)?;
+        add_below(&mut listing, alloc, rt, paths, &folder, me, most)?;
     }
     Ok(listing)
 }
 
-/// Adds the entries of the folder of this path below the public folder. One that this program can't read adds none.
+/// Returns whether a path is a folder, from its metadata.
+fn is_folder(seen: io::Result<Metadata>) -> bool {
+    match seen {
+        Ok(seen) => seen.is_dir(),
+        Err(_) => false,
+    }
+}
+
+/// Lists what is directly in the public folder at this path.
+fn read_top<A: Allocator + Copy, R: Files + Alloc + Clone + Drop>(
+    alloc: A,
+    rt: &R,
+    public: &str,
+    me: u32,
+) -> io::Result<PublicListing<A>> {
+    let top = Listed {
+        path: None,
+        access: Access::of(&fs::metadata(rt, public)?),
+        me,
+        most: usize::MAX,
+    };
+    let mut listing = PublicListing::empty(alloc);
+    listing.is_closed = is_closed(top.access, top.me);
+    listing.add_all(alloc, fs::read_dir(rt, public)?, &top)?;
+    Ok(listing)
+}
+
+/// Adds the entries of the folder of this path. One that this program can't read adds none.
 fn add_below<A: Allocator + Copy, R: Files + Alloc + Clone + Drop>(
     listing: &mut PublicListing<A>,
     alloc: A,
     rt: &R,
-    public: &str,
+    paths: &SpoolPaths<A>,
     folder: &Name,
     me: u32,
     most: usize,
 ) -> io::Result<()> {
-    let name = folder.as_str();
-    let path = format!(in alloc; "{public}/{name}")?;
+    let spot = Spot {
+        room: Room::Public,
+        name: *folder,
+    };
+    let path = paths.file(alloc, &spot)?;
     match within_reach(open_folder(rt, path.as_str()))? {
         Some((access, entries)) => {
+            if is_closed(access, me) {
+                listing.barred.push(*folder)?;
+            }
             let folder = Listed {
                 path: Some(folder),
                 access,

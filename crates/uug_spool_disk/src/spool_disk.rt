@@ -8,12 +8,12 @@ ghost use Rattle.uug_spool.specs.Operations.{HasFault};
 ghost use Rattle.uug_spool_disk.specs.Reach.{is_absent};
 
 use crate::call_files::is_named_pipe;
-use crate::spool_files::{is_found, slashes_in};
+use crate::spool_files::{folders_above, is_found};
 use crate::spool_paths::SpoolPaths;
 use std::alloc::Allocator;
 use std::fs::{File, OpenFile, OpenOptions};
 use std::io::{ErrorKind, Write};
-use std::os::unix::fs::OpenOptionsExt;
+use std::os::unix::fs::{MetadataExt, OpenOptionsExt};
 use std::rt::Files;
 use std::{fs, io};
 use uug_failure::{Cause, Faults, Resource, SystemFailure};
@@ -296,7 +296,7 @@ fn see_file<A: Allocator + Copy, R: Files>(
 
 /// Moves a file to another place. Missing folders there are created. A C. file only replaces one that still exists:
 /// `uustat` may have removed the old one meanwhile, and with it the job. The new file is then removed.
-fn move_file<A: Allocator + Copy, R: Files>(
+fn move_file<A: Allocator + Copy, R: Files<File = File>>(
     alloc: A,
     rt: &R,
     paths: &SpoolPaths<A>,
@@ -311,7 +311,7 @@ fn move_file<A: Allocator + Copy, R: Files>(
             return drop_late(rt, source.as_str(), to.room, is_there);
         }
     }
-    move_path(rt, source.as_str(), target.as_str())?;
+    move_path(alloc, rt, source.as_str(), target.as_str())?;
     see_below(rt, to, target.as_str())
 }
 
@@ -330,25 +330,71 @@ fn drop_late<R: Files>(rt: &R, source: &str, room: Room, is_there: bool) -> io::
     fs::remove_file(rt, source)
 }
 
-/// Renames the file at a path to another path. Missing folders there are created.
-fn move_path<R: Files>(rt: &R, source: &str, target: &str) -> io::Result<()> {
-    match fs::rename(rt, source, target) {
+/// Moves the file at a path to another path. Missing folders there are created.
+fn move_path<A: Allocator + Copy, R: Files<File = File>>(
+    alloc: A,
+    rt: &R,
+    source: &str,
+    target: &str,
+) -> io::Result<()> {
+    match move_across(alloc, rt, source, target) {
         Err(error) if error.kind() == ErrorKind::NotFound => {
             fs::symlink_metadata(rt, source)?;
             let Some((folder, _)) = target.rsplit_once('/') else {
                 return Err(error);
             };
             fs::create_dir_all(rt, folder)?;
-            fs::rename(rt, source, target)
+            move_across(alloc, rt, source, target)
         }
         moved => moved,
     }
 }
 
-/// Syncs the folders on the path of a file below its room, which may be new. The room itself is synced separately.
+/// Renames the file at a path to another path. If that is on another file system, a copy is synced beside it first.
+fn move_across<A: Allocator + Copy, R: Files<File = File>>(
+    alloc: A,
+    rt: &R,
+    source: &str,
+    target: &str,
+) -> io::Result<()> {
+    match fs::rename(rt, source, target) {
+        Err(error) if error.kind() == ErrorKind::CrossesDevices => (),
+        moved => return moved,
+    }
+    let (folder, name) = target.rsplit_once('/').unwrap_or((".", target));
+    let beside = format!(in alloc; "{folder}/.{name}.new")?;
+    let beside = beside.as_str();
+    let moved = copy_file(rt, source, beside).and_then(|()| fs::rename(rt, beside, target));
+    if let Err(error) = moved {
+        let _ = fs::remove_file(rt, beside);
+        return Err(error);
+    }
+    fs::remove_file(rt, source)
+}
+
+/// Copies a file to a path, and syncs it to disk. A file of that name is removed first: an earlier copy may have been
+/// broken off.
+fn copy_file<R: Files<File = File>>(rt: &R, source: &str, path: &str) -> io::Result<()> {
+    let mut from = File::open(rt, source)?;
+    let mode = from.metadata()?.mode() & PUBLIC_MODE;
+    let mut to = match new_file(rt, path, mode) {
+        Err(error) if error.kind() == ErrorKind::AlreadyExists => {
+            fs::remove_file(rt, path)?;
+            new_file(rt, path, mode)?
+        }
+        opened => opened?,
+    };
+    io::copy(&mut from, &mut to)?;
+    to.sync_all()
+}
+
+/// Syncs the folders on the path of a file below its room, which may be new. The room itself is synced separately. No
+/// folder outside the public folder is new: only the one of the file is synced.
 fn see_below<R: Files>(rt: &R, spot: &Spot, path: &str) -> io::Result<()> {
     let mut below = path;
-    for _ in 0..slashes_in(spot.name.as_bytes()) {
+    let name = spot.name.as_str();
+    let most = if name.starts_with('/') { 1 } else { usize::MAX };
+    for _ in 0..folders_above(&spot.name).min(most) {
         let Some((folder, _)) = below.rsplit_once('/') else {
             return Ok(());
         };
@@ -359,7 +405,7 @@ fn see_below<R: Files>(rt: &R, spot: &Spot, path: &str) -> io::Result<()> {
 }
 
 /// Moves a file to a free path: this one, or the first one with a number after it. Returns the path.
-fn preserve_file<A: Allocator + Copy, R: Files>(
+fn preserve_file<A: Allocator + Copy, R: Files<File = File>>(
     alloc: A,
     rt: &R,
     paths: &SpoolPaths<A>,
@@ -369,7 +415,7 @@ fn preserve_file<A: Allocator + Copy, R: Files>(
     let source = paths.file(alloc, from)?;
     let first = paths.file(alloc, to)?;
     let target = free_path(alloc, rt, first)?;
-    move_path(rt, source.as_str(), target.as_str())?;
+    move_path(alloc, rt, source.as_str(), target.as_str())?;
     Ok(target)
 }
 

@@ -88,8 +88,8 @@ fn add_entry<A: Allocator, R: Files + Alloc + Clone + Drop>(
     Ok(())
 }
 
-/// Returns the names in a folder below the public folder that are valid in a session. A folder that can't be reached, or
-/// that not everybody may search, has none. Nor has a folder below such a folder.
+/// Returns the names in a folder below the public folder, or elsewhere, that are valid in a session. A folder that can't be
+/// reached, or that not everybody may search, has none. Nor has a folder below such a folder.
 pub fn list_below<A: Allocator + Copy, R: Files + Alloc + Clone + Drop>(
     alloc: A,
     rt: &R,
@@ -112,15 +112,16 @@ pub fn list_below<A: Allocator + Copy, R: Files + Alloc + Clone + Drop>(
     Ok(names)
 }
 
-/// Returns the entries of the folder at `path`, which ends in its path below the public folder, if everybody may search
-/// it and each folder between. Returns `None` for any other. A missing folder is an error.
+/// Returns the entries of the folder at `path`, which ends in `folder`, if everybody may search it and each folder on its
+/// way: from the public folder, or for a whole path from the root. Returns `None` for any other. A missing folder is an
+/// error.
 fn open_below<R: Files + Alloc + Clone + Drop>(
     rt: &R,
     path: &str,
     folder: &Name,
 ) -> io::Result<Option<ReadDir<R, R::A>>> {
     let mut above = path;
-    for _ in 0..slashes_in(folder.as_bytes()) {
+    for _ in 0..folders_above(folder) {
         let Some((front, _)) = above.rsplit_once('/') else {
             return Ok(None);
         };
@@ -132,9 +133,11 @@ fn open_below<R: Files + Alloc + Clone + Drop>(
     open_to_all(rt, path)
 }
 
-/// Returns the number of slashes in a name.
-pub(crate) fn slashes_in(name: &[u8]) -> usize {
-    name.iter().filter(|byte| **byte == b'/').count()
+/// Returns the number of folders between the public folder and this path, or for a whole path from the root.
+pub(crate) fn folders_above(path: &Name) -> usize {
+    let path = path.as_str();
+    let path = path.strip_prefix('/').unwrap_or(path);
+    path.bytes().filter(|byte| *byte == b'/').count()
 }
 
 /// Returns the entries of a folder that everybody may search. Returns `None` for any other. A missing folder is an

@@ -1,6 +1,6 @@
 //! The paths of the folders of a spool.
-ghost use Rattle.std.specs.Prelude.{◌≡◌, IfOk, string_bytes};
-ghost use Rattle.uug_spool_disk.specs.Paths.{file_path, partial_path, room_path};
+ghost use Rattle.std.specs.Prelude.{◌≡◌, ◌++◌, IfOk, codes, string_bytes};
+ghost use Rattle.uug_spool_disk.specs.Paths.{below_public, file_path, partial_path, preserved_in, room_path};
 
 use std::alloc::{AllocError, Allocator};
 use uug_failure::EndDir;
@@ -97,13 +97,44 @@ impl<A: Allocator> SpoolPaths<A> {
         let front = room.as_str();
         let name = spot.name.as_str();
         let path = match spot.room {
-            Room::Preserved => {
-                // All systems share this folder, and may have data of the same names.
-                let system = self.system.as_str();
-                format!(in alloc; "{front}/{system}.{name}")?
-            }
-            _ => format!(in alloc; "{front}/{name}")?,
+            Room::Preserved => preserved_in(alloc, front, self.system.as_str(), name)?,
+            Room::Public => below_public(alloc, front, name)?,
+            _ => below(alloc, front, name)?,
         };
         Ok(path)
+    }
+}
+
+/// Returns the path of a file in a folder.
+fn below<B: Allocator>(alloc: B, folder: &str, name: &str) -> Result<String<B>, AllocError>
+    ensures { IfOk result (λ path. string_bytes path ≡ folder.now ++ codes "/" ++ name.now) }
+{
+    let path = format!(in alloc; "{folder}/{name}")?;
+    Ok(path)
+}
+
+/// Returns the path of a preserved file. All systems share this folder, and may have data of the same names.
+fn preserved_in<B: Allocator>(
+    alloc: B,
+    folder: &str,
+    system: &str,
+    name: &str,
+) -> Result<String<B>, AllocError>
+    ensures { IfOk result (λ path.
+        string_bytes path ≡ preserved_in folder.now system.now name.now) }
+{
+    let path = format!(in alloc; "{folder}/{system}.{name}")?;
+    Ok(path)
+}
+
+/// Returns the path of a file below the public folder, or outside it if the name is a whole path.
+fn below_public<B: Allocator>(alloc: B, public: &str, name: &str) -> Result<String<B>, AllocError>
+    ensures { IfOk result (λ path.
+        string_bytes path ≡ below_public public.now name.now) }
+{
+    if name.as_bytes().starts_with(b"/") {
+        String::from_str(alloc, name)
+    } else {
+        below(alloc, public, name)
     }
 }

@@ -7,9 +7,10 @@ use uug_folder::NoNotebook;
 use uug_mailbox::{MailSettings, MailSpool, PublicFolder, SpoolFolder};
 use uug_session::{FileLimit, KeepFault, Partials, Spool};
 use uug_spool::MemoryDisk;
+use uug_talk::Name;
 
 /// A source, a target, and the name of the file's place in the public folder.
-const ROWS: [(&str, &str, Option<&str>); 18] = [
+const ROWS: [(&str, &str, Option<&str>); 26] = [
     ("/srv/f", "~/x", Some("x")),
     ("/srv/f", "~/", Some("f")),
     ("/srv/f", "~/in", Some("in/f")),
@@ -28,25 +29,44 @@ const ROWS: [(&str, &str, Option<&str>); 18] = [
     ("/srv/f", "/etc/", None),
     ("/srv/.f", "~/", None),
     ("/srv/theirs", "~/", None),
+    ("/srv/f", "~/sealed/x", None),
+    ("/srv/f", "/home/ftp/x", Some("/home/ftp/x")),
+    ("/srv/f", "/home/ftp", Some("/home/ftp/f")),
+    ("/srv/f", "/home/ftp/in/", Some("/home/ftp/in/f")),
+    ("/srv/f", "/home/ftp/theirs", None),
+    ("/srv/f", "/home/ftp/new/x", None),
+    ("/srv/f", "/home/ftp/../x", None),
+    ("/srv/f", "/home/ftp2/x", None),
 ];
 
+fn names(rt: &impl Abort, alloc: Global, texts: &[&str]) -> Vec<Name, Global> {
+    let mut names = Vec::new(alloc);
+    for text in texts {
+        names.push(name(rt, text)).expect(rt, "memory");
+    }
+    names
+}
+
 fn public(rt: &impl Abort, alloc: Global) -> PublicFolder<Global> {
-    let mut folders = Vec::new(alloc);
-    folders.push(name(rt, "in")).expect(rt, "memory");
-    folders.push(name(rt, "shut")).expect(rt, "memory");
-    folders.push(name(rt, "in/deep")).expect(rt, "memory");
-    let mut others = Vec::new(alloc);
-    others.push(name(rt, "theirs")).expect(rt, "memory");
-    let mut barred = Vec::new(alloc);
-    barred.push(name(rt, "theirs")).expect(rt, "memory");
     PublicFolder {
-        folders,
-        others,
-        barred,
+        folders: names(
+            rt,
+            alloc,
+            &[
+                "in",
+                "shut",
+                "in/deep",
+                "sealed",
+                "/home/ftp",
+                "/home/ftp/in",
+            ],
+        ),
+        others: names(rt, alloc, &["theirs"]),
+        barred: names(rt, alloc, &["theirs", "sealed", "/home/ftp/theirs"]),
         is_closed: false,
         delayed: Vec::new(alloc),
         is_unknown: false,
-        taken: String::from_str(alloc, "~/ !~/shut/").expect(rt, "memory"),
+        taken: String::from_str(alloc, "~/ !~/shut/ /home/ftp/in/").expect(rt, "memory"),
     }
 }
 
@@ -95,7 +115,7 @@ fn a_folder_takes_a_file_under_its_own_name(rt: HostRuntime) {
 }
 
 /// A target, and whether a file that comes there unasked is taken.
-const TAKEN: [(&str, bool); 7] = [
+const TAKEN: [(&str, bool); 9] = [
     ("~/x", true),
     ("~/in/x", true),
     ("~/shut/x", false),
@@ -103,6 +123,8 @@ const TAKEN: [(&str, bool); 7] = [
     ("~/out/x", true),
     ("~/theirs/x", false),
     ("D.alphaN0001", true),
+    ("/home/ftp/in/x", true),
+    ("/home/ftp/x", false),
 ];
 
 #[test]

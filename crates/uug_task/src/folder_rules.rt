@@ -1,7 +1,7 @@
 //! The folders of a spool that are open to the other end.
 
 /// The folders of a spool that are open to the other end. Each list consists of words: `~` is the public folder,
-/// `~/NAME` is a folder in it, and a leading `!` bars a folder.
+/// `~/PATH` is a folder below it, `/PATH` is a folder elsewhere, and a leading `!` bars a folder.
 #[derive(Clone, Copy, Debug, PartialEq, Eq)]
 pub struct FolderRules<'a> {
     /// The folders from which files are given on request.

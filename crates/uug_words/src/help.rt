@@ -231,7 +231,7 @@ pub const GRADE: &str =
 pub const PORT: &str = "With --spool: the name of the line in the log; by default LINE";
 
 pub const GIVE: &str =
-    "With --spool: the folders whose files it gives: ~ is the public one, ~/NAME one in it, and a leading ! bars one; the last that holds a file decides; none gives nothing";
+    "With --spool: the folders whose files it gives: ~ is the public one, ~/PATH one below it, /PATH one elsewhere, and a leading ! bars one; the last that holds a file decides; none gives nothing";
 
 pub const TAKE: &str =
     "With --spool: the folders that accept files it did not ask for, in the same way";

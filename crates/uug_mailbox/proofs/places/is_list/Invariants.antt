@@ -1,6 +1,6 @@
 use Rattle.std.proofs.Common.{◌≡◌, true, length}
 use Rattle.uug_mailbox.specs.Places.{is_path_from}
-use Rattle.uug_mailbox.proofs.places.is_path.Given as goal
+use Rattle.uug_mailbox.proofs.places.is_list.Given as goal
 
 -- what is left decides
 abbrev pub invariant-loop-rest : goal.invariant-loop-rest
