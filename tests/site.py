@@ -567,6 +567,14 @@ def empty_public(node: Node, *folders: str) -> None:
         shutil.chown(path, "uucp", "uucp")
 
 
+def know_anew(scene: Scene, command: str, rules: dict[str, list[str]]) -> None:
+    """Makes each node know the other one alone, with these lines: alpha calls beta by this command."""
+    for node in (scene.alpha, scene.beta):
+        node.put("sys", "")
+    scene.alpha.knows("beta", "time any", "protocol g", 'chat ""', "port type pipe", f"port command {command}", *rules["alpha"])
+    scene.beta.knows("alpha", "protocol g", *rules["beta"])
+
+
 def scene_folders(scene: Scene, who: str, role: str) -> None:
     """`remote-send`, `remote-receive`: the last folder of a list that has a file decides whether it is given, or taken."""
     ours, other = (scene.alpha, scene.beta) if role == "calls" else (scene.beta, scene.alpha)
@@ -581,10 +589,7 @@ def scene_folders(scene: Scene, who: str, role: str) -> None:
         ("/nowhere", []),
     ):
         rules = {ours.name: [f"{keyword} {folders}" for keyword in ("remote-send", "remote-receive") if folders], other.name: []}
-        scene.alpha.put("sys", "")
-        scene.beta.put("sys", "")
-        scene.alpha.knows("beta", "time any", "protocol g", 'chat ""', "port type pipe", f"port command {command}", *rules["alpha"])
-        scene.beta.knows("alpha", "protocol g", *rules["beta"])
+        know_anew(scene, command, rules)
         empty_public(ours, "in", "shut")
         empty_public(other)
         (other.folder / "pub/file").write_text("text\n")
@@ -610,7 +615,7 @@ def scene_folders(scene: Scene, who: str, role: str) -> None:
 
 
 def scene_elsewhere(scene: Scene, who: str, role: str) -> None:
-    """A folder outside the public folder, on another disk, from which files are given and into which they are taken."""
+    """Files are given from, and taken into, a listed folder outside the public folder, here on another disk."""
     ours, other = (scene.alpha, scene.beta) if role == "calls" else (scene.beta, scene.alpha)
     command = " ".join(scene.beta.words(who if role == "answers" else "taylor", "-q"))
     disk = ours.folder / "disk"
@@ -625,10 +630,7 @@ def scene_elsewhere(scene: Scene, who: str, role: str) -> None:
             (f"~ {disk}/ftp/in", False, True),
         ):
             rules = {ours.name: [f"{keyword} {folders}" for keyword in ("remote-send", "remote-receive")], other.name: []}
-            scene.alpha.put("sys", "")
-            scene.beta.put("sys", "")
-            scene.alpha.knows("beta", "time any", "protocol g", 'chat ""', "port type pipe", f"port command {command}", *rules["alpha"])
-            scene.beta.knows("alpha", "protocol g", *rules["beta"])
+            know_anew(scene, command, rules)
             empty_public(ours)
             empty_public(other)
             (other.folder / "pub/file").write_text("text\n")

@@ -134,7 +134,7 @@ def kills_over_a_spool_of(one, end):
 
 @scene("root", "strace")
 def kills_with_the_public_folder_on_another_disk(one):
-    """What came is copied there beside its place, synced, and renamed."""
+    """Copies what came to that disk beside its place, syncs and renames it: killed at any moment, it leaves a whole file or none."""
     from spools import Nodes
 
     nodes = Nodes(one)
