@@ -259,7 +259,7 @@ def known_options():
     for path in sources.files():
         if path.startswith(("tests/", "tools/", "interop/", "bench/", "crates/uucpair/src/")) or path == "uucpair":
             known |= set(OPTION.findall(sources.read(path, errors="ignore")))
-        if path.startswith(("crates/uucpair/src/", "crates/uug_words/src/")):
+        if path.startswith(("crates/uucpair/src/", "crates/uug_cli/src/")):
             names = re.findall(r"\"([a-z][a-z_-]*)\"", sources.read(path))
             known |= {"--" + name.replace("_", "-") for name in names}
     return known
@@ -364,7 +364,7 @@ def numbers_in(text):
 
 def check_value(path, number, name, crate, text):
     known = sources.constants().get(name, ())
-    values = {value for home, value in known if home == crate or not crate and not home.endswith("_tests")}
+    values = {value for home, value in known if home == crate or not crate and not home.startswith("uug_test_")}
     if not values:
         complain(path, number, f"there is no constant {name}{' of ' + crate if crate else ''}")
     elif len(values) > 1:

@@ -7,7 +7,7 @@
 #
 # They come into FOLDER. The program is the proved one, which is built first where that is needed; another PROGRAM is for
 # trying. Two runs on one commit make the same bytes: the archive has the program as it was built, and the package has it
-# without its symbols, as Debian wants it. The version is that of `uug_words`. It needs git, and Debian's packages dpkg and
+# without its symbols, as Debian wants it. The version is that of `uug_cli`. It needs git, and Debian's packages dpkg and
 # binutils. MAINTAINER (the author of the commit) stands in the package.
 set -eu
 export LC_ALL=C
@@ -27,7 +27,7 @@ of_commit() {
 
 # The version that the program has, from the constant that it prints.
 version_of_sources() {
-    sed -n 's/^pub const VERSION: &str = "\(.*\)";$/\1/p' "$root/crates/uug_words/src/tools.rt"
+    sed -n 's/^pub const VERSION: &str = "\(.*\)";$/\1/p' "$root/crates/uug_cli/src/tools.rt"
 }
 
 # put_files FOLDER BASE PATH..: these of a folder of the repository, and all below them. Anybody may read them, and run what can
@@ -138,7 +138,7 @@ for command in dpkg-deb strip; do
     command -v "$command" >/dev/null || fail "$command is missing: it is of Debian's packages dpkg and binutils"
 done
 version=$(version_of_sources)
-[ -n "$version" ] || fail "there is no version in crates/uug_words/src/tools.rt"
+[ -n "$version" ] || fail "there is no version in crates/uug_cli/src/tools.rt"
 if [ $# -ge 2 ]; then
     program=$(readlink -f "$2")
 else

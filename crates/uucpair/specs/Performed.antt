@@ -4,22 +4,22 @@ use Rattle.uug_scan.specs.Listing.{ended}
 use Rattle.uug_stream.specs.Streams.{Appends}
 use Rattle.uug_stream.specs.declared.fault.ToolFault.TheVariants as faults
 use Rattle.clap.specs.Words.{takes}
-use Rattle.uug_failure.specs.Faults.{IsQueueFault, IsRunFault}
-use Rattle.uug_failure.specs.declared.run_fault.RunFault.{RunFault}
-use Rattle.uug_words.specs.Asked.{Asks}
-use Rattle.uug_words.specs.Tools.{uucpair}
-use Rattle.uug_words.specs.declared.command_line.Task.{Task}
-use Rattle.uug_words.specs.declared.command_line.Task.TheVariants.{Version, Scan, ScanVerbose, Play, PlayVerbose, PlaySettled, PlayDrawn, Pair, Call, Queue, Cancel, Status}
-use Rattle.uug_pending.specs.Status.{WritesStatus}
-use Rattle.uug_sys.specs.Calls.{HasTalked}
-use Rattle.uug_task.specs.declared.task.CallTask.{CallTask}
+use Rattle.uug_error.specs.Faults.{IsQueueFault, IsRunFault}
+use Rattle.uug_error.specs.declared.run_fault.RunFault.{RunFault}
+use Rattle.uug_cli.specs.Asked.{Asks}
+use Rattle.uug_cli.specs.Tools.{uucpair}
+use Rattle.uug_cli.specs.declared.command_line.Task.{Task}
+use Rattle.uug_cli.specs.declared.command_line.Task.TheVariants.{Version, Scan, ScanVerbose, Play, PlayVerbose, PlaySettled, PlayDrawn, Pair, Call, Queue, Cancel, Status}
+use Rattle.uug_io_pending.specs.Status.{WritesStatus}
+use Rattle.uug_run.specs.Calls.{HasTalked}
+use Rattle.uug_config.specs.declared.task.CallTask.{CallTask}
 use Rattle.uug_transfer.specs.LineNames.{line_of, standard}
-use Rattle.uug_input.specs.Inputs.{DoesOn, StaysUnread, StaysUnwritten, Streams}
-use Rattle.uug_input.specs.declared.input_task.InputTask.TheVariants as over
-use Rattle.uug_stop.specs.Refused.{IsNoTask}
-use Rattle.uug_stop.specs.Stop.{EndsSo}
-use Rattle.uug_stop.specs.declared.stop.Stop.{Stop}
-use Rattle.uug_stop.specs.declared.stop.Stop.TheVariants.{Fault}
+use Rattle.uug_sim_input.specs.Inputs.{DoesOn, StaysUnread, StaysUnwritten, Streams}
+use Rattle.uug_sim_input.specs.declared.input_task.InputTask.TheVariants as over
+use Rattle.uug_cli_stop.specs.Refused.{IsNoTask}
+use Rattle.uug_cli_stop.specs.Stop.{EndsSo}
+use Rattle.uug_cli_stop.specs.declared.stop.Stop.{Stop}
+use Rattle.uug_cli_stop.specs.declared.stop.Stop.TheVariants.{Fault}
 
 abbrev pub version_line : List ℕ
 version_line = ended (codes "uucpair 0.1.0")

@@ -1,10 +1,10 @@
 //! The remarks on a bad line of jobs.
 
 use std::rt::Files;
-use uug_failure::RunFault;
+use uug_cli::full_remark;
+use uug_error::RunFault;
 use uug_observe::jobs_remark_at;
 use uug_stream::ToolFault;
-use uug_words::full_remark;
 
 /// Returns what is wrong with a line of the jobs in this folder, if that is the fault. The text is empty if no line is
 /// bad. A remark that can't be made is left out.

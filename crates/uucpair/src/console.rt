@@ -1,4 +1,4 @@
-use uug_port::StandardStreams;
+use uug_io_line::StandardStreams;
 
 /// The standard streams of the program.
 #[derive(Clone, Copy)]

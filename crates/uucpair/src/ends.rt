@@ -1,9 +1,9 @@
 //! Runs one end or both, with their log and their messages in addition to the report.
 ghost use Rattle.std.specs.Prelude.{◌≡◌, ◌≤◌, IfErr, IfOk};
-ghost use Rattle.uug_failure.specs.Faults.{IsFolderFault, IsRunFault};
-ghost use Rattle.uug_spool_call.specs.CallAnswers.{AnswersCall};
-ghost use Rattle.uug_stop.specs.declared.of_end.TheConstants.{LOG};
-ghost use Rattle.uug_sys.specs.Calls.{HasTalked};
+ghost use Rattle.uug_error.specs.Faults.{IsFolderFault, IsRunFault};
+ghost use Rattle.uug_taylor_run.specs.CallAnswers.{AnswersCall};
+ghost use Rattle.uug_cli_stop.specs.declared.of_end.TheConstants.{LOG};
+ghost use Rattle.uug_run.specs.Calls.{HasTalked};
 ghost use Rattle.uucpair.specs.Performed.{PrintsReport};
 
 use crate::bad_jobs::jobs_remark;
@@ -14,20 +14,20 @@ use std::os::unix::fs::MetadataExt;
 use std::rt::{Env, Files};
 use std::time::Clock;
 use std::{fs, io};
+use uug_cli::{PairTask, lacks_spool};
+use uug_cli_stop::{LOG, REPORT, STATS, is_refused_lock};
+use uug_config::{CallTask, ReportPlace, System};
 use uug_conversation::Side;
-use uug_disk::is_named_pipe;
-use uug_failure::{Cause, Outcome, Resource, RunFault, SystemFailure};
-use uug_folder::BadNumber;
-use uug_log::{LogFile, SessionLog, end_text, words_of};
+use uug_error::{Cause, Outcome, Resource, RunFault, SystemFailure};
+use uug_error_text::{locks_line, reason_line};
+use uug_io_disk::is_named_pipe;
+use uug_io_line::{ReportFile, SystemOutput};
 use uug_observe::{PairObserver, SystemObserver, line_held_remark, log_fault};
+use uug_observe_log::{LogFile, SessionLog, end_text, words_of};
 use uug_pair::{PairRun, pair_run_with_reason};
-use uug_port::{ReportFile, SystemOutput};
-use uug_reason::{locks_line, reason_line};
-use uug_stop::{LOG, REPORT, STATS, is_refused_lock};
+use uug_run::call_run;
+use uug_store::BadNumber;
 use uug_stream::{Output, ToolFault};
-use uug_sys::call_run;
-use uug_task::{CallTask, ReportPlace, System};
-use uug_words::{PairTask, lacks_spool};
 
 /// Runs both ends over one socket, and reports their files on standard error if that is a terminal. The same folder for
 /// both is bad usage.

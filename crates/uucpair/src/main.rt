@@ -9,8 +9,8 @@ mod program;
 use console::Console;
 use std::io::IsTerminal;
 use std::process::ExitCode;
-use uug_port::{StandardStreams, hold_descriptors};
-use uug_stop::end;
+use uug_cli_stop::end;
+use uug_io_line::{StandardStreams, hold_descriptors};
 
 fn console_of(rt: &HostRuntime) -> Console {
     Console {

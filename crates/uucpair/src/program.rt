@@ -1,8 +1,8 @@
 //! The program, from its command line to its status.
 ghost use Rattle.std.specs.Prelude.{◌≡◌, ◌≤◌, IfErr, IfOk, IsErr, OnOk, map, string_bytes};
-ghost use Rattle.uug_failure.specs.Faults.{IsQueueFault};
-ghost use Rattle.uug_input.specs.Inputs.{streams};
-ghost use Rattle.uug_pending.specs.Status.{WritesStatus};
+ghost use Rattle.uug_error.specs.Faults.{IsQueueFault};
+ghost use Rattle.uug_sim_input.specs.Inputs.{streams};
+ghost use Rattle.uug_io_pending.specs.Status.{WritesStatus};
 ghost use Rattle.uug_stream.specs.Streams.{Appends};
 ghost use Rattle.uucpair.specs.Performed.{Does, Performs, version_line};
 
@@ -16,23 +16,23 @@ use std::net::{Net, TcpListener, TcpStream};
 use std::rt::{Env, Files};
 use std::time::Clock;
 use std::{env, io};
-use uug_conversation::Side;
-use uug_disk::{QueueFault, QueueTask, queue_run};
-use uug_failure::{Outcome, RunFault};
-use uug_input::{InputTask, do_on};
-use uug_pending::{
-    CancelFault, CancelOutcome, CancelTask, StatusTask, cancel_run, rival_remark, status_run,
-};
-use uug_port::{SystemInput, SystemOutput};
-use uug_spool_call::spool_status_run;
-use uug_stop::{Stop, end_of, with_reason};
-use uug_stream::{Output, ToolFault, write_all};
-use uug_talk::Name;
-use uug_task::{CallTask, System};
-use uug_words::{
+use uug_cli::{
     Task, VERSION, has_no_host, has_no_port, hint_words, lacks_spool, order_remark, status_remark,
     target_remark, task_of, waiting_words,
 };
+use uug_cli_stop::{Stop, end_of, with_reason};
+use uug_config::{CallTask, System};
+use uug_conversation::Side;
+use uug_error::{Outcome, RunFault};
+use uug_io_disk::{QueueFault, QueueTask, queue_run};
+use uug_io_line::{SystemInput, SystemOutput};
+use uug_io_pending::{
+    CancelFault, CancelOutcome, CancelTask, StatusTask, cancel_run, rival_remark, status_run,
+};
+use uug_sim_input::{InputTask, do_on};
+use uug_stream::{Output, ToolFault, write_all};
+use uug_talk::Name;
+use uug_taylor_run::spool_status_run;
 
 /// The remark if both an order and a job to cancel are given.
 const QUEUED_OR_CANCELLED: &str = "queue a job or cancel one, not both";

@@ -3,7 +3,7 @@ use Rattle.std.proofs.Common.{◌≡◌, true, false, [], ◌∷◌, ◌++◌, c
 use Rattle.std.specs.Fmt.{digits}
 use Rattle.uug_conversation.specs.declared.job.Job.{Job}
 use Rattle.uug_conversation.specs.declared.job.Job.TheVariants.{Request, Send}
-use Rattle.uug_folder.specs.declared.notices.WhyFailed.TheVariants.{NoFile, NotGiven, Refused}
+use Rattle.uug_store.specs.declared.notices.WhyFailed.TheVariants.{NoFile, NotGiven, Refused}
 use Rattle.uug_session.specs.declared.end.End.TheVariants.{Done, HungUp}
 use Rattle.uug_session.specs.declared.phase.Phase.TheVariants.{Ended}
 use Rattle.uug_observe.specs.JobRemarks.{failed_words, job_line, put_off_remark}

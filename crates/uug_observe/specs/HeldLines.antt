@@ -1,8 +1,8 @@
 -- Spells the remark on a device that another run holds (this project's profile).
 use Rattle.std.specs.Fmt.{decimal}
 use Rattle.std.specs.Prelude.{ℕ, List, [], ◌++◌, codes}
-use Rattle.uug_locks.specs.declared.holder.Holder.{Holder}
-use Rattle.uug_locks.specs.declared.holder.Holder.TheVariants.{Process, Nobody, Unknown}
+use Rattle.uug_io_lock.specs.declared.holder.Holder.{Holder}
+use Rattle.uug_io_lock.specs.declared.holder.Holder.TheVariants.{Process, Nobody, Unknown}
 use Rattle.uug_scan.specs.Detailed.{escaped}
 use Rattle.uug_talk.specs.Lines.{ended}
 

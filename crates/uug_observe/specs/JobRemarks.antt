@@ -7,11 +7,11 @@ use Rattle.uug_conversation.specs.Holdings.{File, Holdings}
 use Rattle.uug_conversation.specs.MemoryHoldings.{has_name}
 use Rattle.uug_conversation.specs.declared.job.Job.{Job}
 use Rattle.uug_conversation.specs.declared.job.Job.TheVariants.{Send, Request}
-use Rattle.uug_folder.specs.JobsText.{job_words}
-use Rattle.uug_folder.specs.LocalNames.{local_source}
-use Rattle.uug_folder.specs.Notices.{why_failed}
-use Rattle.uug_folder.specs.declared.notices.WhyFailed.{WhyFailed}
-use Rattle.uug_folder.specs.declared.notices.WhyFailed.TheVariants.{NoFile, Refused, NotTaken, NotGiven}
+use Rattle.uug_store.specs.JobsText.{job_words}
+use Rattle.uug_store.specs.LocalNames.{local_source}
+use Rattle.uug_store.specs.Notices.{why_failed}
+use Rattle.uug_store.specs.declared.notices.WhyFailed.{WhyFailed}
+use Rattle.uug_store.specs.declared.notices.WhyFailed.TheVariants.{NoFile, Refused, NotTaken, NotGiven}
 use Rattle.uug_session.specs.declared.end.End.TheVariants.{Done}
 use Rattle.uug_session.specs.declared.phase.Phase.{Phase}
 use Rattle.uug_session.specs.declared.phase.Phase.TheVariants.{Ended}

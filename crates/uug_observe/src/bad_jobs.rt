@@ -3,7 +3,7 @@
 use std::alloc::Allocator;
 use std::rt::Files;
 use std::{fs, io};
-use uug_reason::jobs_remark;
+use uug_error_text::jobs_remark;
 
 /// Reads the jobs of this folder again, and returns what is wrong with this line of them.
 pub fn jobs_remark_at<A: Allocator + Copy, R: Files + AllocGlobal>(

@@ -3,8 +3,8 @@ ghost use Rattle.std.specs.Prelude.{◌≡◌, IfOk, string_bytes};
 ghost use Rattle.uug_observe.specs.FailureRemarks.{failure_remark};
 
 use std::alloc::{AllocError, Allocator};
-use uug_failure::SystemFailure;
-use uug_reason::reason_line;
+use uug_error::SystemFailure;
+use uug_error_text::reason_line;
 
 /// Returns a line for standard error: why the line of this name, or this folder, failed. It is empty without a failure.
 pub fn failure_remark<A: Allocator>(

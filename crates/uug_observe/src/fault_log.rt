@@ -5,13 +5,13 @@ use std::alloc::Allocator;
 use std::fs::File;
 use std::rt::{Env, Files};
 use std::time::Clock;
-use uug_failure::SystemFailure;
-use uug_folder::why_failed;
-use uug_log::{LogFile, SessionLog, words_of};
-use uug_reason::reason_line;
+use uug_config::CallTask;
+use uug_error::SystemFailure;
+use uug_error_text::reason_line;
+use uug_observe_log::{LogFile, SessionLog, words_of};
 use uug_session::{Job, Spool};
+use uug_store::why_failed;
 use uug_talk::Name;
-use uug_task::CallTask;
 
 /// Appends what went wrong to the log of an end, if it has one. Errors in writing the log are ignored.
 pub fn log_fault<A, R>(alloc: A, rt: &R, task: &CallTask<'_>, text: &str)

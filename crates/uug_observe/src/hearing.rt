@@ -1,6 +1,6 @@
 //! The bytes heard from the other end, as far as they are reported to a person.
 
-use uug_reason::{Heard, Passed};
+use uug_error_text::{Heard, Passed};
 
 /// The maximum number of bytes of a text that are kept.
 const KEPT_MAX: usize = 60;

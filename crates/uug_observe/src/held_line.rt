@@ -4,10 +4,10 @@ ghost use Rattle.uug_observe.specs.HeldLines.{between, held_remark, held_words, 
 
 use std::alloc::{AllocError, Allocator};
 use std::rt::Files;
-use uug_disk::lock_holder;
-use uug_locks::{Holder, lock_path};
-use uug_reason::add_escaped;
-use uug_task::LineOptions;
+use uug_config::LineOptions;
+use uug_error_text::add_escaped;
+use uug_io_disk::lock_holder;
+use uug_io_lock::{Holder, lock_path};
 
 /// Returns a remark for standard error on the device of this line, which another run holds: who that is, as far as its
 /// lock file tells, and what to do.

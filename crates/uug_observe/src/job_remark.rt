@@ -8,9 +8,9 @@ ghost use Rattle.uug_talk.specs.Words.{joined};
 
 use std::alloc::{AllocError, Allocator};
 use uug_conversation::has_name;
-use uug_folder::{WhyFailed, local_source, why_failed};
-use uug_reason::add_escaped;
+use uug_error_text::add_escaped;
 use uug_session::{End, Job, Phase, Spool};
+use uug_store::{WhyFailed, local_source, why_failed};
 use uug_talk::Name;
 
 /// Returns a line for each of these jobs of the folder `dir`: why it was given up. `large` are the names of the files

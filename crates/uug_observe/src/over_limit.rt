@@ -4,13 +4,13 @@ use crate::fault_log::log_fault;
 use std::alloc::{AllocError, Allocator};
 use std::fs;
 use std::rt::Files;
+use uug_config::{CallTask, System};
 use uug_conversation::has_name;
-use uug_folder::local_source;
-use uug_log::words_of;
-use uug_reason::large_line;
+use uug_error_text::large_line;
+use uug_observe_log::words_of;
 use uug_session::Job;
+use uug_store::local_source;
 use uug_talk::Name;
-use uug_task::{CallTask, System};
 
 /// Returns the names of the files of these jobs that are in `send` of the task's folder now, and over its limit.
 pub fn large_files<A: Allocator + Copy, R: Files>(

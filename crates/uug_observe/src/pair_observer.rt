@@ -6,9 +6,9 @@ use std::alloc::Allocator;
 use std::fs;
 use std::rt::Files;
 use std::time::Clock;
-use uug_folder::local_source;
-use uug_log::{FileProgress, Observer, Transfer, Way};
+use uug_observe_log::{FileProgress, Observer, Transfer, Way};
 use uug_session::FileLimit;
+use uug_store::local_source;
 use uug_transfer::{ReadOutcome, SessionObserver, SessionStatus};
 
 /// Reports the files of a pair on standard error, if that is a terminal, as the caller sees them: the progress of a

@@ -8,7 +8,7 @@ use std::fs::File;
 use std::io::ErrorKind;
 use std::rt::{Env, Files};
 use std::time::Clock;
-use uug_task::CallTask;
+use uug_config::CallTask;
 
 /// The words in the log if a signal or a power cut ended the last session.
 pub const BROKEN_OFF: &str = "the last session was broken off";

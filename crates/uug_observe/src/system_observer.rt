@@ -9,11 +9,11 @@ use crate::unread_remark::{last_remark, unread_remark};
 use crate::voice::Voice;
 use std::alloc::{AllocError, Allocator};
 use std::time::Clock;
-use uug_log::{Observer, SessionLog, Way};
-use uug_reason::{Heard, Passed, heard_remark, passed_remark};
+use uug_config::{ANY, CallTask};
+use uug_error_text::{Heard, Passed, heard_remark, passed_remark};
+use uug_observe_log::{Observer, SessionLog, Way};
 use uug_session::{End, Phase, Side};
 use uug_talk::{Hail, Name};
-use uug_task::{ANY, CallTask};
 use uug_transfer::{
     LineName, ReadOutcome, SessionObserver, SessionStatus, caller_in, read_line_name,
 };

@@ -3,7 +3,7 @@
 use crate::voice::Voice;
 use std::alloc::{AllocError, Allocator};
 use std::time::Clock;
-use uug_log::{Journal, News, SessionLog, words_of};
+use uug_observe_log::{Journal, News, SessionLog, words_of};
 use uug_session::{End, Phase, phase_word};
 use uug_talk::Name;
 use uug_transfer::SessionStatus;

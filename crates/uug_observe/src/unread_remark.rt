@@ -3,7 +3,7 @@ ghost use Rattle.std.specs.Prelude.{◌≡◌, IfOk, string_bytes};
 ghost use Rattle.uug_observe.specs.UnreadRemarks.{front_words, is_read, last_remark, quoted_line, unread_remark};
 
 use std::alloc::{AllocError, Allocator};
-use uug_reason::add_escaped;
+use uug_error_text::add_escaped;
 use uug_talk::{read_answer, read_order};
 
 /// The maximum number of bytes of the text that are shown.

@@ -2,7 +2,7 @@
 
 use std::alloc::{AllocError, Allocator};
 use std::time::{Clock, Instant};
-use uug_log::{
+use uug_observe_log::{
     Counts, FileProgress, Journal, Mark, News, Pace, counts_line, news_line, progress_line,
 };
 use uug_session::phase_word;

@@ -16,7 +16,7 @@ use Rattle.uug_pair.specs.TwoCourses.{EventAt, NoneIsFooled}
 use Rattle.uug_pair.specs.TwoNodes.{HaveRun, holdings_at, kept_by_both, lists_of}
 use Rattle.uug_session.specs.Beginnings.{AreSound, EndBeginning, IsSoundBeginning}
 use Rattle.uug_session.specs.NodeRuns.{HasRun}
-use Rattle.uug_folder.specs.JobsText.{IsQueueOf}
+use Rattle.uug_store.specs.JobsText.{IsQueueOf}
 use Rattle.uug_pair.specs.GoneJobs.{GoneJobsWereDone, of_both}
 use Rattle.uug_session.specs.Engine.{all_ahead}
 use Rattle.uug_session.specs.Node.{NodeState}

@@ -3,10 +3,10 @@ use Rattle.std.proofs.Common.{◌≡◌, ℕ, Option, Some, None, Err, Result, r
 use Rattle.std.specs.Prelude.{IsSome}
 use Rattle.uug_stream.specs.declared.fault.ToolFault.{ToolFault}
 use Rattle.uug_stream.specs.declared.fault.ToolFault.TheVariants as faults
-use Rattle.uug_failure.specs.Failures.{fault_with}
-use Rattle.uug_failure.specs.Faults.{IsSessionFault}
-use Rattle.uug_failure.specs.declared.failure.SystemFailure.{SystemFailure}
-use Rattle.uug_failure.specs.declared.run_fault.RunFault.{RunFault}
+use Rattle.uug_error.specs.Failures.{fault_with}
+use Rattle.uug_error.specs.Faults.{IsSessionFault}
+use Rattle.uug_error.specs.declared.failure.SystemFailure.{SystemFailure}
+use Rattle.uug_error.specs.declared.run_fault.RunFault.{RunFault}
 use Rattle.uug_transfer.specs.EndOver.{IsEndFault}
 
 -- behind a device fault a call of the system has failed

@@ -10,8 +10,8 @@ use Rattle.uug_pair.specs.TwoNodes.{HaveRun, holdings_at, kept_by_both, lists_of
 use Rattle.uug_session.specs.Beginnings.{EndBeginning}
 use Rattle.uug_session.specs.NodeRuns.{HasRun}
 use Rattle.uug_session.specs.Node.{NodeState}
-use Rattle.uug_task.specs.Tasks.{beginning_of}
-use Rattle.uug_task.specs.declared.end_parts.EndParts.{EndParts}
+use Rattle.uug_config.specs.Tasks.{beginning_of}
+use Rattle.uug_config.specs.declared.end_parts.EndParts.{EndParts}
 use Rattle.uug_transfer.specs.BufferedNodes.{node_in, spool_in}
 use Rattle.uug_transfer.specs.declared.buffered_node.BufferedNode.{BufferedNode}
 

@@ -2,15 +2,15 @@
 ghost use Rattle.std.specs.Prelude.{◌≡◌, ◌≤◌, ◌<◌, ◌↔◌, ◌&&◌, false, IfErr, IfOk, IsSome};
 ghost use Rattle.uug_session.specs.Beginnings.{IsSoundBeginning};
 ghost use Rattle.uug_session.specs.NodeRuns.{HasRun};
-ghost use Rattle.uug_folder.specs.JobsText.{IsQueueOf};
+ghost use Rattle.uug_store.specs.JobsText.{IsQueueOf};
 ghost use Rattle.uug_stream.specs.Streams.{CountsFault};
 ghost use Rattle.uug_transfer.specs.FaultInjection.{is_in_range};
-ghost use Rattle.uug_failure.specs.Failures.{fault_with};
-ghost use Rattle.uug_failure.specs.Faults.{IsFolderFault, IsReadingFault, IsRunFault, IsSessionFault};
+ghost use Rattle.uug_error.specs.Failures.{fault_with};
+ghost use Rattle.uug_error.specs.Faults.{IsFolderFault, IsReadingFault, IsRunFault, IsSessionFault};
 ghost use Rattle.uug_pair.specs.Answers.{IsRunAnswer};
 ghost use Rattle.uug_pair.specs.GoneJobs.{GoneJobsWereDone, beginnings_of, kept_by, nodes_of};
-ghost use Rattle.uug_task.specs.Places.{IsPlaceInPair};
-ghost use Rattle.uug_task.specs.Tasks.{beginning_of};
+ghost use Rattle.uug_config.specs.Places.{IsPlaceInPair};
+ghost use Rattle.uug_config.specs.Tasks.{beginning_of};
 ghost use Rattle.uug_transfer.specs.BufferedNodes.{node_in, spool_in};
 ghost use Rattle.uug_transfer.specs.Moments.{IsLed, end_now};
 ghost use Rattle.uug_transfer.specs.EndOver.{IsEndFault};
@@ -21,16 +21,16 @@ use std::alloc::{AllocError, Allocator};
 use std::fs::File;
 use std::net::Net;
 use std::rt::Files;
-use uug_disk::{
+use uug_config::{EndParts, place_in_pair};
+use uug_error::{EndDir, RunFault, SystemFailure};
+use uug_io_disk::{
     DirLock, NoFile, OpenJobs, SystemFolder, SystemText, lock_dir, mark_done, open_jobs, read_send,
 };
-use uug_failure::{EndDir, RunFault, SystemFailure};
-use uug_folder::FolderSpool;
-use uug_port::open_watched_wire;
+use uug_io_line::open_watched_wire;
 use uug_session::event_laws::events_follow_events;
 use uug_session::{Side, Spool, Stored};
+use uug_store::FolderSpool;
 use uug_stream::{Output, ToolFault};
-use uug_task::{EndParts, place_in_pair};
 use uug_transfer::{FaultInjector, SessionObserver, TransferEnd, pair_over};
 
 /// The maximum number of turns of two ends.

@@ -7,11 +7,11 @@ use Rattle.uug_stream.specs.Fault.{StopsWriting}
 use Rattle.uug_stream.specs.Streams.{Appends, AppendsFront}
 use Rattle.uug_stream.specs.declared.fault.ToolFault.{ToolFault}
 use Rattle.uug_stream.specs.declared.fault.ToolFault.TheVariants as faults
-use Rattle.uug_folder.specs.JobsPlan.{IsCarriedOut, IsPlanned}
-use Rattle.uug_folder.specs.NumberText.{holding_number}
-use Rattle.uug_folder.specs.TextFiles.{holding}
-use Rattle.uug_folder.specs.declared.jobs_plan.JobsPlan.{JobsPlan}
-use Rattle.uug_folder.specs.declared.jobs_plan.JobsPlan.TheVariants.{Write, Failed}
+use Rattle.uug_store.specs.JobsPlan.{IsCarriedOut, IsPlanned}
+use Rattle.uug_store.specs.NumberText.{holding_number}
+use Rattle.uug_store.specs.TextFiles.{holding}
+use Rattle.uug_store.specs.declared.jobs_plan.JobsPlan.{JobsPlan}
+use Rattle.uug_store.specs.declared.jobs_plan.JobsPlan.TheVariants.{Write, Failed}
 use Rattle.uug_session.specs.Node.{NodeState}
 use Rattle.uug_transfer.specs.EndOver.{FilesState, IsEndFault, IsPlanFaultOfBoth, IsPrinted, LeaveBoth, LeavesBehind, fault_behind_line}
 

@@ -6,7 +6,7 @@ use Rattle.uug_conversation.specs.declared.side.Side.TheVariants.{Caller, Called
 use Rattle.uug_session.specs.Node.{NodeState}
 use Rattle.uug_session.specs.declared.phase.Phase.{Phase}
 use Rattle.uug_transfer.specs.Ends.{jobs_of_end, phase_of_end, report_of_both}
-use Rattle.uug_folder.specs.EndReport.{state_line, failed_lines}
+use Rattle.uug_store.specs.EndReport.{state_line, failed_lines}
 
 pub state_behind : (side : Side) (phase same_phase : Phase) (jobs same_jobs : Lists) (before after : List ℕ) → phase ≡ same_phase
     → jobs ≡ same_jobs → after ≡ before ++ state_line side phase jobs → after ≡ before ++ state_line side same_phase same_jobs

@@ -2,7 +2,7 @@
 use Rattle.std.proofs.Common.{◌≡◌, ℕ, [], Option, Result, Ok, Err, refl, sym, ap, subst, ◌∙◌}
 use Rattle.std.specs.Prelude.{OnOk}
 use Rattle.std.specs.Result.{IsErr, IsErrAnd}
-use Rattle.uug_folder.specs.NumberText.{holding_number}
+use Rattle.uug_store.specs.NumberText.{holding_number}
 use Rattle.uug_conversation.specs.DialogueValue.{dialogue_has_parted}
 use Rattle.uug_session.specs.Engine.{HasFailed, faults_max, hung_up, with_stage}
 use Rattle.uug_session.specs.NumberStanding.{KeepsNumber}

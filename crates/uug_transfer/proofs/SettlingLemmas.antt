@@ -11,11 +11,11 @@ use Rattle.uug_conversation.specs.Sharing.{OnlyMoves}
 use Rattle.uug_conversation.specs.declared.job.Job.{Job}
 use Rattle.uug_conversation.specs.declared.side.Side.{Side}
 use Rattle.uug_session.specs.NodeRuns.{IsLedByEvents, state_after}
-use Rattle.uug_folder.proofs.OpenJobsLemmas.{HasGoneOn, nothing_told, only_moves, settled_holds, settled_least, unsettled_least}
-use Rattle.uug_folder.specs.Notices.{also_told, notice, notices}
-use Rattle.uug_folder.specs.NumberText.{HoldsNumber, IsNumberKept, holding_number}
+use Rattle.uug_store.proofs.OpenJobsLemmas.{HasGoneOn, nothing_told, only_moves, settled_holds, settled_least, unsettled_least}
+use Rattle.uug_store.specs.Notices.{also_told, notice, notices}
+use Rattle.uug_store.specs.NumberText.{HoldsNumber, IsNumberKept, holding_number}
 use Rattle.std.specs.Result.{IsErr, IsErrAnd}
-use Rattle.uug_folder.specs.OpenJobs.{Holds, HoldsAtLeast, IsSettledOrNot, jobs_left, settled_in, times}
+use Rattle.uug_store.specs.OpenJobs.{Holds, HoldsAtLeast, IsSettledOrNot, jobs_left, settled_in, times}
 use Rattle.uug_link.specs.State.{State}
 use Rattle.uug_session.proofs.StepKeeps.{hailing_leads, linked_keeps, speaks_so, stage_leads}
 use Rattle.uug_session.specs.EndStep.{EndEffect, EndEvent, EndState, Identity, end_step, is_up, speaks_by}

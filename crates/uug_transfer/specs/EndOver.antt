@@ -5,11 +5,11 @@ use Rattle.uug_session.specs.Node.{NodeState}
 use Rattle.uug_stream.specs.Streams.{Appends, AppendsFront, CountsFault}
 use Rattle.uug_stream.specs.declared.fault.ToolFault.{ToolFault}
 use Rattle.uug_stream.specs.declared.fault.ToolFault.TheVariants as faults
-use Rattle.uug_folder.specs.JobsFile.{settled}
-use Rattle.uug_folder.specs.JobsPlan.{fault_without_memory}
-use Rattle.uug_folder.specs.declared.jobs_plan.JobsPlan.{JobsPlan}
-use Rattle.uug_folder.specs.declared.jobs_plan.JobsPlan.TheVariants.{Write, Failed}
-use Rattle.uug_folder.specs.NumberText.{holding_number}
+use Rattle.uug_store.specs.JobsFile.{settled}
+use Rattle.uug_store.specs.JobsPlan.{fault_without_memory}
+use Rattle.uug_store.specs.declared.jobs_plan.JobsPlan.{JobsPlan}
+use Rattle.uug_store.specs.declared.jobs_plan.JobsPlan.TheVariants.{Write, Failed}
+use Rattle.uug_store.specs.NumberText.{holding_number}
 use Rattle.uug_transfer.specs.Ends.{jobs_of_end, number_of_end}
 use Rattle.uug_transfer.specs.declared.transfer_end.TransferEnd.{TransferEnd}
 

@@ -6,7 +6,7 @@ use Rattle.uug_conversation.specs.Jobs.{Lists, pending}
 use Rattle.uug_session.specs.Node.{NodeState}
 use Rattle.uug_session.specs.Phases.{is_done, phase_at}
 use Rattle.uug_session.specs.declared.phase.Phase.{Phase}
-use Rattle.uug_folder.specs.EndReport.{state_line, failed_lines}
+use Rattle.uug_store.specs.EndReport.{state_line, failed_lines}
 use Rattle.uug_transfer.specs.declared.status.SessionStatus.{SessionStatus}
 
 abbrev pub jobs_of_end : NodeState → Lists

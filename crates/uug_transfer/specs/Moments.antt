@@ -5,7 +5,7 @@ use Rattle.uug_conversation.specs.Holdings.{Holdings, Kept}
 use Rattle.uug_conversation.specs.OwnRequests.{KeepsWhatItAskedFor}
 use Rattle.uug_conversation.specs.Sharing.{HaveSameJobs}
 use Rattle.uug_conversation.specs.declared.job.Job.{Job}
-use Rattle.uug_folder.specs.OpenJobs.{open_in}
+use Rattle.uug_store.specs.OpenJobs.{open_in}
 use Rattle.uug_session.specs.Node.{NodeState, node_of, struck_jobs}
 use Rattle.uug_session.specs.NodeRuns.{IsLedByEvents}
 use Rattle.uug_session.specs.declared.node.Node.{Node}

@@ -2,10 +2,10 @@
 use Rattle.std.specs.Prelude.{◌≡◌, ℕ, List, ◌++◌, Option, Some, None, drop, length, ⊤}
 use Rattle.uug_conversation.specs.declared.job.Job.{Job}
 use Rattle.uug_conversation.specs.Jobs.{Lists, pending}
-use Rattle.uug_folder.specs.NumberText.{HoldsNumber, holding_number}
+use Rattle.uug_store.specs.NumberText.{HoldsNumber, holding_number}
 use Rattle.uug_conversation.specs.Holdings.{Holdings}
-use Rattle.uug_folder.specs.Notices.{also_told, notices}
-use Rattle.uug_folder.specs.OpenJobs.{LosesNone, StaysHeld}
+use Rattle.uug_store.specs.Notices.{also_told, notices}
+use Rattle.uug_store.specs.OpenJobs.{LosesNone, StaysHeld}
 use Rattle.uug_session.specs.Node.{NodeState}
 use Rattle.uug_transfer.specs.Ends.{jobs_of_end, number_of_end}
 use Rattle.uug_transfer.specs.declared.settled.Settled.{Settled}

@@ -16,8 +16,8 @@ use crate::session::run_session;
 use crate::session_fault::SessionFault;
 use crate::transfer_end::TransferEnd;
 use std::alloc::Allocator;
-use uug_folder::{JobTexts, TextFile};
 use uug_session::{Node, Phase, Side, Spool};
+use uug_store::{JobTexts, TextFile};
 use uug_stream::{Output, ToolFault, write_all};
 
 /// Runs an end at its line until its session is over, as `run_session` does. Results go to its disk during the session,

@@ -1,16 +1,16 @@
 //! The plan for the files of an end when its session is over.
 ghost use Rattle.std.specs.Prelude.{◌≡◌, ◌≤◌, ◌⊎◌, IfOk, OnErr, OnOk};
 ghost use Rattle.uug_session.specs.Engine.{HasFailed};
-ghost use Rattle.uug_folder.specs.JobsFile.{settled};
-ghost use Rattle.uug_folder.specs.JobsPlan.{HasFailedIn, HoldsPlanned, IsCarried, IsCarriedOut, IsFeasible, IsPlanned, carried, fault_without_memory};
-ghost use Rattle.uug_folder.specs.NumberText.{HoldsNumber, IsNumberKept, holding_number};
+ghost use Rattle.uug_store.specs.JobsFile.{settled};
+ghost use Rattle.uug_store.specs.JobsPlan.{HasFailedIn, HoldsPlanned, IsCarried, IsCarriedOut, IsFeasible, IsPlanned, carried, fault_without_memory};
+ghost use Rattle.uug_store.specs.NumberText.{HoldsNumber, IsNumberKept, holding_number};
 ghost use Rattle.uug_transfer.specs.BufferedNodes.{node_in};
 ghost use Rattle.uug_transfer.specs.Ends.{jobs_of_end, number_of_end};
 
 use crate::transfer_end::TransferEnd;
 use std::alloc::{AllocError, Allocator};
-use uug_folder::{FolderFailed, JobsPlan, TextFile, number_line};
 use uug_session::Spool;
+use uug_store::{FolderFailed, JobsPlan, TextFile, number_line};
 use uug_stream::ToolFault;
 
 /// The plan for the file of an end's jobs, and the number that it keeps.

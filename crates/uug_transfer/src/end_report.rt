@@ -4,8 +4,8 @@ ghost use Rattle.uug_session.specs.Node.{node_of};
 ghost use Rattle.uug_transfer.specs.Ends.{report_of, report_of_both};
 
 use std::alloc::{AllocError, Allocator};
-use uug_folder::{add_failed, add_state};
 use uug_session::{Node, Side, Spool};
+use uug_store::{add_failed, add_state};
 
 /// Returns the state of an end, then the jobs that it has given up.
 pub(crate) fn report<S: Spool, A: Allocator + Copy>(

@@ -2,7 +2,7 @@
 ghost use Rattle.std.specs.Prelude.{◌≡◌, ◌≤◌, ◌⊎◌, IfErr, IfOk, OnOk};
 ghost use Rattle.uug_session.specs.Engine.{HasFailed, IsEnded};
 ghost use Rattle.uug_stream.specs.Streams.{CountsFault};
-ghost use Rattle.uug_folder.specs.JobsFile.{IsSettled, settled};
+ghost use Rattle.uug_store.specs.JobsFile.{IsSettled, settled};
 ghost use Rattle.uug_transfer.specs.BufferedNodes.{node_in};
 ghost use Rattle.uug_transfer.specs.EndOver.{HasFault, IfWritten, IsEndFault, IsPrinted, LeaveBoth, UnlessDevice, files_of};
 ghost use Rattle.uug_transfer.specs.Ends.{jobs_of_end, phase_of_end, report_of_both, status_of_phases};
@@ -16,8 +16,8 @@ use crate::transfer_end::TransferEnd;
 use crate::turn_fault::TurnFault;
 use crate::turns::run_turns;
 use std::alloc::Allocator;
-use uug_folder::TextFile;
 use uug_session::{Phase, Spool};
+use uug_store::TextFile;
 use uug_stream::{Output, ToolFault};
 
 /// Runs two ends for at most `limit` turns at a line. Then reads each file of jobs again and writes what stays of it:

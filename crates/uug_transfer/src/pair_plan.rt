@@ -3,9 +3,9 @@ ghost use Rattle.std.specs.Prelude.{◌≡◌, ◌≤◌, ◌⊎◌, IfErr, IfOk
 ghost use Rattle.uug_session.specs.Engine.{HasFailed};
 ghost use Rattle.uug_stream.specs.Fault.{StopsWriting};
 ghost use Rattle.uug_stream.specs.Streams.{Appends, AppendsFront, CountsFault};
-ghost use Rattle.uug_folder.specs.JobsFile.{settled};
-ghost use Rattle.uug_folder.specs.JobsPlan.{HasFailedIn, HoldsPlanned, IsCarried, IsCarriedOut, IsFeasible, IsPlanned, carried};
-ghost use Rattle.uug_folder.specs.NumberText.{holding_number};
+ghost use Rattle.uug_store.specs.JobsFile.{settled};
+ghost use Rattle.uug_store.specs.JobsPlan.{HasFailedIn, HoldsPlanned, IsCarried, IsCarriedOut, IsFeasible, IsPlanned, carried};
+ghost use Rattle.uug_store.specs.NumberText.{holding_number};
 ghost use Rattle.uug_transfer.specs.BufferedNodes.{node_in};
 ghost use Rattle.uug_transfer.specs.EndOver.{IsEndFault, IsPlanFaultOfBoth, IsPrinted, UnlessDevice, first_fault};
 ghost use Rattle.uug_transfer.specs.Ends.{jobs_of_end, number_of_end, report_of_both};
@@ -14,8 +14,8 @@ use crate::end_plan::EndPlan;
 use crate::end_report::report_of_both;
 use crate::transfer_end::TransferEnd;
 use std::alloc::Allocator;
-use uug_folder::{FolderFailed, TextFile};
 use uug_session::Spool;
+use uug_store::{FolderFailed, TextFile};
 use uug_stream::{Output, ToolFault, write_all};
 
 /// The plans for the files of both ends, and the report.

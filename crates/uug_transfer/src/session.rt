@@ -2,7 +2,7 @@
 ghost use Rattle.std.specs.Prelude.{◌≡◌, ◌<◌, ◌↔◌, [], length, IsTrue, OnOk};
 ghost use Rattle.uug_session.specs.Engine.{HasFailed, IsEnded};
 ghost use Rattle.uug_session.specs.NumberStanding.{KeepsNumber};
-ghost use Rattle.uug_folder.specs.NumberText.{holding_number};
+ghost use Rattle.uug_store.specs.NumberText.{holding_number};
 ghost use Rattle.uug_transfer.specs.BufferedNodes.{injector_in, node_in, spool_in, to_write};
 ghost use Rattle.uug_transfer.specs.Ends.{number_of_end};
 ghost use Rattle.uug_transfer.specs.LineSessions.{IsSession, SettlesJobs};
@@ -24,8 +24,8 @@ use crate::read_outcome::ReadOutcome;
 use crate::session_fault::SessionFault;
 use crate::settled::Settled;
 use std::alloc::{AllocError, Allocator};
-use uug_folder::{JobStore, TextFile};
 use uug_session::Spool;
+use uug_store::{JobStore, TextFile};
 
 /// Runs an end at its line until its session is over. In each turn the end writes all that it has, then reads once: it
 /// gets the bytes, or a timeout for a silence. The line then gets the status of the session.

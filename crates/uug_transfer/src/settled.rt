@@ -1,9 +1,9 @@
 //! Stores an end's results on its disk.
 ghost use Rattle.std.specs.Prelude.{◌≡◌, ◌≢◌, ◌≤◌, drop, length, IfErr, IfOk, OnErr, OnOk};
 ghost use Rattle.uug_session.specs.Engine.{HasFailed};
-ghost use Rattle.uug_folder.specs.NumberText.{HoldsNumber, IsNumberKept, holding_number};
-ghost use Rattle.uug_folder.specs.Notices.{also_told, notices};
-ghost use Rattle.uug_folder.specs.OpenJobs.{IsSettledOrNot, settled_in};
+ghost use Rattle.uug_store.specs.NumberText.{HoldsNumber, IsNumberKept, holding_number};
+ghost use Rattle.uug_store.specs.Notices.{also_told, notices};
+ghost use Rattle.uug_store.specs.OpenJobs.{IsSettledOrNot, settled_in};
 ghost use Rattle.uug_session.specs.Node.{node_of};
 ghost use Rattle.uug_transfer.specs.Ends.{jobs_of_end, number_of_end};
 ghost use Rattle.uug_transfer.specs.SessionFaults.{UnlessJobs, UnlessNumber, UnlessUnsettled};
@@ -11,8 +11,8 @@ ghost use Rattle.uug_transfer.specs.Settling.{AreSettled, IsSomeNumber, kept_the
 
 use crate::session_fault::SessionFault;
 use std::alloc::Allocator;
-use uug_folder::{JobStore, TextFile, number_line, write_notices};
 use uug_session::{Node, Queue, Spool};
+use uug_store::{JobStore, TextFile, number_line, write_notices};
 use uug_stream::ToolFault;
 
 /// The part of an end's results that is on its disk.

@@ -1,7 +1,7 @@
 use crate::buffered_node::BufferedNode;
 use std::alloc::Allocator;
-use uug_folder::JobsFile;
 use uug_session::Spool;
+use uug_store::JobsFile;
 
 /// One end of a transfer: the end at its line, and the files that hold its state between sessions.
 #[derive(Drop)]

@@ -1,5 +1,5 @@
 use Rattle.std.proofs.Common.{ℕ, List, Option, unwrap_or, ap, Some, None, arith}
-use Rattle.uug_folder.proofs.LastPlaceLemmas.{split_at_last}
+use Rattle.uug_store.proofs.LastPlaceLemmas.{split_at_last}
 use Rattle.uug_transfer.specs.LineNames.{loopback}
 use Rattle.uug_transfer.proofs.line_name.host_and_port.Goals as goal
 

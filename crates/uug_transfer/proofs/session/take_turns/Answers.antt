@@ -1,6 +1,6 @@
 use Rattle.std.proofs.Common.{ap, sym, Err, subst, ◌∙◌, refl, arith}
 use Rattle.uug_conversation.specs.Jobs.{Lists}
-use Rattle.uug_folder.specs.NumberText.{holding_number}
+use Rattle.uug_store.specs.NumberText.{holding_number}
 use Rattle.uug_transfer.specs.BufferedNodes.{node_in}
 use Rattle.uug_transfer.specs.Ends.{jobs_of_end, number_of_end}
 use Rattle.uug_transfer.specs.Moments.{disk_now, end_now}

@@ -1,7 +1,7 @@
 use Rattle.std.proofs.Common.{◌≡◌, []}
 use Rattle.uug_session.specs.NumberStanding.{KeepsNumber}
 use Rattle.uug_transfer.specs.BufferedNodes.{injector_in, node_in, spool_in, to_write}
-use Rattle.uug_folder.specs.NumberText.{holding_number}
+use Rattle.uug_store.specs.NumberText.{holding_number}
 use Rattle.uug_transfer.specs.Ends.{number_of_end}
 use Rattle.uug_transfer.specs.LineSessions.{SettlesJobs}
 use Rattle.uug_transfer.specs.Listening.{HearsLine}

@@ -1,5 +1,5 @@
 use Rattle.std.proofs.Common.{ap, inl, length, refl, ◌∙◌}
-use Rattle.uug_folder.proofs.OpenJobsLemmas.{tells_none}
+use Rattle.uug_store.proofs.OpenJobsLemmas.{tells_none}
 use Rattle.uug_transfer.proofs.ListeningLemmas.{on_err}
 use Rattle.uug_transfer.proofs.SettlingLemmas.{none_is_settled, none_is_told}
 use Rattle.uug_transfer.proofs.settled.Settled.settle_jobs.Goals as goal

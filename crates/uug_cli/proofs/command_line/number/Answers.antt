@@ -1,0 +1,15 @@
+use Rattle.std.proofs.Common.{◌∙◌}
+use Rattle.std.specs.Str.Parse.{ExplainsUnsignedError, HasUnsignedDigitsIfOk, ParsesUnsigned}
+use Rattle.clap.proofs.WalkLemmas.{one_text-rows}
+use Rattle.clap.specs.Words.{found_of, one_of, rows_of}
+use Rattle.uug_cli.proofs.AskedLemmas.{option_read}
+use Rattle.uug_cli.proofs.command_line.number.Goals as goal
+
+pub returns : goal.returns
+returns c =
+    let found = found_of c.args.matches.now in
+    let name = c.args.name.now in
+    option_read (λ text read. ParsesUnsigned 32 10 text read × ExplainsUnsignedError 10 text read × HasUnsignedDigitsIfOk text read)
+    (λ text read gives. gives.0) (one_of name (rows_of found)) c.get_one.result
+    (λ none. c.get_one.ensures.none (one_text-rows found name ∙ none))
+    (λ text some. c.get_one.ensures.value text (one_text-rows found name ∙ some))

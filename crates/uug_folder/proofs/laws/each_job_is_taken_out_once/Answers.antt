@@ -1,5 +1,0 @@
-use Rattle.uug_folder.proofs.OpenJobsLemmas.{times_left}
-use Rattle.uug_folder.proofs.laws.each_job_is_taken_out_once.Goals as goal
-
-pub returns : goal.returns
-returns c = times_left

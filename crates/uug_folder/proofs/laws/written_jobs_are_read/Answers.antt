@@ -1,5 +1,0 @@
-use Rattle.uug_folder.proofs.JobsTextLemmas.{written_are_read}
-use Rattle.uug_folder.proofs.laws.written_jobs_are_read.Goals as goal
-
-pub returns : goal.returns
-returns c = written_are_read

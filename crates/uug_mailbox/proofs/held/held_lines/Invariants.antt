@@ -1,7 +1,0 @@
-use Rattle.std.proofs.Common.{◌≡◌, ◌++◌, drop}
-use Rattle.uug_mailbox.specs.HeldLines.{held_lines}
-use Rattle.uug_mailbox.proofs.held.held_lines.Given as goal
-
--- the lines so far, and those behind, are all
-abbrev pub invariant-loop-line : goal.invariant-loop-line
-invariant-loop-line g l = l.held.items ++ held_lines l.unread (drop l.line-index l.lines) ≡ held_lines l.unread l.lines

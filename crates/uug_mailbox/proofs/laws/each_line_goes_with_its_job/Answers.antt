@@ -1,5 +1,0 @@
-use Rattle.uug_mailbox.proofs.OpenLinesLemmas.{jobs_after}
-use Rattle.uug_mailbox.proofs.laws.each_line_goes_with_its_job.Goals as goal
-
-pub returns : goal.returns
-returns c = jobs_after

@@ -1,7 +1,0 @@
-use Rattle.std.proofs.Common.{◌≡◌, ◌++◌, drop, string_bytes}
-use Rattle.uug_scan.specs.Detailed.{escaped}
-use Rattle.uug_reason.proofs.escape.add_escaped.Given as goal
-
--- with the bytes that are left, the whole text is appended
-abbrev pub invariant-loop-byte : goal.invariant-loop-byte
-invariant-loop-byte g l = string_bytes l.text ++ escaped (drop l.byte-index l.bytes) ≡ string_bytes l.fn.text ++ escaped l.bytes

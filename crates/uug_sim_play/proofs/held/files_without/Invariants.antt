@@ -1,0 +1,10 @@
+use Rattle.std.proofs.Common.{◌≡◌, ◌++◌, map, drop}
+use Rattle.uug_conversation.specs.Partials.{without}
+use Rattle.uug_conversation.specs.PartialView.{key_of, partials_of}
+use Rattle.uug_sim_play.specs.Numbers.{held_file}
+use Rattle.uug_sim_play.proofs.held.files_without.Given as goal
+
+abbrev pub invariant-loop-file : goal.invariant-loop-file
+invariant-loop-file g l =
+    l.held.items ++ map held_file (without (key_of l.newer.source l.newer.told) (partials_of (drop l.file-index l.files)))
+    ≡ map held_file (without (key_of l.newer.source l.newer.told) (partials_of l.files))

@@ -1,0 +1,9 @@
+use Rattle.std.proofs.Common.{◌≡◌, ◌++◌, drop, string_bytes}
+use Rattle.uug_conversation.specs.MemoryHoldings.{held_by, holdings_of}
+use Rattle.uug_sim_play.specs.Reasons.{failed_lines}
+use Rattle.uug_sim_play.proofs.reasons.add_failed.Given as goal
+
+abbrev pub invariant-loop-job : goal.invariant-loop-job
+invariant-loop-job g l =
+    string_bytes l.text ++ failed_lines l.side (holdings_of (held_by l.own)) (holdings_of (held_by l.other)) (drop l.job-index l.jobs)
+    ≡ string_bytes l.fn.text ++ failed_lines l.side (holdings_of (held_by l.own)) (holdings_of (held_by l.other)) l.jobs

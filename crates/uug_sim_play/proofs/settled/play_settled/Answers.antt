@@ -1,0 +1,17 @@
+use Rattle.std.proofs.Common.{rules}
+use Rattle.uug_sim_play.proofs.SettledLemmas.{begins_settled, runs_out_settling}
+use Rattle.uug_sim_play.proofs.settled.play_settled.Goals as goal
+
+pub returns-in_err-write_all-clause-begun : goal.returns-in_err-write_all-clause-begun
+returns-in_err-write_all-clause-begun g c h =
+    begins_settled c.in_ok-script.script.items c.as_bytes.result.now c.in_ok-played.played.status
+    (g.I.Input.to_come c.args.input.now) (g.I.Input.to_come c.read_whole.new.input)
+    (g.O.Output.written c.args.output.now) (g.O.Output.written c.write_all.new.output)
+    c.in_ok-script.ensures.whole (search rules) c.in_err-write_all.ensures.begins
+
+pub returns-in_err-write_all-clause-memory : goal.returns-in_err-write_all-clause-memory
+returns-in_err-write_all-clause-memory g c h =
+    runs_out_settling c.in_ok-script.script.items c.as_bytes.result.now c.in_ok-played.played.status
+    (g.I.Input.to_come c.args.input.now) (g.I.Input.to_come c.read_whole.new.input)
+    (g.O.Output.written c.args.output.now) (g.O.Output.written c.write_all.new.output)
+    c.in_ok-script.ensures.whole (search rules) c.in_err-write_all.ensures.begins

@@ -1,5 +1,0 @@
-use Rattle.uug_spool.proofs.CommandLemmas.{written_is_read}
-use Rattle.uug_spool.proofs.laws.written_commands_are_read.Goals as goal
-
-pub returns : goal.returns
-returns c = written_is_read

@@ -1,5 +1,0 @@
-use Rattle.uug_spool.proofs.StatusLemmas.{written_is_read}
-use Rattle.uug_spool.proofs.laws.written_statuses_are_read.Goals as goal
-
-pub returns : goal.returns
-returns c = written_is_read

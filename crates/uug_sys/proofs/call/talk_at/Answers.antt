@@ -1,8 +1,0 @@
-use Rattle.uug_sys.proofs.AnsweredLemmas.{one_answered}
-use Rattle.uug_sys.proofs.call.talk_at.Goals as goal
-
-pub returns-in-Standard-default : goal.returns-in-Standard-default
-returns-in-Standard-default g c = one_answered _ _ _ _ _ _ _ c.talk_over-outcome.ensures
-
-pub returns-in-Device-default : goal.returns-in-Device-default
-returns-in-Device-default g c = one_answered _ _ _ _ _ _ _ c.talk_at_device.ensures
