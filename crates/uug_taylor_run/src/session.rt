@@ -36,7 +36,7 @@ use uug_stream::{Output, ToolFault, write_all};
 use uug_taylor_disk::{PublicListing, SpoolPaths, is_known, linked_room};
 use uug_taylor_queue::PublicFolder;
 use uug_taylor_text::Room;
-use uug_transfer::{BYTES_MAX, EndLine, PatienceLimits, SessionFault, run_session};
+use uug_transfer::{BYTES_MAX, EndLine, PatienceLimits, SessionFault, run_at_line};
 
 /// The words for standard error and the log if more jobs wait than a session offers.
 const MORE: &str = "more jobs wait for the next session";
@@ -128,7 +128,7 @@ where
     ensures no_number { result ≢ Err SessionFault.Number }
 {
     let mut number = NoFile;
-    run_session(
+    run_at_line(
         alloc,
         &mut end.buffered,
         &mut end.store,

@@ -33,7 +33,7 @@ use std::process::Abort;
 use uug_link::Announce;
 use uug_session::{Job, MemorySpool, Node, Phase, Place, Queue};
 use uug_talk::Name;
-use uug_transfer::{BufferedNode, FaultInjector, SessionFault, run_session};
+use uug_transfer::{BufferedNode, FaultInjector, SessionFault, run_at_line};
 
 type MemoryNode = Node<MemorySpool<Global>, Global>;
 
@@ -143,7 +143,7 @@ fn play_at(
     let mut line = line(rt, alloc, None, manner);
     let mut jobs = jobs_file(rt, alloc, MemoryJobs::new(JOB, NEVER));
     let mut number = MemoryText::new(b"", false);
-    let answer = run_session(
+    let answer = run_at_line(
         alloc,
         buffered,
         &mut jobs,

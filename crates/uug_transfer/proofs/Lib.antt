@@ -1,5 +1,6 @@
 pub mod BudgetLemmas
 pub mod EndLemmas
+pub mod HostLemmas
 pub mod LedLemmas
 pub mod LineNameFacts
 pub mod LineNameLemmas

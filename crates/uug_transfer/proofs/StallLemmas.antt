@@ -4,6 +4,8 @@ use Rattle.std.proofs.lemmas.Bool.Decides.{nat_tests}
 use Rattle.std.proofs.lemmas.List.{append-nil, nil_from_length}
 use Rattle.std.specs.Prelude.{⊤, Bool, IsTrue, ◌==◌}
 use Rattle.uug_transfer.proofs.ListeningLemmas.{Wrote}
+use Rattle.uug_transfer.specs.Hosts.{HasOnlyWritten}
+use Rattle.uug_transfer.specs.Moments.{HostNow}
 use Rattle.uug_transfer.specs.ReadBudgets.{stalls_left}
 use Rattle.uug_transfer.specs.Writing.{TakesFront}
 use Rattle.uug_transfer.specs.WriteSilences.{StallsWithin, WritesUpTo, WritesWithin, also_wrote, stalled_after}
@@ -122,3 +124,15 @@ written_all left bytes slice empty before after same tested is more s =
 pub wrote_front : (bytes left : List ℕ) (u v : Option (List ℕ)) → Wrote bytes left u v → TakesFront bytes u v
 wrote_front bytes left None v wrote = tt
 wrote_front bytes left (Some before) v wrote = (wrote.written, left, wrote.all, wrote.took)
+
+-- nothing but this was done
+pub only_written : (bytes left : List ℕ) (silences : ℕ) (host after : HostNow) → after.lent ≡ host.lent → after.disk ≡ host.disk
+    → after.line.received ≡ host.line.received → Wrote bytes left host.line.taken after.line.taken
+    → StallsSince silences host.line.writes after.line.writes → HasOnlyWritten bytes host after
+only_written bytes left silences host after lent disk received wrote stalls = record {
+  lent = lent;
+  disk = disk;
+  received = received;
+  taken = wrote_front bytes left host.line.taken after.line.taken wrote;
+  writes = stalls_within silences host.line.writes after.line.writes stalls;
+}

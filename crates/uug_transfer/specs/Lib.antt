@@ -3,6 +3,7 @@ pub mod Callers
 pub mod EndOver
 pub mod Ends
 pub mod FaultInjection
+pub mod Hosts
 pub mod LineNames
 pub mod LineSessions
 pub mod Listening

@@ -1,13 +1,14 @@
 -- What the session of an end at its line has done, by its result (this project's profile).
-use Rattle.std.specs.Prelude.{◌≡◌, ℕ, [], OnOk, Result, Ok, Err}
+use Rattle.std.specs.Prelude.{◌≡◌, ℕ, [], List, Option, OnOk, Result, Ok, Err}
 use Rattle.uug_session.specs.Engine.{HasFailed, IsEnded, faults_max}
 use Rattle.uug_session.specs.NumberStanding.{KeepsNumber}
 use Rattle.uug_stream.specs.declared.fault.ToolFault.{ToolFault}
 use Rattle.uug_stream.specs.declared.fault.ToolFault.TheVariants as tool_faults
 use Rattle.uug_transfer.specs.EndOver.{fault_behind_line}
 use Rattle.uug_transfer.specs.Ends.{number_of_end, phase_of_end, status_of_phase}
+use Rattle.uug_transfer.specs.Hosts.{AllSince}
 use Rattle.uug_transfer.specs.Listening.{HearsLine}
-use Rattle.uug_transfer.specs.Moments.{DiskNow, EndNow, IsLed, LineNow, Unsent}
+use Rattle.uug_transfer.specs.Moments.{DiskNow, EndNow, HostNow, IsLed, LineNow, Unsent}
 use Rattle.uug_transfer.specs.Received.{ReadsWithin}
 use Rattle.uug_transfer.specs.SessionFaults.{UnlessNumber, UnlessRefused, UnlessUnsettled}
 use Rattle.uug_transfer.specs.Settling.{IsNumberNow, IsSomeNumber, LosesNoJob, StaysInStore, TellsFailed}
@@ -46,13 +47,27 @@ pub record WritesNumber {T : Type 0} (result : Result T SessionFault) (old new :
   pub calm : UnlessRefused result (UnlessNumber result (disk_after.number_faults ≡ disk.number_faults))
   pub fault : result ≡ Err faults.Number → HasFailed faults_max disk.number_faults disk_after.number_faults
 
--- what an end's turns at its line have done, by their result
+-- what an end's turns at its host have done, by their result
 pub record IsSession {T : Type 0} (most : ℕ) (result : Result T SessionFault) (old new : EndNow) (first : Unsent)
-    (line line_after : LineNow) (disk disk_after : DiskNow) : Type 0 where
+    (host host_after : HostNow) : Type 0 where
+  pub same_host : host_after.lent ≡ host.lent
   pub led : IsLed old new
-  pub at_line : UsesLine most result old new first line line_after
-  pub jobs : SettlesJobs result old new disk disk_after
-  pub number : WritesNumber result old new disk disk_after
+  pub at_line : UsesLine most result old new first host.line host_after.line
+  pub jobs : SettlesJobs result old new host.disk host_after.disk
+  pub number : WritesNumber result old new host.disk host_after.disk
+
+-- ---- what is said is on the disk
+
+-- The session could end at this moment, and end well: what the line brought by then has led the end to a state whose
+-- results are all on the disk, and the line has taken the first bytes of what that end had to write.
+pub record CouldEnd (most : ℕ) (old : EndNow) (first : Unsent) (host at : HostNow) : Type 0 where
+  pub now : EndNow
+  pub session : IsSession {T = ℕ} most (Ok 0) old now first host at
+
+-- it could, just after each of its writes
+abbrev pub WritesWhatIsOnDisk : (most : ℕ) (old : EndNow) (first : Unsent) (host : HostNow)
+    → (writes writes_after : Option (List HostNow)) → Type 0
+WritesWhatIsOnDisk most old first host = AllSince (CouldEnd most old first host)
 
 -- ---- with its report
 
@@ -68,10 +83,10 @@ answer_to (Err faults.Number) status printed = Err (fault_behind_line printed)
 answer_to (Err faults.Memory) status printed = Err tool_faults.Memory
 
 -- an end has run its session to its end; `answer` follows from the session's result and that of printing the report
-pub record IsCall (most : ℕ) (answer : Result ℕ ToolFault) (old new : EndNow) (first : Unsent) (line line_after : LineNow)
-    (disk disk_after : DiskNow) : Type 0 where
+pub record IsCall (most : ℕ) (answer : Result ℕ ToolFault) (old new : EndNow) (first : Unsent) (host host_after : HostNow)
+    : Type 0 where
   pub ended : Result (Unit {0}) SessionFault
-  pub session : IsSession most ended old new first line line_after disk disk_after
+  pub session : IsSession most ended old new first host host_after
   pub over : IsEnded new.node.engine.stage
   pub printed : Result (Unit {0}) ToolFault
   pub answered : answer ≡ answer_to ended (status_of_phase (phase_of_end new.node)) printed

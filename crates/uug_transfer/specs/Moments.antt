@@ -1,6 +1,7 @@
 -- An end, its line and its disk at a moment, as far as each of them exposes its state; and that events led an end on
 -- (this project's profile).
-use Rattle.std.specs.Prelude.{◌≡◌, ℕ, List, Option}
+use Rattle.std.specs.Borrow.{GName}
+use Rattle.std.specs.Prelude.{◌≡◌, ℕ, List, [], Option}
 use Rattle.uug_conversation.specs.Holdings.{Holdings, Kept}
 use Rattle.uug_conversation.specs.OwnRequests.{KeepsWhatItAskedFor}
 use Rattle.uug_conversation.specs.Sharing.{HaveSameJobs}
@@ -82,6 +83,17 @@ disk_now jobs told job_faults number number_faults store file = record {
   number = number file;
   number_faults = number_faults file;
 }
+
+-- ---- both
+
+-- an end's line and its disk, and the names of the references through which the host has them, if it borrows them
+pub record HostNow : Type 0 where
+  pub lent : List GName
+  pub line : LineNow
+  pub disk : DiskNow
+
+abbrev pub host_of : LineNow → DiskNow → HostNow
+host_of line disk = record { lent = []; line = line; disk = disk }
 
 -- the disk of an end whose jobs are in a file
 abbrev pub disk_of : {S J N A : Type 0} → (text told : J → Option (List ℕ)) (job_faults : J → ℕ) → (number : N → Option (List ℕ))

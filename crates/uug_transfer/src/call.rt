@@ -7,12 +7,12 @@ ghost use Rattle.uug_transfer.specs.BufferedNodes.{node_in};
 ghost use Rattle.uug_transfer.specs.EndOver.{HasFault, IsEndFault, IsPrinted, fault_behind_line, files_of};
 ghost use Rattle.uug_transfer.specs.Ends.{phase_of_end, report_of, status_of_phase};
 ghost use Rattle.uug_transfer.specs.LineSessions.{IsCall};
-ghost use Rattle.uug_transfer.specs.Moments.{disk_of, end_now, line_now, unsent};
+ghost use Rattle.uug_transfer.specs.Moments.{disk_of, end_now, host_of, line_now, unsent};
 
 use crate::end_line::EndLine;
 use crate::end_report::report;
 use crate::patience::PatienceLimits;
-use crate::session::run_session;
+use crate::session::run_at_line;
 use crate::session_fault::SessionFault;
 use crate::transfer_end::TransferEnd;
 use std::alloc::Allocator;
@@ -46,10 +46,10 @@ where
     ensures session { IsCall most result
         (end_now S.holdings S.kept end.old.buffered) (end_now S.holdings S.kept end.new.buffered)
         (unsent end.old.buffered)
-        (line_now L.received L.taken L.writes line.old)
-        (line_now L.received L.taken L.writes line.new)
-        (disk_of J.text J.told J.fault_count N.text N.fault_count end.old)
-        (disk_of J.text J.told J.fault_count N.text N.fault_count end.new) }
+        (host_of (line_now L.received L.taken L.writes line.old)
+        (disk_of J.text J.told J.fault_count N.text N.fault_count end.old))
+        (host_of (line_now L.received L.taken L.writes line.new)
+        (disk_of J.text J.told J.fault_count N.text N.fault_count end.new)) }
     ensures report { IsPrinted result (report_of side (node_in end.new.buffered))
         (O.written output.old) (O.written output.new)
         (O.fault_count output.old) (O.fault_count output.new)
@@ -64,7 +64,7 @@ where
         → CountsFault (O.fault_count output.old) (O.fault_count output.new) }
     ensures no_other { IfErr result IsEndFault }
 {
-    let session = run_session(
+    let session = run_at_line(
         alloc,
         &mut end.buffered,
         &mut end.jobs,

@@ -19,7 +19,7 @@ use std::alloc::Global;
 use std::process::Abort;
 use uug_session::{Node, Queue, Spool};
 use uug_store::{FolderSpool, JobsFile, read_jobs};
-use uug_transfer::{BufferedNode, FaultInjector, SessionFault, run_session};
+use uug_transfer::{BufferedNode, FaultInjector, SessionFault, run_at_line};
 
 /// The first operation of each that fails, counted from 0. All after it fail too.
 #[derive(Clone, Copy)]
@@ -85,7 +85,7 @@ fn run(
         (node_in end.old) (node_in end.new)) }
 {
     let mut number = MemoryText::new(b"", false);
-    run_session(alloc, end, jobs, &mut number, line, AMPLE, LIMITS)
+    run_at_line(alloc, end, jobs, &mut number, line, AMPLE, LIMITS)
 }
 
 /// Runs the session itself, at a line that is the end's own.

@@ -12,7 +12,7 @@ use crate::calls::assertions::{assert_same, assert_same_at, assert_so};
 use std::alloc::Global;
 use std::process::Abort;
 use uug_transfer::{
-    EndLine, PatienceLimits, ReadOutcome, SessionLine, SessionObserver, SessionStatus, run_session,
+    EndLine, PatienceLimits, ReadOutcome, SessionLine, SessionObserver, SessionStatus, run_at_line,
 };
 
 const QUICK: Pace = Pace {
@@ -107,7 +107,7 @@ fn talk(
 ) -> Left {
     let mut jobs = jobs_file(rt, alloc, MemoryJobs::new(JOB, NEVER));
     let mut number = MemoryText::new(b"", false);
-    let answer = run_session(alloc, buffered, &mut jobs, &mut number, line, AMPLE, limits);
+    let answer = run_at_line(alloc, buffered, &mut jobs, &mut number, line, AMPLE, limits);
     drop(jobs);
     assert_so(rt, !line.has_failed());
     assert_kept(rt, line.other(), LONG);

@@ -11,7 +11,7 @@ use std::alloc::Global;
 use std::process::Abort;
 use uug_session::{Node, Queue};
 use uug_store::{JobsFile, read_jobs};
-use uug_transfer::run_session;
+use uug_transfer::run_at_line;
 
 /// The first operation of each that fails, counted from 0. All after it fail too.
 #[derive(Clone, Copy)]
@@ -61,7 +61,7 @@ fn talk(
     line: &mut ScriptedLine,
 ) -> Came {
     let mut number = MemoryText::new(b"", false);
-    let answer = run_session(alloc, end, jobs, &mut number, line, AMPLE, LIMITS);
+    let answer = run_at_line(alloc, end, jobs, &mut number, line, AMPLE, LIMITS);
     let broken = jobs.file.has_failed();
     assert_same(rt, answer.is_err(), broken);
     Came {

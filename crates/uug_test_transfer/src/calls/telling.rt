@@ -17,7 +17,7 @@ use crate::calls::assertions::assert_same;
 use std::alloc::Global;
 use std::process::Abort;
 use uug_session::{End, MemorySpool, Phase, Spool};
-use uug_transfer::{EndLine, SessionFault, run_session};
+use uug_transfer::{EndLine, SessionFault, run_at_line};
 
 /// The pieces that the called end writes, with a window of 7 packets of 32 bytes: first, and then to each piece of the
 /// caller's.
@@ -92,7 +92,7 @@ fn talk<'a>(
 {
     let mut jobs = jobs_file(rt, alloc, MemoryJobs::new(JOB, NEVER));
     let mut number = MemoryText::new(b"", false);
-    let answer = run_session(alloc, buffered, &mut jobs, &mut number, line, AMPLE, LIMITS);
+    let answer = run_at_line(alloc, buffered, &mut jobs, &mut number, line, AMPLE, LIMITS);
     drop(jobs);
     answer
 }

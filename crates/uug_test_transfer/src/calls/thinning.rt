@@ -12,7 +12,7 @@ use std::alloc::Global;
 use std::process::Abort;
 use uug_link::Announce;
 use uug_session::{End, MemorySpool, Node, Phase, Place, Queue};
-use uug_transfer::{BufferedNode, FaultInjector, SessionFault, Thinning, run_session};
+use uug_transfer::{BufferedNode, FaultInjector, SessionFault, Thinning, run_at_line};
 
 /// The pieces that a called end writes until its caller has sent a whole window: its texts and its start-up, and then
 /// RR 1 and the data packet 1 with SY.
@@ -300,7 +300,7 @@ fn end_over(
     let mut line = ScriptedLine::new(called(rt, alloc, noisy(rt, noise)), CLEAN);
     let mut jobs = jobs_file(rt, alloc, MemoryJobs::new(JOB, NEVER));
     let mut number = MemoryText::new(b"", false);
-    let answer = run_session(
+    let answer = run_at_line(
         alloc,
         &mut buffered,
         &mut jobs,

@@ -22,9 +22,9 @@ returns-in-Err-clause-report g c =
 
 pub returns-in-Err-Memory-clause-session : goal.returns-in-Err-Memory-clause-session
 returns-in-Err-Memory-clause-session g c = record {
-  ended = c.run_session-session.result;
-  session = c.run_session-session.ensures.session;
-  over = c.run_session-session.ensures.over;
+  ended = c.run_at_line-session.result;
+  session = c.run_at_line-session.ensures.session;
+  over = c.run_at_line-session.ensures.over;
   printed = Err faults.Memory;
   answered = search rules;
 }
