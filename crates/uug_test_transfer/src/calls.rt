@@ -19,6 +19,7 @@ mod slow;
 mod slow_line;
 mod stops;
 mod telling;
+mod telling_host;
 mod telling_line;
 mod thinning;
 

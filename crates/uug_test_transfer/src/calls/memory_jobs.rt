@@ -52,6 +52,10 @@ impl MemoryJobs {
         self.faults > 0
     }
 
+    pub(super) fn faults(&self) -> u64 {
+        self.faults
+    }
+
     /// Counts a call, and returns whether it fails.
     fn fails(&mut self) -> bool
         ensures text { self.new.text ≡ self.old.text }

@@ -11,13 +11,14 @@ use super::memory_jobs::MemoryJobs;
 use super::memory_text::MemoryText;
 use super::numbers::{JOB, jobs_file};
 use super::scenes::{AMPLE, LIMITS, NEVER};
+use super::telling_host::TellingHost;
 use super::telling_line::TellingLine;
 use super::{MemoryEndAtLine, called, caller, name};
-use crate::calls::assertions::assert_same;
+use crate::calls::assertions::{assert_same, assert_so};
 use std::alloc::Global;
 use std::process::Abort;
 use uug_session::{End, MemorySpool, Phase, Spool};
-use uug_transfer::{EndLine, SessionFault, run_at_line};
+use uug_transfer::{EndLine, SessionFault, run_at_line, run_session};
 
 /// The pieces that the called end writes, with a window of 7 packets of 32 bytes: first, and then to each piece of the
 /// caller's.
@@ -127,6 +128,39 @@ fn a_caller_writes_what_its_line_leads_to(rt: HostRuntime) {
     let mut buffered = caller(&rt, alloc, b"hi", None);
     assert_session(&rt, alloc, &mut buffered, &CALLED, &CALLER);
     assert_same(&rt, buffered.node().queue().struck().len(), 1);
+    drop(buffered);
+}
+
+/// Runs the session of an end at a host, and returns how many writes there were. Asserts that the line took these pieces,
+/// one a write, and that the job waited just after the first `waits` of them, and was gone after each later one.
+fn assert_moments(
+    rt: &impl Abort,
+    alloc: Global,
+    buffered: &mut MemoryEndAtLine,
+    brings: &[&[u8]],
+    takes: &[&[u8]],
+    waits: usize,
+) {
+    let jobs = jobs_file(rt, alloc, MemoryJobs::new(JOB, NEVER));
+    let mut host = TellingHost::new(rt, alloc, TellingLine::new(alloc, brings), jobs);
+    let answer = run_session(alloc, buffered, &mut host, AMPLE, LIMITS);
+    assert_same(rt, answer, Ok(()));
+    assert_taken(rt, alloc, host.line(), takes);
+    assert_same(rt, host.moments().len(), takes.len());
+    for (i, moment) in host.moments().iter().enumerate() {
+        let taken = joined(rt, alloc, &takes[..i + 1]);
+        let jobs: &[u8] = if i < waits { JOB } else { b"" };
+        assert_so(rt, moment.is(taken.as_slice(), jobs));
+    }
+    drop(host);
+}
+
+// The sixth piece is the file's end. The seventh acknowledges what the called end said of the file, so the job is over.
+#[test]
+fn a_job_is_off_the_disk_before_its_answer_is_acknowledged(rt: HostRuntime) {
+    let alloc = rt.alloc();
+    let mut buffered = caller(&rt, alloc, b"hi", None);
+    assert_moments(&rt, alloc, &mut buffered, &CALLED, &CALLER, 6);
     drop(buffered);
 }
 
