@@ -1,4 +1,3 @@
-use Rattle.std.proofs.Common.{◌≡◌}
 use Rattle.uug_transfer.specs.BufferedNodes.{injector_in, node_in, to_write}
 use Rattle.uug_transfer.specs.LineSessions.{WritesWhatIsOnDisk}
 use Rattle.uug_transfer.specs.Moments.{end_now, unsent}
