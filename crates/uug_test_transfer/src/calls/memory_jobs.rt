@@ -40,7 +40,9 @@ impl MemoryJobs {
         self.faults = 0;
     }
 
-    pub(super) fn text(&self) -> &[u8] {
+    pub(super) fn text(&self) -> &[u8]
+        ensures { result.now ≡ self.now.text.items }
+    {
         self.text.as_slice()
     }
 
@@ -52,7 +54,9 @@ impl MemoryJobs {
         self.faults > 0
     }
 
-    pub(super) fn faults(&self) -> u64 {
+    pub(super) fn faults(&self) -> u64
+        ensures { result ≡ self.now.faults }
+    {
         self.faults
     }
 

@@ -131,8 +131,8 @@ fn a_caller_writes_what_its_line_leads_to(rt: HostRuntime) {
     drop(buffered);
 }
 
-/// Runs the session of an end at a host, and returns how many writes there were. Asserts that the line took these pieces,
-/// one a write, and that the job waited just after the first `waits` of them, and was gone after each later one.
+/// Runs the session of an end at a host. Asserts that the line took these pieces, one a write, and that the job waited
+/// just after the first `waits` of them, and was gone after each later one.
 fn assert_moments(
     rt: &impl Abort,
     alloc: Global,
@@ -146,11 +146,12 @@ fn assert_moments(
     let answer = run_session(alloc, buffered, &mut host, AMPLE, LIMITS);
     assert_same(rt, answer, Ok(()));
     assert_taken(rt, alloc, host.line(), takes);
-    assert_same(rt, host.moments().len(), takes.len());
-    for (i, moment) in host.moments().iter().enumerate() {
-        let taken = joined(rt, alloc, &takes[..i + 1]);
+    assert_same(rt, host.writes(), takes.len());
+    let mut taken = Vec::new(alloc);
+    for (i, piece) in takes.iter().enumerate() {
+        taken.extend_from_slice(piece).expect(rt, "memory");
         let jobs: &[u8] = if i < waits { JOB } else { b"" };
-        assert_so(rt, moment.is(taken.as_slice(), jobs));
+        assert_so(rt, host.is_after(i, taken.as_slice(), jobs));
     }
     drop(host);
 }

@@ -13,7 +13,7 @@ use uug_transfer::{EndLine, Host, ReadOutcome, SessionStatus};
 
 /// What the line had taken just after a write, and the jobs that waited then.
 #[derive(Drop)]
-pub(super) struct Moment {
+struct Moment {
     taken: Vec<u8>,
     jobs: Vec<u8>,
     faults: u64,
@@ -27,13 +27,6 @@ pub(super) struct TellingHost<'a, T> {
     line: TellingLine<'a>,
     jobs: JobsFile<MemoryJobs, Global>,
     moments: Vec<Moment>,
-}
-
-impl Moment {
-    /// Returns whether the line had taken these bytes by then, and these jobs waited.
-    pub(super) fn is(&self, taken: &[u8], jobs: &[u8]) -> bool {
-        self.taken.as_slice() == taken && self.jobs.as_slice() == jobs
-    }
 }
 
 impl<'a, T: Abort> TellingHost<'a, T> {
@@ -57,8 +50,18 @@ impl<'a, T: Abort> TellingHost<'a, T> {
         &self.line
     }
 
-    pub(super) fn moments(&self) -> &[Moment] {
-        self.moments.as_slice()
+    /// Returns the number of its writes.
+    pub(super) fn writes(&self) -> usize {
+        self.moments.len()
+    }
+
+    /// Returns whether just after the write of this number, counted from 0, the line had taken these bytes, and these
+    /// jobs waited.
+    pub(super) fn is_after(&self, write: usize, taken: &[u8], jobs: &[u8]) -> bool {
+        match self.moments.get(write) {
+            Some(moment) => moment.taken.as_slice() == taken && moment.jobs.as_slice() == jobs,
+            None => false,
+        }
     }
 }
 

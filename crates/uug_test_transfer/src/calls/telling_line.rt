@@ -1,5 +1,5 @@
 //! A line that exposes what it has brought and taken.
-ghost use Rattle.std.specs.Prelude.{◌<◌, Some, map, take, None};
+ghost use Rattle.std.specs.Prelude.{◌≡◌, ◌<◌, Some, map, take, None};
 ghost use Rattle.uug_transfer.specs.Received.{piece};
 
 use std::alloc::Global;
@@ -29,7 +29,9 @@ impl<'a> TellingLine<'a> {
         self.brought
     }
 
-    pub(super) fn taken(&self) -> &[u8] {
+    pub(super) fn taken(&self) -> &[u8]
+        ensures { result.now ≡ self.now.taken.items }
+    {
         self.taken.as_slice()
     }
 }
