@@ -256,11 +256,13 @@ report "two sessions of a caller" "$fault"
 # hangs_up LINE SIDE JOBS: sets `fault` to what is not so of an end on this side that is left alone; JOBS is a pattern of those that
 # pend and are struck. If it says anything it is what the system says of the line.
 hangs_up() {
-    local line=$1
+    local words="uucpair: $1: (connection reset|broken pipe|error 5)"
+    # A terminal that hangs up drops what was not read yet.
+    [ "$1" != "$work/line" ] || words="$words|uucpair: heard \"S(here=far|near)\", and then .*"
     fault=
     [ "$status" -eq 1 ] || fault="status $status;"
     [[ "$(head -n 1 "$work/printed")" =~ ^$2\ hungup\ pending\ $3\ failed\ 0$ ]] || fault="$fault printed $(cat "$work/printed");"
-    ! grep -qvxE "uucpair: $line: (connection reset|broken pipe|error 5)" "$work/said" || fault="$fault said $(cat "$work/said")"
+    ! grep -qvxE "$words" "$work/said" || fault="$fault said $(cat "$work/said")"
 }
 
 # place KIND: sets `line` to that of our end at a new line, and `theirs` to that of the other one.
