@@ -92,10 +92,9 @@ def processor_rows() -> list[Row | Quotient]:
         peer = Figure("pair", where, "{uucico_cpu}")
         rows.append(Row(f"`pair`, {mib} MiB, 7 x 64", Figure("pair", where, "{uucpair_cpu}"), (("pipes", peer),)))
     for size in ("64", "1024"):
-        for load, told in (("a processor each", "a processor each"), ("(?!a processor|alone).*", "beside other work")):
-            where = {"size": size, "option": "--no-digest", "load": load, "uucico_socket": ".+"}
-            peers = (("pipes", Figure("call", where, "{uucico_pipes}")), ("socket", Figure("call", where, "{uucico_socket}")))
-            rows.append(Row(f"`call`, 8 MiB, 7 x {short(size)}, {told}", Figure("call", where, "{uucpair}"), peers))
+        where = {"size": size, "option": "--no-digest"}
+        peers = (("pipes", Figure("call", where, "{uucico_pipes}")), ("socket", Figure("call", where, "{uucico_socket}")))
+        rows.append(Row(f"`call`, 8 MiB, 7 x {short(size)}", Figure("call", where, "{uucpair}"), peers))
     for size in ("64", "1024"):
         alone = (("without", Figure("call", {"size": size, "option": "--no-digest"}, "{uucpair}")),)
         rows.append(Row(f"digests, 8 MiB, 7 x {short(size)}", Figure("call", {"size": size, "option": ""}, "{uucpair}"), alone))
